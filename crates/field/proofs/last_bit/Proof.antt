@@ -1,0 +1,12 @@
+use lib.Bits.{and-mask}
+use Rattle.field.proofs.last_bit.Statement.{statement}
+use Rattle.field.proofs.last_bit.Tie as tie
+use Rattle.field.proofs.last_bit.Reads as reads
+use Rattle.field.proofs.last_bit.Lts as lts
+
+-- src/lib.rt:38:1
+returns : tie.Need-returns
+returns c = and-mask (c .args .x) 1
+
+pub last-bit-spec : {M : Type 1} → statement M
+last-bit-spec = tie.close (tie.spec returns)

@@ -1,0 +1,4 @@
+pub mod Number
+pub mod Map
+pub mod Card
+pub mod Choice

@@ -1,0 +1,14 @@
+-- "Numbers are little-endian": the number in two, four or eight bytes that start at an offset.
+-- A byte past the end counts as 0, so that every offset has a meaning.
+use mathlib.Core.List.{List}
+use Prim.Native.Nat.{ℕ, _+_, _*_}
+use lib.ListN.{getD}
+
+unfoldable pub le16 : List ℕ → ℕ → ℕ
+le16 bytes at = getD bytes at 0 + 256 * getD bytes (at + 1) 0
+
+unfoldable pub le32 : List ℕ → ℕ → ℕ
+le32 bytes at = le16 bytes at + 65536 * le16 bytes (at + 2)
+
+unfoldable pub le64 : List ℕ → ℕ → ℕ
+le64 bytes at = le32 bytes at + 4294967296 * le32 bytes (at + 4)

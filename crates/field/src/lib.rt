@@ -1,0 +1,67 @@
+// Numbers, bits and blocks in lent bytes: the leaves that every other layer reads through.
+// What each means is in specs/: Number, Map, Card.
+ghost use mathlib.Core.Path.{_≡_};
+ghost use Prim.Native.Nat.{_+_, _*_, _%_, _≤_, _<_};
+ghost use lib.ListN.{length};
+ghost use Rattle.field.specs.Number.{le16, le32, le64};
+ghost use Rattle.field.specs.Map.{topBit, lowBit};
+ghost use Rattle.field.specs.Card.{cardOf};
+
+fn wide(x: u8) -> u16
+    ensures { λ r. ⌜ (r ≡ x) × (r < 256) ⌝ }
+{
+    x as u16
+}
+
+pub fn get16(bytes: &[u8], at: usize) -> u16
+    requires { ⌜ at + 2 ≤ length (now bytes) ⌝ }
+    ensures { λ r. ⌜ r ≡ le16 (now (bytes .entry)) at ⌝ }
+{
+    wide(bytes[at]) + wide(bytes[at + 1]) * 256
+}
+
+pub fn get32(bytes: &[u8], at: usize) -> u32
+    requires { ⌜ at + 4 ≤ length (now bytes) ⌝ }
+    ensures { λ r. ⌜ r ≡ le32 (now (bytes .entry)) at ⌝ }
+{
+    (get16(bytes, at) as u32) + (get16(bytes, at + 2) as u32) * 65536
+}
+
+pub fn get64(bytes: &[u8], at: usize) -> u64
+    requires { ⌜ at + 8 ≤ length (now bytes) ⌝ }
+    ensures { λ r. ⌜ r ≡ le64 (now (bytes .entry)) at ⌝ }
+{
+    (get32(bytes, at) as u64) + (get32(bytes, at + 4) as u64) * 4294967296
+}
+
+// The mask's rule is proved here once for both orders.
+fn last_bit(x: u8) -> u8
+    ensures { λ r. ⌜ r ≡ x % 2 ⌝ }
+{
+    x & 1
+}
+
+// Bit b of a NAT or SIT map.
+pub fn top_bit(map: &[u8], b: usize) -> u8
+    requires { ⌜ b < 8 * length (now map) ⌝ }
+    ensures { λ r. ⌜ r ≡ topBit (now (map .entry)) b ⌝ }
+{
+    last_bit(map[b / 8] >> (7 - b % 8))
+}
+
+// Bit b of a directory map.
+pub fn low_bit(map: &[u8], b: usize) -> u8
+    requires { ⌜ b < 8 * length (now map) ⌝ }
+    ensures { λ r. ⌜ r ≡ lowBit (now (map .entry)) b ⌝ }
+{
+    last_bit(map[b / 8] >> (b % 8))
+}
+
+// Block b of an image, as a part of it.
+pub fn block_at(image: &[u8], b: u32) -> &[u8]
+    requires { ⌜ b < cardOf (now image) .blocks ⌝ }
+    ensures { λ r. ⌜ now r ≡ cardOf (now (image .entry)) .block b ⌝ }
+{
+    let start = b as usize * 4096;
+    &image[start..start + 4096]
+}
