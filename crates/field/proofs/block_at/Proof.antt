@@ -4,30 +4,22 @@ use Rattle.field.specs.Card.{blockOf}
 use borrow.Author.Needs.{needs}
 use Rattle.field.proofs.block_at.Statement.{statement}
 use Rattle.field.proofs.block_at.Tie as tie
-use Rattle.field.proofs.block_at.Reads as reads
-use Rattle.field.proofs.block_at.Lts as lts
 
--- src/lib.rt:65:17
 mul-start : tie.Need-mul-start
 mul-start c = search needs
 
--- src/lib.rt:66:19
 add-result : tie.Need-add-result
 add-result c = search needs
 
--- src/lib.rt:66:5
 sub-result : tie.Need-sub-result
 sub-result c = search needs
 
--- src/lib.rt:66:5
 part-result-start : tie.Need-part-result-start
 part-result-start c = search needs
 
--- src/lib.rt:66:5
 part-result-end : tie.Need-part-result-end
 part-result-end c = search needs
 
--- src/lib.rt:61:1
 returns : tie.Need-returns
 unfolding blockOf
 returns c = rw (add-sub-cancel-left (c .before .args .b * 4096) 4096)

@@ -2,39 +2,28 @@ use Rattle.field.specs.Number.{le16}
 use borrow.Author.Needs.{needs}
 use Rattle.field.proofs.get16.Statement.{statement}
 use Rattle.field.proofs.get16.Tie as tie
-use Rattle.field.proofs.get16.Reads as reads
-use Rattle.field.proofs.get16.Lts as lts
-use Rattle.field.proofs.wide.Reads as wide-reads
 
--- src/lib.rt:20:10
 shared-slice-read-wide : tie.Need-shared-slice-read-wide
 shared-slice-read-wide c = search needs
 
--- src/lib.rt:20:5
 wide-requires : tie.Need-wide-requires
 wide-requires c κs = search needs
 
--- src/lib.rt:20:34
 add-wide : tie.Need-add-wide
 add-wide c = search needs
 
--- src/lib.rt:20:28
 shared-slice-read-wide-2 : tie.Need-shared-slice-read-wide-2
 shared-slice-read-wide-2 c = search needs
 
--- src/lib.rt:20:23
 wide-requires-2 : tie.Need-wide-requires-2
 wide-requires-2 c κs = search needs
 
--- src/lib.rt:20:23
 mul-result : tie.Need-mul-result
 mul-result c = search needs
 
--- src/lib.rt:20:5
 add-result : tie.Need-add-result
 add-result c = search needs
 
--- src/lib.rt:16:1
 returns : tie.Need-returns
 unfolding le16
 returns c = search needs

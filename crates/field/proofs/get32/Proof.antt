@@ -2,39 +2,28 @@ use Rattle.field.specs.Number.{le32}
 use borrow.Author.Needs.{needs}
 use Rattle.field.proofs.get32.Statement.{statement}
 use Rattle.field.proofs.get32.Tie as tie
-use Rattle.field.proofs.get32.Reads as reads
-use Rattle.field.proofs.get32.Lts as lts
-use Rattle.field.proofs.get16.Reads as get16-reads
 
--- src/lib.rt:27:6
 get16-requires : tie.Need-get16-requires
 get16-requires c κs = search needs
 
--- src/lib.rt:27:6
 cast-result : tie.Need-cast-result
 cast-result c = search needs
 
--- src/lib.rt:27:47
 add-get16 : tie.Need-add-get16
 add-get16 c = search needs
 
--- src/lib.rt:27:34
 get16-requires-2 : tie.Need-get16-requires-2
 get16-requires-2 c κs = search needs
 
--- src/lib.rt:27:34
 cast-result-2 : tie.Need-cast-result-2
 cast-result-2 c = search needs
 
--- src/lib.rt:27:33
 mul-result : tie.Need-mul-result
 mul-result c = search needs
 
--- src/lib.rt:27:5
 add-result : tie.Need-add-result
 add-result c = search needs
 
--- src/lib.rt:23:1
 returns : tie.Need-returns
 unfolding le32
 returns c = search needs

@@ -1,10 +1,7 @@
 use lib.Bits.{and-mask}
 use Rattle.field.proofs.last_bit.Statement.{statement}
 use Rattle.field.proofs.last_bit.Tie as tie
-use Rattle.field.proofs.last_bit.Reads as reads
-use Rattle.field.proofs.last_bit.Lts as lts
 
--- src/lib.rt:38:1
 returns : tie.Need-returns
 returns c = and-mask (c .args .x) 1
 

@@ -1,0 +1,2 @@
+pub mod NameHash
+pub mod FilePlace

@@ -1,0 +1,77 @@
+// The C boundary: what the rig's host calls. Each call takes numbers and lent bytes, asks nothing of them, and answers with a
+// struct of 32-bit numbers; host/include/harptimber.h declares the same for C.
+ghost use mathlib.Core.Path.{_≡_};
+ghost use mathlib.Core.List.{[]};
+ghost use Rattle.place.specs.Way.{inArray};
+ghost use Rattle.name_hash.specs.Answer.{hashed};
+ghost use Rattle.harptimber.specs.NameHash.{nameHash};
+ghost use Rattle.harptimber.specs.FilePlace.{crossing, answered, filePlace};
+
+#[repr(C)]
+pub struct NameHash {
+    pub answer: u32,
+    pub hash: u32,
+}
+
+#[no_mangle]
+pub extern "C" fn harptimber_name_hash(name: &[u8]) -> NameHash
+    ensures { λ r. ⌜ r ≡ nameHash (hashed (now (name .entry))) ⌝ }
+{
+    match name_hash::hash_answer(name) {
+        name_hash::Hashed::Hash(hash) => NameHash { answer: 0, hash },
+        name_hash::Hashed::BadName => NameHash { answer: 4, hash: 0 },
+    }
+}
+
+#[repr(C)]
+pub struct FilePlace {
+    pub answer: u32,
+    pub steps: u32,
+    pub place0: u32,
+    pub slot0: u32,
+    pub place1: u32,
+    pub slot1: u32,
+    pub place2: u32,
+    pub slot2: u32,
+    pub place3: u32,
+    pub slot3: u32,
+}
+
+fn answer_with(answer: u32, way: place::Way) -> FilePlace
+    ensures { λ r. ⌜ r ≡ crossing answer way ⌝ }
+{
+    let nodes = way.steps;
+    FilePlace {
+        answer,
+        steps: way.length,
+        place0: nodes[0].number,
+        slot0: nodes[0].slot,
+        place1: nodes[1].number,
+        slot1: nodes[1].slot,
+        place2: nodes[2].number,
+        slot2: nodes[2].slot,
+        place3: nodes[3].number,
+        slot3: nodes[3].slot,
+    }
+}
+
+fn answered_by(way: place::Way) -> FilePlace
+    ensures { λ r. ⌜ r ≡ answered way ⌝ }
+{
+    if way.length == 0 {
+        answer_with(3, way)
+    } else {
+        answer_with(0, way)
+    }
+}
+
+#[no_mangle]
+pub extern "C" fn harptimber_file_place(addresses: u32, index: u32) -> FilePlace
+    ensures { λ r. ⌜ r ≡ filePlace addresses index ⌝ }
+{
+    if (addresses == 873) | (addresses == 923) {
+        answered_by(place::find_way(addresses, index))
+    } else {
+        answer_with(4, place::no_way())
+    }
+}

@@ -1,0 +1,4 @@
+pub mod Name
+pub mod Hash
+pub mod Answer
+pub mod Vectors

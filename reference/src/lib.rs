@@ -1,0 +1,9 @@
+//! A plain second reading of the F2FS rules in document 01, to compare against.
+//!
+//! One module per topic; each uses only the ones above it.
+
+#![forbid(unsafe_code)]
+
+pub mod hash;
+pub mod checksum;
+pub mod place;
