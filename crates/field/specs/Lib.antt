@@ -1,4 +1,5 @@
 pub mod Number
 pub mod Map
+pub mod Bytes
 pub mod Card
 pub mod Choice

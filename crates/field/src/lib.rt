@@ -1,10 +1,11 @@
-// Numbers, bits and blocks in lent bytes: the leaves that every other layer reads through.
-// What each means is in specs/: Number, Map, Card.
+// Numbers, bits, byte strings and blocks in lent bytes: the leaves that every other layer reads through.
+// What each means is in specs/: Number, Map, Bytes, Card.
 ghost use mathlib.Core.Path.{_≡_};
 ghost use Prim.Native.Nat.{_+_, _*_, _%_, _≤_, _<_};
 ghost use lib.ListN.{length};
 ghost use Rattle.field.specs.Number.{le16, le32, le64};
 ghost use Rattle.field.specs.Map.{topBit, lowBit};
+ghost use Rattle.field.specs.Bytes.{sameAt};
 ghost use Rattle.field.specs.Card.{cardOf};
 
 fn wide(x: u8) -> u16
@@ -55,6 +56,21 @@ pub fn low_bit(map: &[u8], b: usize) -> u8
     ensures { λ r. ⌜ r ≡ lowBit (now (map .entry)) b ⌝ }
 {
     last_bit(map[b / 8] >> (b % 8))
+}
+
+// Whether the bytes from an offset on begin with the string.
+pub fn same_at(bytes: &[u8], at: usize, string: &[u8]) -> bool
+    requires { ⌜ at + length (now string) ≤ length (now bytes) ⌝ }
+    ensures { λ r. ⌜ r ≡ sameAt (now (bytes .entry)) at (now (string .entry)) ⌝ }
+{
+    let mut i = 0;
+    while i < string.len() {
+        if bytes[at + i] != string[i] {
+            return false;
+        }
+        i += 1;
+    }
+    true
 }
 
 // Block b of an image, as a part of it.

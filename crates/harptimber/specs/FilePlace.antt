@@ -29,8 +29,8 @@ crossing answer way =
     }
 
 -- an index with no way is past the last
-abbrev pub answered : Way → FilePlace
-answered way = crossing (choose (eqb (way .length) 0) 3 0) way
+abbrev pub placed : Way → FilePlace
+placed way = crossing (choose (eqb (way .length) 0) 3 0) way
 
 unfoldable pub filePlace : ℕ → ℕ → FilePlace
-filePlace A index = choose (eqb A 873 || eqb A 923) (answered (inArray (wayOf (placeOf A index)))) (crossing 4 (inArray []))
+filePlace A index = choose (eqb A 873 || eqb A 923) (placed (inArray (wayOf (placeOf A index)))) (crossing 4 (inArray []))

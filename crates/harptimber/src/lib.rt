@@ -4,8 +4,9 @@ ghost use mathlib.Core.Path.{_≡_};
 ghost use mathlib.Core.List.{[]};
 ghost use Rattle.place.specs.Way.{inArray};
 ghost use Rattle.name_hash.specs.Answer.{hashed};
+ghost use Rattle.nat.specs.Lookup.{answered, lookupOf};
 ghost use Rattle.harptimber.specs.NameHash.{nameHash};
-ghost use Rattle.harptimber.specs.FilePlace.{crossing, answered, filePlace};
+ghost use Rattle.harptimber.specs.FilePlace.{crossing, placed, filePlace};
 
 #[repr(C)]
 pub struct NameHash {
@@ -55,8 +56,8 @@ fn answer_with(answer: u32, way: place::Way) -> FilePlace
     }
 }
 
-fn answered_by(way: place::Way) -> FilePlace
-    ensures { λ r. ⌜ r ≡ answered way ⌝ }
+fn placed_by(way: place::Way) -> FilePlace
+    ensures { λ r. ⌜ r ≡ placed way ⌝ }
 {
     if way.length == 0 {
         answer_with(3, way)
@@ -70,8 +71,39 @@ pub extern "C" fn harptimber_file_place(addresses: u32, index: u32) -> FilePlace
     ensures { λ r. ⌜ r ≡ filePlace addresses index ⌝ }
 {
     if (addresses == 873) | (addresses == 923) {
-        answered_by(place::find_way(addresses, index))
+        placed_by(place::find_way(addresses, index))
     } else {
         answer_with(4, place::no_way())
+    }
+}
+
+fn table_numbers(said: nat::TableAnswer) -> nat::Lookup
+    ensures { λ r. ⌜ r ≡ answered said ⌝ }
+{
+    match said {
+        nat::TableAnswer::OutOfRange => nat::Lookup {
+            answer: 9,
+            inode: 0,
+            address: 0,
+        },
+        nat::TableAnswer::Entry(inode, address) => nat::Lookup {
+            answer: 0,
+            inode,
+            address,
+        },
+    }
+}
+
+#[no_mangle]
+pub extern "C" fn harptimber_node_lookup(image: &[u8], number: u32) -> nat::Lookup
+    ensures { λ r. ⌜ r ≡ lookupOf (now (image .entry)) number ⌝ }
+{
+    match checkpoint::open(image) {
+        checkpoint::Opening::Opened(v) => table_numbers(nat::table_answer(image, v, number)),
+        checkpoint::Opening::Refused(answer) => nat::Lookup {
+            answer,
+            inode: 0,
+            address: 0,
+        },
     }
 }

@@ -1,5 +1,5 @@
 use mathlib.Core.Path.{ap, _∙_}
-use Rattle.harptimber.specs.FilePlace.{crossing, answered, filePlace}
+use Rattle.harptimber.specs.FilePlace.{crossing, placed, filePlace}
 use borrow.Author.Needs.{needs}
 use Rattle.harptimber.proofs.harptimber_file_place.Statement.{statement}
 use Rattle.harptimber.proofs.harptimber_file_place.Tie as tie
@@ -7,8 +7,8 @@ use Rattle.harptimber.proofs.harptimber_file_place.Tie as tie
 find-way-requires : tie.Need-find-way-requires
 find-way-requires c κs = search needs
 
-answered-by-requires : tie.Need-answered-by-requires
-answered-by-requires c κs = search needs
+placed-by-requires : tie.Need-placed-by-requires
+placed-by-requires c κs = search needs
 
 no-way-requires : tie.Need-no-way-requires
 no-way-requires c κs = search needs
@@ -20,7 +20,7 @@ returns : tie.Need-returns
 unfolding filePlace
 returns c =
     rw (c .before .before .if1 .taken)
-    (c .answered-by .ensures ∙ ap answered (c .before .find-way .ensures))
+    (c .placed-by .ensures ∙ ap placed (c .before .find-way .ensures))
 
 returns-2 : tie.Need-returns-2
 unfolding filePlace
@@ -33,7 +33,7 @@ harptimber-file-place-spec =
     tie.close
     (tie.spec
     find-way-requires
-    answered-by-requires
+    placed-by-requires
     no-way-requires
     answer-with-requires
     returns

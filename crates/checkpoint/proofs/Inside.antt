@@ -1,0 +1,123 @@
+-- What is known of an opened volume, so that a reader of it opens no definition: all that it names lies inside the card. And
+-- which answers refuse a card.
+use mathlib.Core.Path.{_≡_, refl, sym, _∙_}
+use mathlib.Core.Bool.{true}
+use mathlib.Core.List.{List}
+use mathlib.Core.Logic.{_⊎_, inl, inr, ⊎-elim}
+use Prim.Native.Nat.{ℕ, _≤_}
+use native.Mathlib.Omega.{arith}
+use borrow.Author.Tests.{leb-true}
+use lib.ListN.{length, length-drop}
+use Rattle.field.specs.Number.{le16}
+use Rattle.field.specs.Card.{Card, cardOf}
+use Rattle.field.proofs.Choosing.{either}
+use Rattle.field.proofs.Blocks.{length-block}
+use Rattle.superblock.specs.Shape.{inShape, InShape}
+use Rattle.superblock.specs.Areas.{found, AreasIn}
+use Rattle.superblock.specs.declared.Areas.{Areas}
+use Rattle.superblock.specs.declared.Found.{Found}
+use Rattle.superblock.specs.declared.Found.the-variants as f
+use Rattle.superblock.proofs.Shaped.{shape-card}
+use Rattle.superblock.proofs.Finding.{areas-in, found-kinds}
+use Rattle.checkpoint.specs.declared.Chosen.{Chosen}
+use Rattle.checkpoint.specs.declared.Chosen.the-variants as c
+use Rattle.checkpoint.specs.declared.Volume.{Volume}
+use Rattle.checkpoint.specs.declared.Opening.{Opening}
+use Rattle.checkpoint.specs.declared.Opening.the-variants.{Opened, Refused}
+use Rattle.checkpoint.specs.Pack.{secondPack, packPasses, chosen}
+use Rattle.checkpoint.specs.Volume.{mapsReadable, volumeOf, journalOf, journalReadable, openPack, openChosen, openAreas, opened, openedImage, VolumeIn}
+use Rattle.checkpoint.proofs.Choosing.{chosen-passes}
+use Rattle.checkpoint.proofs.Reading.{journal-starts, map-inside, journal-inside}
+use Rattle.checkpoint.proofs.Ways.{maps-refuse, journal-refuses, pack-opens, shape-refuses, shape-opens}
+
+-- an opening is an answer from 5 to 8, or a volume inside the card
+abbrev Ends : Card → Opening → Type 0
+Ends card o = ((n : ℕ) × (5 ≤ n) × (n ≤ 8) × (o ≡ Refused n)) ⊎ ((v : Volume) × VolumeIn card v × (o ≡ Opened v))
+
+refused : {card : Card} {o : Opening} (n : ℕ) → 5 ≤ n → n ≤ 8 → o ≡ Refused n → Ends card o
+refused n l m e = inl (n, l, m, e)
+
+journal-count : (card : Card) (v : Volume) → journalReadable card v ≡ true → le16 (journalOf card v) 0 ≤ 38
+unfolding journalReadable
+journal-count card v h = leb-true _ _ h
+
+module _ (card : Card) (a : Areas) (areas : AreasIn card a) where
+  module _ (start : ℕ) (near : start ≤ secondPack (a .checkpoint)) (p : packPasses card start ≡ true) where
+    volume-of-in : mapsReadable a (card .block start) ≡ true → journalReadable card (volumeOf card a start) ≡ true
+        → VolumeIn card (volumeOf card a start)
+    volume-of-in m j =
+        record {
+          areasIn = areas;
+          packInside = omega arith;
+          mapInside = map-inside a (card .block start) m;
+          journalInside = journal-inside card a start (omega arith) p m;
+          journalStarts = journal-starts (card .block start);
+          journalCount = journal-count card (volumeOf card a start) j;
+        }
+
+    pack-ends : Ends card (openPack card a start)
+    pack-ends =
+        ⊎-elim (λ m.
+        ⊎-elim (λ j. inr (volumeOf card a start, volume-of-in m j, pack-opens card a start (volumeOf card a start) refl m j))
+        (λ j. refused 8 (omega arith) (omega arith) (journal-refuses card a start (volumeOf card a start) refl m j))
+        (either (journalReadable card (volumeOf card a start))))
+        (λ m. refused 8 (omega arith) (omega arith) (maps-refuse card a start m))
+        (either (mapsReadable a (card .block start)))
+
+  chosen-ends : (k : Chosen) → chosen card (a .checkpoint) ≡ k → Ends card (openChosen card a k)
+  chosen-ends (c.Pack start) e =
+      let w = chosen-passes card (a .checkpoint) start e in pack-ends start (w .1) (w .0)
+  chosen-ends c.Nothing e = refused 7 (omega arith) (omega arith) refl
+
+found-answers : (card : Card) (n : ℕ) → found card ≡ f.Refused n → (5 ≤ n) × (n ≤ 8)
+found-answers card n e =
+    ⊎-elim (λ w. let k = w .2 in let z : _≡_ {A = ℕ} 0 1 = cc in absurd (omega arith))
+    (⊎-elim (λ w. let same : n ≡ 5 = cc in (omega arith, omega arith)) (λ w. let same : n ≡ 6 = cc in (omega arith, omega arith)))
+    (found-kinds card)
+
+found-ends : (card : Card) (k : Found) → found card ≡ k → Ends card (openAreas card k)
+found-ends card (f.At a) e = chosen-ends card a (areas-in card a e) (chosen card (a .checkpoint)) refl
+found-ends card (f.Refused n) e = let w = found-answers card n e in refused n (w .0) (w .1) refl
+
+opened-ends : (card : Card) → Ends card (opened card)
+unfolding opened
+opened-ends card = found-ends card (found card) refl
+
+pub volume-in : (card : Card) (v : Volume) → opened card ≡ Opened v → VolumeIn card v
+volume-in card v h =
+    ⊎-elim (λ w. let e = w .3 in let n : _≡_ {A = ℕ} 0 1 = cc in absurd (omega arith))
+    (λ w. let e = w .2 in let same : v ≡ w .0 = cc in rw same (w .1))
+    (opened-ends card)
+
+-- the same of an image, with its shape
+module _ (image : List ℕ) (v : Volume) (h : openedImage image ≡ Opened v) where
+  pub image-shaped : inShape (length image) ≡ true
+  image-shaped =
+      ⊎-elim (λ p. p)
+      (λ p. let e = shape-refuses image p in let n : _≡_ {A = ℕ} 0 1 = cc in absurd (omega arith))
+      (either (inShape (length image)))
+
+  pub image-shape : InShape (cardOf image)
+  image-shape = shape-card image image-shaped
+
+  pub image-volume : VolumeIn (cardOf image) v
+  image-volume = volume-in (cardOf image) v (sym (shape-opens image image-shaped) ∙ h)
+
+-- the answers that refuse an image
+pub refusals : (image : List ℕ) (n : ℕ) → openedImage image ≡ Refused n → (4 ≤ n) × (n ≤ 8)
+refusals image n h =
+    ⊎-elim (λ p.
+    let e = shape-opens image p in
+    ⊎-elim (λ w. let k = w .3 in let same : n ≡ w .0 = cc in (omega arith, omega arith))
+    (λ w. let k = w .2 in let z : _≡_ {A = ℕ} 0 1 = cc in absurd (omega arith))
+    (opened-ends (cardOf image)))
+    (λ p. let e = shape-refuses image p in let same : n ≡ 4 = cc in (omega arith, omega arith))
+    (either (inShape (length image)))
+
+-- a journal has room for its count and 38 entries of 13 bytes
+pub journal-room : (image : List ℕ) (v : Volume) → VolumeIn (cardOf image) v → 496 ≤ length (journalOf (cardOf image) v)
+journal-room image v w =
+    rw length-drop
+    (⊎-elim (λ s. omega (arith, length-block image (v .«journal_block») (w .journalInside)))
+    (λ s. omega (arith, length-block image (v .«journal_block») (w .journalInside)))
+    (w .journalStarts))

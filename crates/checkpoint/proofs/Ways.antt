@@ -1,0 +1,43 @@
+-- The ways that opening goes: what the code follows, and what the laws on opened volumes stand on.
+use mathlib.Core.Path.{_≡_, refl}
+use mathlib.Core.Bool.{true, false}
+use mathlib.Core.List.{List}
+use Prim.Native.Nat.{ℕ}
+use lib.ListN.{length}
+use Rattle.field.specs.Card.{Card, cardOf}
+use Rattle.superblock.specs.Shape.{inShape}
+use Rattle.superblock.specs.Areas.{found}
+use Rattle.superblock.specs.declared.Areas.{Areas}
+use Rattle.superblock.specs.declared.Found.{Found}
+use Rattle.checkpoint.specs.declared.Volume.{Volume}
+use Rattle.checkpoint.specs.declared.Opening.the-variants.{Opened, Refused}
+use Rattle.checkpoint.specs.Volume.{mapsReadable, volumeOf, journalReadable, openPack, openAreas, opened, openedImage}
+
+-- the three ways of a chosen pack
+module _ (card : Card) (a : Areas) (start : ℕ) where
+  pub maps-refuse : mapsReadable a (card .block start) ≡ false → openPack card a start ≡ Refused 8
+  unfolding openPack
+  maps-refuse p = rw p
+
+  module _ (v : Volume) (e : v ≡ volumeOf card a start) (p : mapsReadable a (card .block start) ≡ true) where
+    pub journal-refuses : journalReadable card v ≡ false → openPack card a start ≡ Refused 8
+    unfolding openPack
+    journal-refuses q = rw (p, ← e, q)
+
+    pub pack-opens : journalReadable card v ≡ true → openPack card a start ≡ Opened v
+    unfolding openPack
+    pack-opens q = rw (p, ← e, q)
+
+-- an image out of shape, and in shape
+module _ (image : List ℕ) where
+  pub shape-refuses : inShape (length image) ≡ false → openedImage image ≡ Refused 4
+  unfolding openedImage
+  shape-refuses p = rw p
+
+  pub shape-opens : inShape (length image) ≡ true → openedImage image ≡ opened (cardOf image)
+  unfolding openedImage
+  shape-opens p = rw p
+
+pub opened-at : (card : Card) (found′ : Found) → found card ≡ found′ → opened card ≡ openAreas card found′
+unfolding opened
+opened-at card found′ e = rw e

@@ -1,0 +1,4 @@
+pub mod Shaped
+pub mod Finding
+mod Copies
+mod Passing
