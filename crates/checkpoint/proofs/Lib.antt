@@ -1,5 +1,4 @@
 pub mod Inside
-mod Whole
 mod Negated
 mod Passing
 mod Choosing

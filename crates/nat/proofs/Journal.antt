@@ -4,13 +4,14 @@ use mathlib.Core.List.{List}
 use mathlib.Core.Logic.{⊎-elim}
 use Prim.Native.Nat.{ℕ, zero, suc, _+_, _-_, _*_, _≤_, _<_}
 use native.Mathlib.Omega.{arith}
-use lib.ListN.{length, take, drop, length-drop}
+use lib.ListN.{length, take, drop}
 use borrow.Author.Tests.{eq-eqb, ne-eqb}
 use Rattle.field.specs.Number.{le16, le32}
-use Rattle.field.specs.Card.{cardOf, blockOf}
-use Rattle.field.proofs.Blocks.{length-block, block-from}
+use Rattle.field.specs.Card.{cardOf}
+use Rattle.field.proofs.Blocks.{block-from}
 use Rattle.checkpoint.specs.declared.Volume.{Volume}
 use Rattle.checkpoint.specs.Volume.{VolumeIn, journalOf}
+use Rattle.checkpoint.proofs.Inside.{journal-room}
 use Rattle.nat.specs.declared.InJournal.the-variants.{Held, Absent}
 use Rattle.nat.specs.Entry.{entryStart, inodeAt, addressAt, entriesFrom}
 
@@ -43,14 +44,8 @@ module _ (image : List ℕ) (v : Volume) (h : VolumeIn (cardOf image) v) where
       let e : v .«journal_block» * 4096 + 4096 - (v .«journal_block» * 4096 + v .«journal_at») ≡ 4096 - v .«journal_at» = omega arith in
       rw e (block-from image (v .«journal_block») (v .«journal_at») (h .journalInside) (omega arith))
 
-  pub journal-length : 496 ≤ length (journalOf (cardOf image) v)
-  journal-length =
-      let s = journal-starts in
-      let b = length-block image (v .«journal_block») (h .journalInside) in
-      rw (length-drop (v .«journal_at») (blockOf image (v .«journal_block»))) (omega arith)
-
   -- every entry that the journal counts, of 4 bytes and 9, lies inside the journal
   pub entry-inside : (i : ℕ) → i < le16 (journalOf (cardOf image) v) 0 → entryStart i + 13 ≤ length (journalOf (cardOf image) v)
   entry-inside i k =
-      let l = journal-length in
+      let l = journal-room image v h in
       omega (arith, h .journalCount)

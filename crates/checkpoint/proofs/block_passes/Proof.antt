@@ -18,7 +18,7 @@ returns c =
 
 slice-aggregate-checksum : tie.Need-slice-aggregate-checksum
 slice-aggregate-checksum c =
-    sym (length-take-le 4092 (now (c .before .before .before .before .args .block)) (omega arith))
+    sym (length-take-le _ (now (c .before .before .before .before .args .block)) (omega arith))
 
 checksum-requires : tie.Need-checksum-requires
 checksum-requires c κs = search needs
@@ -29,7 +29,12 @@ get32-requires-2 c κs = search needs
 returns-2 : tie.Need-returns-2
 unfolding blockPasses
 returns-2 c =
-    rw (← c .before .before .before .before .get32 .ensures, eq-eqb _ _ (c .before .before .before .if1 .left), c .get322 .ensures, c .before .checksum .ensures)
+    rw (
+      ← c .before .before .before .before .get32 .ensures,
+      eq-eqb _ _ (c .before .before .before .if1 .left),
+      c .get322 .ensures,
+      c .before .checksum .ensures,
+    )
 
 pub block-passes-spec : {M : Type 1} → statement M
 block-passes-spec =

@@ -24,11 +24,25 @@ first-passing-requires-2 c κs = search needs
 
 returns : tie.Need-returns
 returns c =
-    rw (chosen-in-order, ← c .before .before .before .before .version-at .ensures, ← c .before .before .before .version-at2 .ensures, ← c .before .before .is-newer .ensures, c .before .if1 .taken, c .first-passing .ensures)
+    rw (
+      chosen-in-order,
+      ← c .before .before .before .before .version-at .ensures,
+      ← c .before .before .before .version-at2 .ensures,
+      ← c .before .before .is-newer .ensures,
+      c .before .if1 .taken,
+      c .first-passing .ensures,
+    )
 
 returns-2 : tie.Need-returns-2
 returns-2 c =
-    rw (chosen-in-order, ← c .before .before .before .before .version-at .ensures, ← c .before .before .before .version-at2 .ensures, ← c .before .before .is-newer .ensures, c .before .if1 .left, c .first-passing2 .ensures)
+    rw (
+      chosen-in-order,
+      ← c .before .before .before .before .version-at .ensures,
+      ← c .before .before .before .version-at2 .ensures,
+      ← c .before .before .is-newer .ensures,
+      c .before .if1 .left,
+      c .first-passing2 .ensures,
+    )
 
 pub choose-pack-spec : {M : Type 1} → statement M
 choose-pack-spec =

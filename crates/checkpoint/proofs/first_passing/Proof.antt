@@ -15,11 +15,21 @@ pack-passes-requires-2 c κs = search needs
 
 returns-2 : tie.Need-returns-2
 returns-2 c =
-    rw (← c .before .before .before .pack-passes .ensures, c .before .before .if1 .left, ← c .before .pack-passes2 .ensures, c .if2 .taken)
+    rw (
+      ← c .before .before .before .pack-passes .ensures,
+      c .before .before .if1 .left,
+      ← c .before .pack-passes2 .ensures,
+      c .if2 .taken,
+    )
 
 returns-3 : tie.Need-returns-3
 returns-3 c =
-    rw (← c .before .before .before .pack-passes .ensures, c .before .before .if1 .left, ← c .before .pack-passes2 .ensures, c .if2 .left)
+    rw (
+      ← c .before .before .before .pack-passes .ensures,
+      c .before .before .if1 .left,
+      ← c .before .pack-passes2 .ensures,
+      c .if2 .left,
+    )
 
 pub first-passing-spec : {M : Type 1} → statement M
 first-passing-spec =

@@ -17,7 +17,12 @@ get32-requires-2 c κs = search needs
 returns : tie.Need-returns
 unfolding journalIn
 returns c =
-    rw (← c .before .before .before .get32 .ensures, ← c .before .before .flag-set .ensures, c .before .if1 .taken, c .get322 .ensures)
+    rw (
+      ← c .before .before .before .get32 .ensures,
+      ← c .before .before .flag-set .ensures,
+      c .before .if1 .taken,
+      c .get322 .ensures,
+    )
 
 journal-back-requires : tie.Need-journal-back-requires
 journal-back-requires c κs = search needs
@@ -28,12 +33,24 @@ get32-requires-3 c κs = search needs
 returns-2 : tie.Need-returns-2
 unfolding journalIn
 returns-2 c =
-    rw (← c .before .before .before .before .before .get32 .ensures, ← c .before .before .before .before .flag-set .ensures, c .before .before .before .if1 .left, ← c .before .before .journal-back .ensures, ← c .before .get323 .ensures) (omega arith)
+    rw (
+      ← c .before .before .before .before .before .get32 .ensures,
+      ← c .before .before .before .before .flag-set .ensures,
+      c .before .before .before .if1 .left,
+      ← c .before .before .journal-back .ensures,
+      ← c .before .get323 .ensures,
+    ) (omega arith)
 
 returns-3 : tie.Need-returns-3
 unfolding journalIn
 returns-3 c =
-    rw (← c .before .before .before .before .before .get32 .ensures, ← c .before .before .before .before .flag-set .ensures, c .before .before .before .if1 .left, ← c .before .before .journal-back .ensures, ← c .before .get323 .ensures)
+    rw (
+      ← c .before .before .before .before .before .get32 .ensures,
+      ← c .before .before .before .before .flag-set .ensures,
+      c .before .before .before .if1 .left,
+      ← c .before .before .journal-back .ensures,
+      ← c .before .get323 .ensures,
+    )
 
 pub journal-in-spec : {M : Type 1} → statement M
 journal-in-spec =

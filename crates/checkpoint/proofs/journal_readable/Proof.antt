@@ -4,7 +4,7 @@ use mathlib.Core.List.{List}
 use Prim.Native.Nat.{ℕ, _-_}
 use lib.ListN.{length, take, drop, length-take, length-drop}
 use lib.Seq.{take-all}
-use Rattle.checkpoint.proofs.Whole.{whole}
+use Rattle.field.proofs.Blocks.{length-of-block}
 use Rattle.checkpoint.specs.Volume.{journalReadable}
 use borrow.Author.Needs.{needs}
 use Rattle.checkpoint.proofs.journal_readable.Statement.{statement}
@@ -22,18 +22,18 @@ cast-at c = search needs
 
 sub-get16 : tie.Need-sub-get16
 sub-get16 c =
-    omega (arith, whole _ (c .before .before .before .pre .0) (c .before .block-at .ensures))
+    omega (arith, length-of-block _ _ (c .before .before .before .pre .0) (c .before .block-at .ensures))
 
 part-get16-start : tie.Need-part-get16-start
 part-get16-start c =
-    omega (arith, whole _ (c .before .before .before .pre .0) (c .before .block-at .ensures))
+    omega (arith, length-of-block _ _ (c .before .before .before .pre .0) (c .before .block-at .ensures))
 
 part-get16-end : tie.Need-part-get16-end
 part-get16-end c = search needs
 
 get16-requires : tie.Need-get16-requires
 get16-requires c κs =
-    simp (length-take, length-drop) (omega (arith, whole _ (c .before .before .before .before .pre .0) (c .before .before .block-at .ensures)))
+    simp (length-take, length-drop) (omega (arith, length-of-block _ _ (c .before .before .before .before .pre .0) (c .before .before .block-at .ensures)))
 
 returns : tie.Need-returns
 unfolding journalReadable

@@ -46,7 +46,13 @@ journal-placed-requires c κs = search needs
 returns : tie.Need-returns
 unfolding mapsReadable
 returns c =
-    rw (c .journal-placed .ensures, c .before .before .before .flag-set .ensures, c .before .before .before .before .get323 .ensures, c .before .before .before .before .before .get322 .ensures, c .before .before .before .before .before .before .get32 .ensures)
+    rw (
+      c .journal-placed .ensures,
+      c .before .before .before .flag-set .ensures,
+      c .before .before .before .before .get323 .ensures,
+      c .before .before .before .before .before .get322 .ensures,
+      c .before .before .before .before .before .before .get32 .ensures,
+    )
 
 pub maps-readable-spec : {M : Type 1} → statement M
 maps-readable-spec =

@@ -1,6 +1,6 @@
 use mathlib.Core.Path.{refl, sym, _∙_}
 use native.Mathlib.Omega.{arith}
-use Rattle.checkpoint.proofs.Whole.{whole}
+use Rattle.field.proofs.Blocks.{length-of-block}
 use Rattle.checkpoint.proofs.Passing.{passing-total}
 use Rattle.checkpoint.proofs.Reading.{journal-at-most, journal-inside}
 use Rattle.checkpoint.proofs.Ways.{maps-refuse, journal-refuses, pack-opens}
@@ -14,7 +14,7 @@ block-at-requires c κs = search needs
 
 maps-readable-requires : tie.Need-maps-readable-requires
 maps-readable-requires c κs = (
-  whole _ (omega arith) (c .block-at .ensures),
+  length-of-block _ _ (omega arith) (c .block-at .ensures),
   rw (c .block-at .ensures) (passing-total _ _ (c .before .before .pre .1 .1) .0),
 )
 

@@ -1,7 +1,7 @@
 use mathlib.Core.Path.{refl}
 use native.Mathlib.Omega.{arith}
 use borrow.Author.Tests.{le-leb, lt-leb}
-use Rattle.checkpoint.proofs.Whole.{whole}
+use Rattle.field.proofs.Blocks.{length-of-block}
 use Rattle.checkpoint.proofs.Passing.{pack-in-order}
 use Rattle.checkpoint.proofs.Negated.{fails, holds}
 use borrow.Author.Needs.{needs}
@@ -13,7 +13,7 @@ block-at-requires c κs = search needs
 
 get32-requires : tie.Need-get32-requires
 get32-requires c κs =
-    omega (arith, whole _ (omega arith) (c .block-at .ensures))
+    omega (arith, length-of-block _ _ (omega arith) (c .block-at .ensures))
 
 returns : tie.Need-returns
 returns c =
@@ -21,11 +21,17 @@ returns c =
 
 returns-2 : tie.Need-returns-2
 returns-2 c =
-    rw (pack-in-order, ← c .before .before .before .block-at .ensures, ← c .before .before .get32 .ensures, le-leb _ _ (c .before .if1 .left), lt-leb _ _ (c .if2 .taken))
+    rw (
+      pack-in-order,
+      ← c .before .before .before .block-at .ensures,
+      ← c .before .before .get32 .ensures,
+      le-leb _ _ (c .before .if1 .left),
+      lt-leb _ _ (c .if2 .taken),
+    )
 
 block-passes-requires : tie.Need-block-passes-requires
 block-passes-requires c κs =
-    whole _ (omega arith) (c .before .before .before .block-at .ensures)
+    length-of-block _ _ (omega arith) (c .before .before .before .block-at .ensures)
 
 returns-3 : tie.Need-returns-3
 returns-3 c =
@@ -49,11 +55,11 @@ block-at-requires-2 c κs = search needs
 
 get64-requires : tie.Need-get64-requires
 get64-requires c κs =
-    omega (arith, whole _ (omega arith) (c .before .before .before .before .before .before .block-at .ensures))
+    omega (arith, length-of-block _ _ (omega arith) (c .before .before .before .before .before .before .block-at .ensures))
 
 last-passes-requires : tie.Need-last-passes-requires
 last-passes-requires c κs =
-    whole _ (omega arith) (c .before .block-at2 .ensures)
+    length-of-block _ _ (omega arith) (c .before .block-at2 .ensures)
 
 returns-4 : tie.Need-returns-4
 returns-4 c =

@@ -1,6 +1,6 @@
 use mathlib.Core.Path.{refl}
 use native.Mathlib.Omega.{arith}
-use Rattle.checkpoint.proofs.Whole.{whole}
+use Rattle.field.proofs.Blocks.{length-of-block}
 use borrow.Author.Needs.{needs}
 use Rattle.checkpoint.proofs.version_at.Statement.{statement}
 use Rattle.checkpoint.proofs.version_at.Tie as tie
@@ -10,7 +10,7 @@ block-at-requires c κs = search needs
 
 get64-requires : tie.Need-get64-requires
 get64-requires c κs =
-    omega (arith, whole _ (c .before .before .pre) (c .block-at .ensures))
+    omega (arith, length-of-block _ _ (c .before .before .pre) (c .block-at .ensures))
 
 returns : tie.Need-returns
 returns c =

@@ -1,6 +1,6 @@
 use mathlib.Core.Path.{refl}
 use native.Mathlib.Omega.{arith}
-use Rattle.checkpoint.proofs.Whole.{whole}
+use Rattle.field.proofs.Blocks.{length-of-block}
 use Rattle.checkpoint.proofs.Reading.{map-inside, journal-inside}
 use borrow.Author.Needs.{needs}
 use Rattle.checkpoint.proofs.volume_of.Statement.{statement}
@@ -11,15 +11,15 @@ block-at-requires c κs = search needs
 
 get32-requires : tie.Need-get32-requires
 get32-requires c κs =
-    omega (arith, whole _ (omega arith) (c .block-at .ensures))
+    omega (arith, length-of-block _ _ (omega arith) (c .block-at .ensures))
 
 get32-requires-2 : tie.Need-get32-requires-2
 get32-requires-2 c κs =
-    omega (arith, whole _ (omega arith) (c .before .block-at .ensures))
+    omega (arith, length-of-block _ _ (omega arith) (c .before .block-at .ensures))
 
 get32-requires-3 : tie.Need-get32-requires-3
 get32-requires-3 c κs =
-    omega (arith, whole _ (omega arith) (c .before .before .block-at .ensures))
+    omega (arith, length-of-block _ _ (omega arith) (c .before .before .block-at .ensures))
 
 add-t8 : tie.Need-add-t8
 add-t8 c =
@@ -28,7 +28,7 @@ add-t8 c =
 
 journal-in-requires : tie.Need-journal-in-requires
 journal-in-requires c κs =
-    whole _ (omega arith) (c .before .before .before .block-at .ensures)
+    length-of-block _ _ (omega arith) (c .before .before .before .block-at .ensures)
 
 add-t10 : tie.Need-add-t10
 add-t10 c =
@@ -38,7 +38,7 @@ add-t10 c =
 
 journal-at-requires : tie.Need-journal-at-requires
 journal-at-requires c κs =
-    whole _ (omega arith) (c .before .before .before .before .block-at .ensures)
+    length-of-block _ _ (omega arith) (c .before .before .before .before .block-at .ensures)
 
 returns : tie.Need-returns
 returns c =

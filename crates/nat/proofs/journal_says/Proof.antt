@@ -1,5 +1,6 @@
 use native.Mathlib.Omega.{arith}
-use Rattle.nat.proofs.Journal.{journal-starts, journal-part, journal-length}
+use Rattle.nat.proofs.Journal.{journal-starts, journal-part}
+use Rattle.checkpoint.proofs.Inside.{journal-room}
 use borrow.Author.Needs.{needs}
 use Rattle.nat.proofs.journal_says.Statement.{statement}
 use Rattle.nat.proofs.journal_says.Tie as tie
@@ -33,7 +34,7 @@ part-journal-entry-end c = search needs
 journal-entry-requires : tie.Need-journal-entry-requires
 journal-entry-requires c κs =
     let h = c .before .before .before .before .pre in
-    rw (journal-part _ _ h) (journal-length _ _ h, h .journalCount)
+    rw (journal-part _ _ h) (journal-room _ _ h, h .journalCount)
 
 returns : tie.Need-returns
 returns c =

@@ -1,6 +1,7 @@
 use native.Mathlib.Omega.{arith}
 use denote.Ref.{now}
-use Rattle.superblock.proofs.Copies.{block-length, copy-length, copy-is}
+use Rattle.superblock.proofs.Copies.{copy-length, copy-is}
+use Rattle.field.proofs.Blocks.{length-of-block}
 use borrow.Author.Needs.{needs}
 use Rattle.superblock.proofs.copy_at.Statement.{statement}
 use Rattle.superblock.proofs.copy_at.Tie as tie
@@ -11,7 +12,7 @@ block-at-requires c κs = search needs
 sub-result : tie.Need-sub-result
 sub-result c =
     let start = c .before .before in
-    omega (arith, block-length (now (start .args .image)) (start .pre) (c .block-at .ensures))
+    omega (arith, length-of-block _ _ (start .pre) (c .block-at .ensures))
 
 part-result-start : tie.Need-part-result-start
 part-result-start c = sub-result c
