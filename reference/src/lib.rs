@@ -7,3 +7,9 @@
 pub mod hash;
 pub mod checksum;
 pub mod place;
+pub mod bytes;
+pub mod open;
+pub mod lookup;
+
+#[cfg(test)]
+mod sample;

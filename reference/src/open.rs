@@ -1,0 +1,424 @@
+//! Opening an image: its shape, superblock, features, checkpoint pack, maps and journal.
+
+use crate::bytes::{block, le16, le32, le64, BLOCK_SIZE, SEGMENT_BLOCKS};
+use crate::checksum::checksum;
+
+const UNMOUNT: u32 = 0x1;
+const COMPACT: u32 = 0x4;
+const FASTBOOT: u32 = 0x20;
+const LARGE_NAT_MAP: u32 = 0x400;
+
+/// Where the checksum of a checkpoint block stands, and so where its maps must end.
+const CHECKSUM_AT: usize = 4092;
+const MAPS_AT: u64 = 192;
+
+/// "13-byte entries: number, then a NAT entry"
+pub const JOURNAL_ENTRY_SIZE: usize = 13;
+/// "a 16-bit count, at most 38"
+const JOURNAL_MOST: usize = 38;
+
+/// What an image that opens is read by.
+#[derive(Debug, Clone, Copy)]
+pub struct Volume<'a> {
+    pub image: &'a [u8],
+    /// First block of the main area.
+    pub main_start: u32,
+    /// First block after the main area.
+    pub main_end: u32,
+    pub nat_address: u32,
+    pub nat_segments: u32,
+    pub nat_map: &'a [u8],
+    /// The NAT journal's entries, 13 bytes each, without the count before them.
+    pub journal: &'a [u8],
+}
+
+impl<'a> Volume<'a> {
+    pub fn in_main_area(&self, address: u32) -> bool {
+        (self.main_start..self.main_end).contains(&address)
+    }
+
+    /// A block of the image, which holds every block of the areas.
+    pub fn block(&self, number: u32) -> &'a [u8] {
+        block(self.image, u64::from(number))
+    }
+}
+
+/// "An image opens if its length is in shape and none of 5 to 8 applies to it." The error is the
+/// answer number, the first that applies.
+pub fn open(image: &[u8]) -> Result<Volume<'_>, u32> {
+    if !is_image_length(image.len()) {
+        return Err(4);
+    }
+    let superblock = superblock_in_use(image).ok_or(5u32)?;
+    // "feature word not 0, or payload not 0"
+    if superblock.feature != 0 || superblock.payload != 0 {
+        return Err(6);
+    }
+    let pack = chosen_pack(image, &superblock).ok_or(7u32)?;
+    let nat_map = nat_map(image, &superblock, &pack).ok_or(8u32)?;
+    let journal = journal(image, &pack).ok_or(8u32)?;
+    Ok(Volume {
+        image,
+        main_start: superblock.main_address,
+        // At most the image's blocks, so it fits.
+        main_end: superblock.main_end() as u32,
+        nat_address: superblock.nat_address,
+        nat_segments: superblock.nat_segments,
+        nat_map,
+        journal,
+    })
+}
+
+/// "An image has whole blocks, 2 to 262,144 of them."
+pub fn is_image_length(length: usize) -> bool {
+    length.is_multiple_of(BLOCK_SIZE) && (2..=262_144).contains(&(length / BLOCK_SIZE))
+}
+
+/// One superblock copy, as stored.
+#[derive(Debug, Clone, Copy)]
+pub struct Superblock {
+    pub log_sector_size: u32,
+    pub log_sectors_per_block: u32,
+    pub log_block_size: u32,
+    pub log_blocks_per_segment: u32,
+    pub segments_per_section: u32,
+    pub sections_per_zone: u32,
+    pub block_count: u64,
+    pub segment_count: u32,
+    pub checkpoint_segments: u32,
+    pub sit_segments: u32,
+    pub nat_segments: u32,
+    pub ssa_segments: u32,
+    pub main_segments: u32,
+    pub segment0_address: u32,
+    pub checkpoint_address: u32,
+    pub sit_address: u32,
+    pub nat_address: u32,
+    pub ssa_address: u32,
+    pub main_address: u32,
+    pub root_inode: u32,
+    pub node_inode: u32,
+    pub meta_inode: u32,
+    pub payload: u32,
+    pub feature: u32,
+}
+
+/// "At byte 1,024 of block 0; only if that copy doesn't pass, of block 1."
+pub fn superblock_in_use(image: &[u8]) -> Option<Superblock> {
+    let image_blocks = (image.len() / BLOCK_SIZE) as u64;
+    (0..2)
+        .filter_map(|copy| Superblock::read(block(image, copy)))
+        .find(|superblock| superblock.passes(image_blocks))
+}
+
+impl Superblock {
+    /// The copy in this block, if it carries the mark.
+    fn read(block: &[u8]) -> Option<Superblock> {
+        let copy = block.get(1024..)?;
+        // "The first four bytes must be 10 20 F5 F2."
+        if !copy.starts_with(&[0x10, 0x20, 0xF5, 0xF2]) {
+            return None;
+        }
+        Some(Superblock {
+            log_sector_size: le32(copy, 8),
+            log_sectors_per_block: le32(copy, 12),
+            log_block_size: le32(copy, 16),
+            log_blocks_per_segment: le32(copy, 20),
+            segments_per_section: le32(copy, 24),
+            sections_per_zone: le32(copy, 28),
+            block_count: le64(copy, 36),
+            segment_count: le32(copy, 48),
+            checkpoint_segments: le32(copy, 52),
+            sit_segments: le32(copy, 56),
+            nat_segments: le32(copy, 60),
+            ssa_segments: le32(copy, 64),
+            main_segments: le32(copy, 68),
+            segment0_address: le32(copy, 72),
+            checkpoint_address: le32(copy, 76),
+            sit_address: le32(copy, 80),
+            nat_address: le32(copy, 84),
+            ssa_address: le32(copy, 88),
+            main_address: le32(copy, 92),
+            root_inode: le32(copy, 96),
+            node_inode: le32(copy, 100),
+            meta_inode: le32(copy, 104),
+            payload: le32(copy, 1664),
+            feature: le32(copy, 2180),
+        })
+    }
+
+    /// "that address + 512 × main segments"
+    pub fn main_end(&self) -> u64 {
+        area_end(self.main_address, self.main_segments)
+    }
+
+    fn passes(&self, image_blocks: u64) -> bool {
+        self.units_pass() && self.counts_pass() && self.areas_pass(image_blocks)
+    }
+
+    fn units_pass(&self) -> bool {
+        // "block log 12, segment log 9"
+        self.log_block_size == 12
+            && self.log_blocks_per_segment == 9
+            // "sector log 9 to 12 and the two sector logs sum to 12"
+            && (9..=12).contains(&self.log_sector_size)
+            && u64::from(self.log_sector_size) + u64::from(self.log_sectors_per_block) == 12
+            // "sections and zones at least 1"
+            && self.segments_per_section >= 1
+            && self.sections_per_zone >= 1
+    }
+
+    fn counts_pass(&self) -> bool {
+        let even_pair = |segments: u32| segments >= 2 && segments.is_multiple_of(2);
+        // "inodes 3, 1, 2": root, node and meta
+        (self.root_inode, self.node_inode, self.meta_inode) == (3, 1, 2)
+            // "checkpoint segments 2"
+            && self.checkpoint_segments == 2
+            // "SIT and NAT counts even and at least 2"
+            && even_pair(self.sit_segments)
+            && even_pair(self.nat_segments)
+    }
+
+    fn areas_pass(&self, image_blocks: u64) -> bool {
+        let follows = |address: u32, before: u32, segments: u32| {
+            u64::from(address) == area_end(before, segments)
+        };
+        let segments_end = area_end(self.segment0_address, self.segment_count);
+        // "segment 0 = checkpoint address, at least 2 (both copies lie before it)"
+        self.segment0_address == self.checkpoint_address
+            && self.segment0_address >= 2
+            // "each area starts where the one before ends"
+            && follows(self.sit_address, self.checkpoint_address, self.checkpoint_segments)
+            && follows(self.nat_address, self.sit_address, self.sit_segments)
+            && follows(self.ssa_address, self.nat_address, self.nat_segments)
+            && follows(self.main_address, self.ssa_address, self.ssa_segments)
+            // "main end ≤ segment 0 + 512 × segment count ≤ block count ≤ image blocks"
+            && self.main_end() <= segments_end
+            && segments_end <= self.block_count
+            && self.block_count <= image_blocks
+    }
+}
+
+/// "Sums are exact, never wrapped": 64 bits hold the largest.
+fn area_end(address: u32, segments: u32) -> u64 {
+    u64::from(address) + SEGMENT_BLOCKS * u64::from(segments)
+}
+
+/// A checkpoint pack that passes.
+#[derive(Debug, Clone, Copy)]
+pub struct Pack {
+    /// Its first block.
+    pub start: u64,
+    /// How many blocks it has.
+    pub total: u64,
+    pub version: u64,
+}
+
+/// "Of two that pass, the greater version as an unsigned number is chosen; if equal, the first."
+pub fn chosen_pack(image: &[u8], superblock: &Superblock) -> Option<Pack> {
+    // "Packs start at the checkpoint address and 512 blocks on."
+    let start = u64::from(superblock.checkpoint_address);
+    let first = passing_pack(image, start);
+    let second = passing_pack(image, start + SEGMENT_BLOCKS);
+    match (first, second) {
+        (Some(first), Some(second)) if second.version > first.version => Some(second),
+        (Some(first), _) => Some(first),
+        (None, second) => second,
+    }
+}
+
+/// "A pack passes if its first block passes, its total (offset 136) is 2 to 512, and block
+/// total − 1 passes and has the same version (64 bits, offset 0)."
+fn passing_pack(image: &[u8], start: u64) -> Option<Pack> {
+    let first = block(image, start);
+    if !checkpoint_block_passes(first) {
+        return None;
+    }
+    let total = u64::from(le32(first, 136));
+    if !(2..=512).contains(&total) {
+        return None;
+    }
+    let last = block(image, start + total - 1);
+    let version = le64(first, 0);
+    (checkpoint_block_passes(last) && le64(last, 0) == version).then_some(Pack {
+        start,
+        total,
+        version,
+    })
+}
+
+/// "A block passes if its checksum offset (164) is 4,092 and the number there is the [checksum]
+/// over the first 4,092 bytes."
+fn checkpoint_block_passes(block: &[u8]) -> bool {
+    let Some(covered) = block.get(..CHECKSUM_AT) else {
+        return false;
+    };
+    le32(block, 164) as usize == CHECKSUM_AT && le32(block, CHECKSUM_AT) == checksum(covered)
+}
+
+/// The NAT map of the chosen pack; `None` if the maps make the pack unreadable.
+fn nat_map<'a>(image: &'a [u8], superblock: &Superblock, pack: &Pack) -> Option<&'a [u8]> {
+    let first = block(image, pack.start);
+    // "Answer 8 if the large map is set"
+    if le32(first, 132) & LARGE_NAT_MAP != 0 {
+        return None;
+    }
+    // "the SIT map size (156) isn't 32 × SIT segments or the NAT map size (160) isn't 32 × NAT
+    // segments"
+    let sit_size = u64::from(le32(first, 156));
+    let nat_size = u64::from(le32(first, 160));
+    if sit_size != 32 * u64::from(superblock.sit_segments)
+        || nat_size != 32 * u64::from(superblock.nat_segments)
+    {
+        return None;
+    }
+    // "192 + both sizes > 4,092"
+    if MAPS_AT + sit_size + nat_size > CHECKSUM_AT as u64 {
+        return None;
+    }
+    // "The SIT map starts at 192, the NAT map after it."
+    let start = (MAPS_AT + sit_size) as usize;
+    first.get(start..start + nat_size as usize)
+}
+
+/// The NAT journal's entries; `None` if the journal block is out of place or counts too many.
+fn journal<'a>(image: &'a [u8], pack: &Pack) -> Option<&'a [u8]> {
+    let (journal_block, at) = journal_place(block(image, pack.start), pack.total)?;
+    let journal = block(image, pack.start + journal_block).get(at..)?;
+    // "A journal is a 16-bit count, at most 38 (else 8), then 13-byte entries"
+    let count = usize::from(le16(journal, 0));
+    if count > JOURNAL_MOST {
+        return None;
+    }
+    journal.get(2..2 + count * JOURNAL_ENTRY_SIZE)
+}
+
+/// The journal's block within the pack and its first byte there.
+fn journal_place(first: &[u8], total: u64) -> Option<(u64, usize)> {
+    let flags = le32(first, 132);
+    // "Compact: the journal block is the start-of-summaries number (140), 1 to total − 2; NAT
+    // journal at its byte 0."
+    if flags & COMPACT != 0 {
+        let summaries = u64::from(le32(first, 140));
+        return (1..=total - 2).contains(&summaries).then_some((summaries, 0));
+    }
+    // "Else it is block total − 7 with unmount or fastboot, total − 4 without, and at least 1;
+    // journal at its byte 3,584."
+    let back = if flags & (UNMOUNT | FASTBOOT) != 0 { 7 } else { 4 };
+    let summary = total.checked_sub(back)?;
+    (summary >= 1).then_some((summary, 3584))
+}
+
+#[cfg(test)]
+mod tests {
+    use super::*;
+    use crate::sample::{Sample, FIRST_PACK, SECOND_PACK};
+
+    fn answer(sample: &Sample) -> u32 {
+        open(&sample.bytes).err().unwrap_or(0)
+    }
+
+    #[test]
+    fn empty_one_block_and_too_many_blocks_are_4() {
+        assert_eq!(open(&[]).err(), Some(4));
+        assert_eq!(open(&[0; 4096]).err(), Some(4));
+        assert_eq!(open(&[0; 4097]).err(), Some(4));
+        assert!(!is_image_length(262_145 * 4096));
+        assert!(is_image_length(262_144 * 4096));
+        assert_eq!(open(&[0; 8192]).err(), Some(5));
+    }
+
+    #[test]
+    fn tour_volume_of_100_mb() {
+        let mut sample = Sample::new();
+        sample.resize_main(42);
+        let superblock = superblock_in_use(&sample.bytes).unwrap();
+        assert_eq!((superblock.main_address, superblock.main_end()), (4096, 25600));
+        assert_eq!(answer(&sample), 0);
+        sample.put32(0, 1024 + 2180, 0x8);
+        assert_eq!(answer(&sample), 6);
+    }
+
+    #[test]
+    fn second_copy_only_if_the_first_does_not_pass() {
+        let mut sample = Sample::new();
+        sample.copy_block(0, 1);
+        sample.put32(0, 1024, 0);
+        assert_eq!(answer(&sample), 0);
+        sample.put32(1, 1024 + 1664, 1);
+        assert_eq!(answer(&sample), 6);
+        sample.put32(1, 1024 + 16, 13);
+        assert_eq!(answer(&sample), 5);
+    }
+
+    #[test]
+    fn superblock_rules() {
+        let wrong = [
+            (8, 8), (8, 13), (12, 4), (20, 8), (24, 0), (28, 0), (36, 1), (48, 6), (52, 3),
+            (56, 3), (60, 0), (68, u32::MAX), (72, 511), (84, 2559), (96, 4), (100, 2), (104, 1),
+        ];
+        for (at, value) in wrong {
+            let mut sample = Sample::new();
+            sample.put32(0, 1024 + at, value);
+            assert_eq!(answer(&sample), 5, "offset {at} value {value}");
+        }
+    }
+
+    #[test]
+    fn pack_on_its_first_block_alone_does_not_pass() {
+        let mut sample = Sample::new();
+        assert_eq!(answer(&sample), 0);
+        sample.put32(FIRST_PACK + 7, 0, 4);
+        sample.seal(FIRST_PACK + 7);
+        assert_eq!(answer(&sample), 7);
+    }
+
+    #[test]
+    fn equal_versions_choose_the_first_pack() {
+        let mut sample = Sample::new();
+        sample.put_pack(SECOND_PACK, 5, 8);
+        let chosen = |sample: &Sample| {
+            let superblock = superblock_in_use(&sample.bytes).unwrap();
+            chosen_pack(&sample.bytes, &superblock).unwrap().start
+        };
+        assert_eq!(chosen(&sample), FIRST_PACK as u64);
+        sample.put_pack(SECOND_PACK, 1 << 63, 8);
+        assert_eq!(chosen(&sample), SECOND_PACK as u64);
+    }
+
+    #[test]
+    fn journal_count_38_is_read_39_is_8() {
+        let mut sample = Sample::new();
+        sample.put16(FIRST_PACK + 1, 3584, 38);
+        assert_eq!(open(&sample.bytes).unwrap().journal.len(), 38 * 13);
+        sample.put16(FIRST_PACK + 1, 3584, 39);
+        assert_eq!(answer(&sample), 8);
+    }
+
+    #[test]
+    fn journal_places() {
+        let mut first = vec![0; 4096];
+        assert_eq!(journal_place(&first, 5), Some((1, 3584)));
+        assert_eq!(journal_place(&first, 4), None);
+        assert_eq!(journal_place(&first, 2), None);
+        first[132] = 0x20;
+        assert_eq!(journal_place(&first, 8), Some((1, 3584)));
+        assert_eq!(journal_place(&first, 7), None);
+        first[132] = 0x05;
+        first[140] = 4;
+        assert_eq!(journal_place(&first, 6), Some((4, 0)));
+        assert_eq!(journal_place(&first, 5), None);
+        first[140] = 0;
+        assert_eq!(journal_place(&first, 2), None);
+    }
+
+    #[test]
+    fn unreadable_maps_are_8() {
+        for (at, value) in [(132, 0x401), (156, 96), (160, 32)] {
+            let mut sample = Sample::new();
+            sample.put32(FIRST_PACK, at, value);
+            sample.seal(FIRST_PACK);
+            assert_eq!(answer(&sample), 8, "offset {at}");
+        }
+    }
+}

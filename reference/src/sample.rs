@@ -1,0 +1,121 @@
+//! A small volume for the tests, laid out as the tour's 100 MB one: checkpoint at 512, SIT at
+//! 1536, NAT at 2560, SSA at 3584, main at 4096, but with one main segment.
+
+use crate::checksum::checksum;
+
+pub const FIRST_PACK: usize = 512;
+pub const SECOND_PACK: usize = 1024;
+const NAT: usize = 2560;
+
+pub struct Sample {
+    pub bytes: Vec<u8>,
+}
+
+impl Sample {
+    /// Opens, with version 5 in the first pack, no second pack, and an empty table and journal.
+    pub fn new() -> Sample {
+        let mut sample = Sample { bytes: vec![0; 4608 * 4096] };
+        sample.bytes[1024..1028].copy_from_slice(&[0x10, 0x20, 0xF5, 0xF2]);
+        let fields = [
+            (8, 9), (12, 3), (16, 12), (20, 9), (24, 1), (28, 1), (36, 4608), (48, 8), (52, 2),
+            (56, 2), (60, 2), (64, 1), (68, 1), (72, 512), (76, 512), (80, 1536), (84, 2560),
+            (88, 3584), (92, 4096), (96, 3), (100, 1), (104, 2),
+        ];
+        for (at, value) in fields {
+            sample.put32(0, 1024 + at, value);
+        }
+        sample.put_pack(FIRST_PACK, 5, 8);
+        sample
+    }
+
+    pub fn resize_main(&mut self, segments: u32) {
+        let blocks = 4096 + 512 * segments;
+        self.bytes.resize(blocks as usize * 4096, 0);
+        self.put32(0, 1024 + 36, blocks);
+        self.put32(0, 1024 + 48, 7 + segments);
+        self.put32(0, 1024 + 68, segments);
+    }
+
+    pub fn put(&mut self, block: usize, at: usize, bytes: &[u8]) {
+        let start = block * 4096 + at;
+        self.bytes[start..start + bytes.len()].copy_from_slice(bytes);
+    }
+
+    pub fn put16(&mut self, block: usize, at: usize, value: u16) {
+        self.put(block, at, &value.to_le_bytes());
+    }
+
+    pub fn put32(&mut self, block: usize, at: usize, value: u32) {
+        self.put(block, at, &value.to_le_bytes());
+    }
+
+    pub fn put64(&mut self, block: usize, at: usize, value: u64) {
+        self.put(block, at, &value.to_le_bytes());
+    }
+
+    pub fn copy_block(&mut self, from: usize, to: usize) {
+        self.bytes.copy_within(from * 4096..(from + 1) * 4096, to * 4096);
+    }
+
+    /// Writes the checksum of a checkpoint block.
+    pub fn seal(&mut self, block: usize) {
+        self.put32(block, 164, 4092);
+        let sum = checksum(&self.bytes[block * 4096..block * 4096 + 4092]);
+        self.put32(block, 4092, sum);
+    }
+
+    /// An unmounted pack; with 8 blocks its journal is in block 1.
+    pub fn put_pack(&mut self, start: usize, version: u64, total: u32) {
+        for block in [start, start + total as usize - 1] {
+            self.put64(block, 0, version);
+            self.put32(block, 132, 1);
+            self.put32(block, 136, total);
+            self.put32(block, 156, 64);
+            self.put32(block, 160, 64);
+            self.seal(block);
+        }
+    }
+
+    pub fn put_nat(&mut self, table_block: usize, slot: usize, inode: u32, address: u32) {
+        self.put32(table_block, slot * 9 + 1, inode);
+        self.put32(table_block, slot * 9 + 5, address);
+    }
+
+    /// Entries of number, inode and address in the first pack's journal.
+    pub fn put_journal(&mut self, entries: &[(u32, u32, u32)]) {
+        let block = FIRST_PACK + 1;
+        self.put16(block, 3584, entries.len() as u16);
+        for (position, &(number, inode, address)) in entries.iter().enumerate() {
+            let at = 3586 + 13 * position;
+            self.put32(block, at, number);
+            self.put32(block, at + 5, inode);
+            self.put32(block, at + 9, address);
+        }
+    }
+
+    /// A node's table entry (numbers below 455) and footer.
+    pub fn put_node(&mut self, number: u32, inode: u32, place: u32, address: u32) {
+        self.put_nat(NAT, number as usize, inode, address);
+        let block = address as usize;
+        self.put32(block, 4072, number);
+        self.put32(block, 4076, inode);
+        self.put32(block, 4080, place * 8);
+    }
+
+    /// An inode with its mode and size.
+    pub fn put_inode(&mut self, number: u32, mode: u16, size: u64, address: u32) {
+        self.put_node(number, number, 0, address);
+        self.put16(address as usize, 0, mode);
+        self.put64(address as usize, 16, size);
+    }
+
+    /// A dentry at a slot: its map bit, hash, inode, length and name.
+    pub fn put_dentry(&mut self, block: usize, slot: usize, hash: u32, inode: u32, name: &[u8]) {
+        self.bytes[block * 4096 + slot / 8] |= 1 << (slot % 8);
+        let entry = 30 + 11 * slot;
+        self.put32(block, entry, hash);
+        self.put32(block, entry + 4, inode);
+        self.put16(block, entry + 8, name.len() as u16);
+        self.put(block, 2384 + 8 * slot, name);
+    }
+}
