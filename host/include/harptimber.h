@@ -1,6 +1,7 @@
 /*
- * Harptimber: a proved library for reading F2FS cards. So far it has the two calls that need no card:
- * the hash of a file name, and the place of a file's block.
+ * Harptimber: a proved library for reading F2FS cards. So far it has the two calls that need no card,
+ * the hash of a file name and the place of a file's block, and the one that opens a card and looks up a
+ * node in its table.
  *
  * Link target/staticlib/libharptimber.a, which `rt staticlib harptimber` writes at the repository's
  * root. A call keeps nothing for the next one and touches only the memory that it is lent.
@@ -29,9 +30,14 @@ extern "C" {
 
 /* What an answer number means. */
 enum harptimber_answer {
-    HARPTIMBER_DATA = 0,        /* done: the other fields hold the result */
-    HARPTIMBER_PAST_END = 3,    /* the block index lies past the last one */
-    HARPTIMBER_OUT_OF_SHAPE = 4 /* the call itself is out of shape: a bad name or number */
+    HARPTIMBER_DATA = 0,          /* done: the other fields hold the result */
+    HARPTIMBER_PAST_END = 3,      /* the block index lies past the last one */
+    HARPTIMBER_OUT_OF_SHAPE = 4,  /* the call itself is out of shape: a bad name, number or length */
+    HARPTIMBER_NO_SUPERBLOCK = 5, /* neither copy of the superblock passes */
+    HARPTIMBER_FEATURES = 6,      /* the card has features or a payload, which aren't read */
+    HARPTIMBER_NO_CHECKPOINT = 7, /* neither checkpoint pack passes */
+    HARPTIMBER_UNREADABLE = 8,    /* the checkpoint pack in use has its maps or journal out of place */
+    HARPTIMBER_NO_NODE = 9        /* the node number is out of range */
 };
 
 /* The result of harptimber_name_hash. */
@@ -72,6 +78,20 @@ struct harptimber_place {
  * 1,057,052,515; a greater one is HARPTIMBER_PAST_END.
  */
 struct harptimber_place harptimber_file_place(uint32_t addresses, uint32_t index);
+
+/* The result of harptimber_node_lookup: a number's entry in the node table. */
+struct harptimber_entry {
+    uint32_t answer;  /* HARPTIMBER_DATA, or HARPTIMBER_OUT_OF_SHAPE to HARPTIMBER_NO_NODE (4 to 9) */
+    uint32_t inode;   /* number of the inode that the node belongs to, as stored */
+    uint32_t address; /* block that the node is in, as stored: 0 if the number isn't in use */
+};
+
+/*
+ * What a card's node table, with its journal, says of node `number`. `image` is the whole card: 2 to
+ * 262,144 blocks of 4,096 bytes; any other length is HARPTIMBER_OUT_OF_SHAPE. Numbers run from 1 to
+ * 116,480 times the card's NAT segments, less 1; any other is HARPTIMBER_NO_NODE.
+ */
+struct harptimber_entry harptimber_node_lookup(const uint8_t *image, size_t image_len, uint32_t number);
 
 #ifdef __cplusplus
 }

@@ -6,19 +6,8 @@
 #include <stdio.h>
 #include <string.h>
 
+#include "check.h"
 #include "harptimber.h"
-
-static int passed, failed;
-
-/* Counts a test and says whether it failed, so that the caller can print the input. */
-static int fails(int holds)
-{
-    if (holds)
-        passed++;
-    else
-        failed++;
-    return !holds;
-}
 
 static void expect_hash(const char *label, const char *name, size_t len, uint32_t answer, uint32_t hash)
 {
@@ -151,6 +140,5 @@ int main(void)
     test_places_of_923();
     test_places_of_873();
     test_place_refusals();
-    printf("%d passed, %d failed\n", passed, failed);
-    return failed != 0;
+    return finish();
 }

@@ -1,6 +1,12 @@
 //! Safe wrappers over the archive's C functions, with structs as in host/include/harptimber.h, and
 //! what the tests share.
 
+pub mod damage;
+pub mod image;
+pub mod knobs;
+pub mod layout;
+pub mod lookups;
+pub mod random_card;
 pub mod trial;
 
 /// The result of `name_hash`.
@@ -28,10 +34,20 @@ pub struct Place {
     pub way: [Step; 4],
 }
 
+/// The result of `node_lookup`.
+#[repr(C)]
+#[derive(Clone, Copy, Debug, PartialEq, Eq)]
+pub struct Entry {
+    pub answer: u32,
+    pub inode: u32,
+    pub address: u32,
+}
+
 #[link(name = "harptimber", kind = "static")]
 extern "C" {
     fn harptimber_name_hash(name: *const u8, name_len: usize) -> Hashed;
     fn harptimber_file_place(addresses: u32, index: u32) -> Place;
+    fn harptimber_node_lookup(image: *const u8, image_len: usize, number: u32) -> Entry;
 }
 
 pub fn name_hash(name: &[u8]) -> Hashed {
@@ -42,4 +58,9 @@ pub fn name_hash(name: &[u8]) -> Hashed {
 pub fn file_place(addresses: u32, index: u32) -> Place {
     // SAFETY: only numbers cross.
     unsafe { harptimber_file_place(addresses, index) }
+}
+
+pub fn node_lookup(image: &[u8], number: u32) -> Entry {
+    // SAFETY: a slice's pointer is never null, and its bytes can be read.
+    unsafe { harptimber_node_lookup(image.as_ptr(), image.len(), number) }
 }

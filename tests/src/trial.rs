@@ -12,6 +12,10 @@ const MOST_MISMATCHES: usize = 10;
 pub struct Random(u64);
 
 impl Random {
+    pub fn new(seed: u64) -> Random {
+        Random(seed)
+    }
+
     pub fn number(&mut self) -> u64 {
         self.0 = self.0.wrapping_add(0x9E37_79B9_7F4A_7C15);
         let mut mixed = self.0;
@@ -48,7 +52,7 @@ impl Trial {
             rounds: setting("HARPTIMBER_ROUNDS", 1),
             compared: 0,
             mismatches: Vec::new(),
-            random: Random(seed),
+            random: Random::new(seed),
         }
     }
 
