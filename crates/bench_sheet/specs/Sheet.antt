@@ -5,7 +5,7 @@ use mathlib.Core.Path.{_≡_, refl}
 use mathlib.Core.List.{List, [], _∷_}
 use mathlib.Core.List as List
 use mathlib.Core.Bool.{Bool, true, false}
-use Prim.Native.Nat.{ℕ, _+_}
+use Prim.Native.Nat.{ℕ, _+_, _/_, _%_, _^_}
 use Rattle.field.specs.Map.{topBit, lowBit}
 use Rattle.place.specs.Place.{placeOf}
 use Rattle.place.specs.Way.{step, wayOf}
@@ -17,6 +17,13 @@ use Rattle.superblock.specs.declared.Found.the-variants.{At, Refused}
 use Rattle.superblock.specs.Superblock.{logsPass, unitsPass, countsPass, areasPass, endsPass, fieldsPass}
 use Rattle.superblock.specs.Areas.{areasOf, accepted}
 use Rattle.nat.specs.Table.{tableBlock, copyAddress}
+use Rattle.directory.specs.Level.{bucketsOf, blocksOf, firstOf}
+use Rattle.directory.specs.Slot.{wanted, entryAt, wellFormed, matches, slotAt}
+use Rattle.directory.specs.declared.Slot.{Slot}
+use Rattle.directory.specs.declared.Slot.the-variants.{Free, Match, Other, Malformed}
+use Rattle.field.specs.Number.{le16, le32}
+use Rattle.field.specs.Bytes.{sameAt}
+use lib.ListN.{set, replicate}
 
 -- a line: the numbers computed, and the numbers stated
 record Line : Type 0 where
@@ -73,6 +80,17 @@ abbrev mainArea : Found → List ℕ
 mainArea (At a) = a .main ∷ a .«main_segments» ∷ a .«main_end» ∷ []
 mainArea (Refused answer) = answer ∷ []
 
+-- a directory block whose one entry, at a slot, has a name of so many bytes: its bit, and the length in its entry
+abbrev oneEntry : ℕ → ℕ → List ℕ
+oneEntry slot length = set (set (replicate 4096 0) (slot / 8) (2 ^ (slot % 8))) (entryAt slot + 8) length
+
+-- 14 where the slot is malformed
+abbrev slotAnswer : Slot → List ℕ
+slotAnswer Malformed = 14 ∷ []
+slotAnswer Free = 1 ∷ []
+slotAnswer (Match ino) = 2 ∷ []
+slotAnswer (Other slots) = 0 ∷ []
+
 abbrev one : Bool → ℕ
 one true = 1
 one false = 0
@@ -104,8 +122,13 @@ sheet =
     ∷ (way 923 1057053439 is [])
     -- "A = 873: 873 is first direct entry 0."
     ∷ (way 873 873 is (0 ∷ 0 ∷ 1 ∷ 0 ∷ []))
+    -- "Levels 0 to 3 start at 0, 2, 6, 14; level 29 at 1,073,741,822."
+    ∷ (List.map firstOf (0 ∷ 1 ∷ 2 ∷ 3 ∷ 29 ∷ []) is (0 ∷ 2 ∷ 6 ∷ 14 ∷ 1073741822 ∷ []))
+    -- "Length 8 at slot 213 fits; length 9 is 14."
+    ∷ (slotAnswer (slotAt (oneEntry 213 8) (wanted 1 []) 213) is (0 ∷ []))
+    ∷ (slotAnswer (slotAt (oneEntry 213 9) (wanted 1 []) 213) is (14 ∷ []))
     ∷ []
 
 pub bench-sheet : List.map (λ l. l .computed) sheet ≡ List.map (λ l. l .stated) sheet
-unfolding topBit lowBit placeOf logsPass unitsPass countsPass areasPass endsPass fieldsPass
+unfolding topBit lowBit placeOf logsPass unitsPass countsPass areasPass endsPass fieldsPass bucketsOf blocksOf firstOf le16 le32 sameAt wellFormed matches slotAt
 bench-sheet = refl

@@ -5,6 +5,7 @@ ghost use mathlib.Core.List.{[]};
 ghost use Rattle.place.specs.Way.{inArray};
 ghost use Rattle.name_hash.specs.Answer.{hashed};
 ghost use Rattle.nat.specs.Lookup.{answered, lookupOf};
+ghost use Rattle.pull.specs.Pull.{lending, result, pulled};
 ghost use Rattle.harptimber.specs.NameHash.{nameHash};
 ghost use Rattle.harptimber.specs.FilePlace.{crossing, placed, filePlace};
 
@@ -106,4 +107,19 @@ pub extern "C" fn harptimber_node_lookup(image: &[u8], number: u32) -> nat::Look
             address: 0,
         },
     }
+}
+
+#[no_mangle]
+pub extern "C" fn harptimber_pull(
+    image: &[u8],
+    name: &[u8],
+    index: u32,
+    block: &mut [u8],
+    nodes: &mut [u8],
+    blocks: &mut [u8],
+) -> pull::Pulled
+    ensures { λ r. ⌜ result r (lending (now (block .exit)) (now (nodes .exit)) (now (blocks .exit)))
+        ≡ pulled (now (image .entry)) (now (name .entry)) index (lending (now (block .entry)) (now (nodes .entry)) (now (blocks .entry))) ⌝ }
+{
+    pull::pull(image, name, index, block, nodes, blocks)
 }

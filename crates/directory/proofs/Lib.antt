@@ -1,0 +1,4 @@
+pub mod Slots
+pub mod Levels
+pub mod Sizes
+pub mod Turns

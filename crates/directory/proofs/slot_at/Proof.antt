@@ -1,0 +1,111 @@
+-- `directory::slot_at` meets its contract: each return is one case of a slot's meaning. Assumes nothing.
+use native.Mathlib.Omega.{arith}
+use mathlib.Core.Path.{_≡_, sym, _∙_}
+use borrow.Author.Needs.{needs}
+use borrow.Author.Tests.{not-true, not-false}
+use Rattle.field.specs.Map.{lowBit}
+use Rattle.directory.specs.Slot.{wellFormed}
+use Rattle.directory.proofs.Slots.{slot-free, slot-malformed, Formed, other-hash, other-length, other-bytes, slot-match, formed}
+use Rattle.directory.proofs.slot_at.Statement.{statement}
+use Rattle.directory.proofs.slot_at.Tie as tie
+
+-- past the first test the slot is in use, and past the second a well-formed entry starts in it
+used : (k : tie.Else1) → lowBit (k .before .before .before .before .args .block .now) (k .before .before .before .before .args .slot) ≡ 0 → ⊥
+used k z = k .if1 .left (k .before .slot-bit .ensures ∙ z)
+
+entry : (k : tie.Else2) → Formed (k .before .before .before .before .before .before .args .block .now) (k .before .before .before .before .before .before .args .slot) (k .before .get16 .result)
+unfolding wellFormed
+entry k = record { used = used (k .before .before); sized = k .before .get16 .ensures; fits = not-false _ (k .if2 .left) }
+
+slot-bit-requires : tie.Need-slot-bit-requires
+slot-bit-requires c κs = search needs
+
+returns : tie.Need-returns
+returns c =
+    sym (slot-free _ _ _ (sym (c .before .slot-bit .ensures) ∙ c .if1 .taken))
+
+mul-entry : tie.Need-mul-entry
+mul-entry c = search needs
+
+add-entry : tie.Need-add-entry
+add-entry c = search needs
+
+add-get16 : tie.Need-add-get16
+add-get16 c = search needs
+
+get16-requires : tie.Need-get16-requires
+get16-requires c κs = search needs
+
+cast-length : tie.Need-cast-length
+cast-length c = search needs
+
+add-slots : tie.Need-add-slots
+add-slots c = search needs
+
+add-fits : tie.Need-add-fits
+add-fits c = search needs
+
+returns-2 : tie.Need-returns-2
+unfolding wellFormed
+returns-2 c =
+    sym (slot-malformed _ _ _ (used (c .before .before)) (c .before .get16 .ensures) (not-true _ (c .if2 .taken)))
+
+get32-requires : tie.Need-get32-requires
+get32-requires c κs = search needs
+
+returns-3 : tie.Need-returns-3
+returns-3 c =
+    sym (other-hash _ (entry (c .before .before)) (c .before .get32 .ensures) (c .if3 .taken))
+
+returns-4 : tie.Need-returns-4
+returns-4 c =
+    sym (other-length _ (entry (c .before .before .before)) (c .before .before .get32 .ensures) (c .before .if3 .left) (c .if4 .taken))
+
+mul-at : tie.Need-mul-at
+mul-at c = search needs
+
+add-at : tie.Need-add-at
+add-at c = search needs
+
+same-at-requires : tie.Need-same-at-requires
+same-at-requires c κs =
+    omega (arith, formed _ _ (entry (c .before .before .before) .fits))
+
+add-get32 : tie.Need-add-get32
+add-get32 c = search needs
+
+get32-requires-2 : tie.Need-get32-requires-2
+get32-requires-2 c κs = search needs
+
+returns-5 : tie.Need-returns-5
+returns-5 c =
+    sym (slot-match _ (entry (c .before .before .before .before .before .before)) (c .before .before .before .before .before .get32 .ensures) (c .before .before .before .before .if3 .left) (c .before .before .before .if4 .left) (c .before .before .same-at .ensures) (c .before .if5 .taken) (c .get322 .ensures))
+
+returns-6 : tie.Need-returns-6
+returns-6 c =
+    sym (other-bytes _ (entry (c .before .before .before .before .before)) (c .before .before .before .before .get32 .ensures) (c .before .before .before .if3 .left) (c .before .before .if4 .left) (c .before .same-at .ensures) (c .if5 .left))
+
+pub slot-at-spec : {M : Type 1} → statement M
+slot-at-spec =
+    tie.close
+    (tie.spec
+    slot-bit-requires
+    returns
+    mul-entry
+    add-entry
+    add-get16
+    get16-requires
+    cast-length
+    add-slots
+    add-fits
+    returns-2
+    get32-requires
+    returns-3
+    returns-4
+    mul-at
+    add-at
+    same-at-requires
+    add-get32
+    get32-requires-2
+    returns-5
+    returns-6)

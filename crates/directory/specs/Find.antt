@@ -1,0 +1,54 @@
+-- The search of a name in a directory: levels, in each its bucket's blocks, in each its slots.
+use Prim.Native.Nat.{ℕ, zero, suc, _+_}
+use mathlib.Core.List.{List}
+use Rattle.walk.specs.Walk.{Walk, done, Outcome, ok, stop, andThen}
+use Rattle.node.specs.Node.{Bounds}
+use Rattle.node.specs.Block.{Fetched, hole, held, blockWalk}
+use Rattle.directory.specs.declared.Entry.{Entry}
+use Rattle.directory.specs.declared.Entry.the-variants.{Found, Stop}
+use Rattle.directory.specs.Slot.{Wanted, Sought, absent, found, malformed, inBlock}
+use Rattle.directory.specs.Level.{blocksOf, bucketOf}
+
+-- a directory: the main area bounds, its inode's number and bytes, and how many addresses the inode holds
+pub record Directory : Type 0 where
+  pub bounds : Bounds
+  pub ino : ℕ
+  pub inode : List ℕ
+  pub addresses : ℕ
+
+abbrev pub directory : Bounds → ℕ → List ℕ → ℕ → Directory
+directory m ino inode A = record { bounds = m; ino = ino; inode = inode; addresses = A }
+
+unfoldable pub fetchWalk : Directory → ℕ → Walk (Outcome Fetched)
+fetchWalk d index = blockWalk (d .bounds) (d .ino) (d .inode) (d .addresses) index
+
+-- "stopping at the first match"; 14 is "malformed directory slot"
+abbrev pub afterSlots : Walk (Outcome ℕ) → Sought → Walk (Outcome ℕ)
+afterSlots rest absent = rest
+afterSlots rest (found ino) = done (ok ino)
+afterSlots rest malformed = done (stop 14)
+
+-- "A hole is an empty block"
+unfoldable pub afterBlock : Wanted → Walk (Outcome ℕ) → Fetched → Walk (Outcome ℕ)
+afterBlock w rest hole = rest
+afterBlock w rest (held block) = afterSlots rest (inBlock block w)
+
+-- "its blocks in order": n blocks of a level's bucket from block k on, and then `rest`
+unfoldable pub bucketWalk : Directory → Wanted → ℕ → Walk (Outcome ℕ) → ℕ → ℕ → Walk (Outcome ℕ)
+bucketWalk d w level rest zero k = rest
+bucketWalk d w level rest (suc n) k =
+    andThen (fetchWalk d (bucketOf level (w .hash) + k)) (afterBlock w (bucketWalk d w level rest n (k + 1)))
+
+-- n levels from a level on; 2 is "no such name"
+unfoldable pub levelsWalk : Directory → Wanted → ℕ → ℕ → Walk (Outcome ℕ)
+levelsWalk d w zero level = done (stop 2)
+levelsWalk d w (suc n) level = bucketWalk d w level (levelsWalk d w n (level + 1)) (blocksOf level) 0
+
+-- "Search levels 0 to depth − 1": the inode number in the name's entry
+unfoldable pub findWalk : Directory → Wanted → ℕ → Walk (Outcome ℕ)
+findWalk d w depth = levelsWalk d w depth 0
+
+-- the code's answer as the walk's
+abbrev pub entryOf : Entry → Outcome ℕ
+entryOf (Found ino) = ok ino
+entryOf (Stop answer) = stop answer

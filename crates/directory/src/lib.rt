@@ -1,0 +1,214 @@
+// A name sought in a directory: its slots, its hash levels, and the nested search.
+// What each means is in specs/: Slot, Level, Find.
+ghost use mathlib.Core.Path.{_≡_};
+ghost use Prim.Native.Nat.{_<_, _≤_};
+ghost use lib.ListN.{length};
+ghost use Rattle.field.specs.Map.{lowBit};
+ghost use Rattle.field.specs.Card.{cardOf};
+ghost use Rattle.place.specs.Place.{lastIndex};
+ghost use Rattle.checkpoint.specs.Volume.{VolumeIn};
+ghost use Rattle.walk.specs.Walk.{viewOf, lent, Walked, Room};
+ghost use Rattle.node.specs.Node.{boundsOf};
+ghost use Rattle.node.specs.Found.{dataOf, DataIn};
+ghost use Rattle.directory.specs.Slot.{wanted, slotAt};
+ghost use Rattle.directory.specs.Level.{bucketsOf, blocksOf, firstOf, levelOf};
+ghost use Rattle.directory.specs.Find.{directory, fetchWalk, findWalk, entryOf};
+
+// What one slot of a directory block holds: nothing, the name's inode number, another entry and how many slots it has, or an
+// entry that doesn't fit.
+pub enum Slot {
+    Free,
+    Match(u32),
+    Other(usize),
+    Malformed,
+}
+
+// The bucket of a hash in a level: how many blocks it has and the first of them, and the first block of the level after.
+pub struct Level {
+    pub count: usize,
+    pub bucket: usize,
+    pub after: usize,
+}
+
+// The inode number in the name's entry, or the answer that ends the walk.
+pub enum Entry {
+    Found(u32),
+    Stop(u32),
+}
+
+// What was found, and how many nodes and blocks are listed then.
+pub struct EntryStep {
+    pub entry: Entry,
+    pub nodes: usize,
+    pub blocks: usize,
+}
+
+// A slot's bit in the block's map: the order of a directory map's bits is chosen here alone.
+fn slot_bit(block: &[u8], slot: usize) -> u8
+    requires { ⌜ (length (now block) ≡ 4096) × (slot < 214) ⌝ }
+    ensures { λ r. ⌜ r ≡ lowBit (now (block .entry)) slot ⌝ }
+{
+    field::low_bit(block, slot)
+}
+
+// One slot of a directory block. The name's bytes are compared only where hash and length are the name's.
+fn slot_at(block: &[u8], slot: usize, hash: u32, name: &[u8]) -> Slot
+    requires { ⌜ (length (now block) ≡ 4096) × (slot < 214) ⌝ }
+    ensures { λ r. ⌜ r ≡ slotAt (now (block .entry)) (wanted hash (now (name .entry))) slot ⌝ }
+{
+    if slot_bit(block, slot) == 0 {
+        return Slot::Free;
+    }
+    let entry = 30 + 11 * slot;
+    let length = field::get16(block, entry + 8) as usize;
+    let slots = (length + 7) / 8;
+    let fits = (1 <= length) & (length <= 255) & (slot + slots <= 214);
+    if !fits {
+        return Slot::Malformed;
+    }
+    if field::get32(block, entry) != hash {
+        return Slot::Other(slots);
+    }
+    if length != name.len() {
+        return Slot::Other(slots);
+    }
+    let at = 2384 + 8 * slot;
+    if field::same_at(block, at, name) {
+        return Slot::Match(field::get32(block, entry + 4));
+    }
+    Slot::Other(slots)
+}
+
+fn buckets_in(level: usize) -> usize
+    ensures { λ r. ⌜ r ≡ bucketsOf level ⌝ }
+{
+    if level < 31 {
+        return 1usize << (level as u32);
+    }
+    1073741824
+}
+
+fn blocks_in(level: usize) -> usize
+    ensures { λ r. ⌜ r ≡ blocksOf level ⌝ }
+{
+    if level < 31 {
+        return 2;
+    }
+    4
+}
+
+// The bucket of a hash in the level that starts at block `first`.
+fn level_at(level: usize, first: usize, hash: u32) -> Level
+    requires { ⌜ (level < 63) × (first ≡ firstOf level) ⌝ }
+    ensures { λ r. ⌜ r ≡ levelOf level hash ⌝ }
+{
+    let buckets = buckets_in(level);
+    let count = blocks_in(level);
+    Level {
+        count,
+        bucket: first + (hash as usize) % buckets * count,
+        after: first + buckets * count,
+    }
+}
+
+// The block of an index of a directory. Past the last index there is none, and no room is asked for.
+fn fetch(
+    image: &[u8],
+    v: checkpoint::Volume,
+    nodes: &mut [u8],
+    blocks: &mut [u8],
+    nc: usize,
+    bc: usize,
+    file: node::File,
+    index: usize,
+) -> node::DataStep
+    requires { ⌜ (index ≤ lastIndex (file .addresses) → Room 3 4 (lent (now nodes) (now blocks) nc bc)) ⌝ }
+    requires { ⌜ VolumeIn (cardOf (now image)) v ⌝ }
+    requires { ⌜ (file .inode < cardOf (now image) .blocks) × (file .addresses ≤ 923) ⌝ }
+    ensures { λ r. ⌜ Walked (viewOf (cardOf (now (image .entry))) v)
+        (fetchWalk (directory (boundsOf v) (file .ino) (cardOf (now (image .entry)) .block (file .inode)) (file .addresses)) index)
+        (lent (now (nodes .entry)) (now (blocks .entry)) nc bc) (dataOf (cardOf (now (image .entry))) (r .data))
+        (lent (now (nodes .exit)) (now (blocks .exit)) (r .nodes) (r .blocks)) ⌝ }
+    ensures { λ r. ⌜ DataIn (cardOf (now (image .entry))) (r .data) ⌝ }
+{
+    let last = file.addresses as usize + 1057052515;
+    if last < index {
+        return node::DataStep {
+            data: node::Data::Hole,
+            nodes: nc,
+            blocks: bc,
+        };
+    }
+    node::data_block(image, v, nodes, blocks, nc, bc, file, index as u32)
+}
+
+// The name sought in a directory: levels 0 to depth - 1, in each the blocks of the hash's bucket in order, in each block its
+// slots rising, until the first match or the first answer that ends the walk.
+pub fn find(
+    image: &[u8],
+    v: checkpoint::Volume,
+    nodes: &mut [u8],
+    blocks: &mut [u8],
+    nc: usize,
+    bc: usize,
+    file: node::File,
+    depth: usize,
+    hash: u32,
+    name: &[u8],
+) -> EntryStep
+    requires { ⌜ Room 174 232 (lent (now nodes) (now blocks) nc bc) ⌝ }
+    requires { ⌜ VolumeIn (cardOf (now image)) v ⌝ }
+    requires { ⌜ (file .inode < cardOf (now image) .blocks) × (file .addresses ≤ 923) × (depth ≤ 63) ⌝ }
+    ensures { λ r. ⌜ Walked (viewOf (cardOf (now (image .entry))) v)
+        (findWalk (directory (boundsOf v) (file .ino) (cardOf (now (image .entry)) .block (file .inode)) (file .addresses))
+        (wanted hash (now (name .entry))) depth)
+        (lent (now (nodes .entry)) (now (blocks .entry)) nc bc) (entryOf (r .entry))
+        (lent (now (nodes .exit)) (now (blocks .exit)) (r .nodes) (r .blocks)) ⌝ }
+{
+    let mut nn = nc;
+    let mut bb = bc;
+    let mut level: usize = 0;
+    let mut first: usize = 0;
+    let entry = 'levels: loop {
+        if depth <= level {
+            break 'levels Entry::Stop(2);
+        }
+        let here = level_at(level, first, hash);
+        let count = here.count;
+        let bucket = here.bucket;
+        let mut k: usize = 0;
+        'bucket: while k < count {
+            let step = fetch(image, v, nodes, blocks, nn, bb, file, bucket + k);
+            k += 1;
+            nn = step.nodes;
+            bb = step.blocks;
+            let data = step.data;
+            let at = match data {
+                node::Data::Hole => continue 'bucket,
+                node::Data::Stop(answer) => break 'levels Entry::Stop(answer),
+                node::Data::At(address) => address,
+            };
+            let block = field::block_at(image, at);
+            let mut slot: usize = 0;
+            'slots: while slot < 214 {
+                match slot_at(block, slot, hash, name) {
+                    Slot::Free => {
+                        slot += 1;
+                    }
+                    Slot::Match(ino) => break 'levels Entry::Found(ino),
+                    Slot::Other(passed) => {
+                        slot += passed;
+                    }
+                    Slot::Malformed => break 'levels Entry::Stop(14),
+                }
+            }
+        }
+        first = here.after;
+        level += 1;
+    };
+    EntryStep {
+        entry,
+        nodes: nn,
+        blocks: bb,
+    }
+}

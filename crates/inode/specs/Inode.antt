@@ -1,0 +1,39 @@
+-- What is read of an inode, and which inodes are read. "In an inode: mode 0 (16 bits; top four bits 4 directory, 8 regular), inline
+-- byte 3, size 16 (64 bits), depth 72, directory level 347 (one byte)"
+use Prim.Native.Nat.{ℕ, _+_, _-_, _*_, _/_, _%_}
+use mathlib.Core.Bool.{Bool, _&&_, _||_}
+use mathlib.Core.List.{List}
+use lib.ListN.{getD}
+use lib.Dec.{ltb, leb, eqb}
+use Rattle.field.specs.Number.{le16, le32, le64}
+use Rattle.field.specs.Choice.{choose}
+use Rattle.place.specs.Place.{lastIndex}
+use Rattle.inode.specs.declared.Inode.{Inode}
+
+unfoldable pub inodeOf : List ℕ → Inode
+inodeOf block =
+    record { mode = le16 block 0; inline = getD block 3 0; size = le64 block 16; depth = le32 block 72; level = getD block 347 0 }
+
+-- "inline bits 2, 4 and 20 hex clear"
+unfoldable pub notInline : ℕ → Bool
+notInline inline = eqb (inline / 2 % 2) 0 && eqb (inline / 4 % 2) 0 && eqb (inline / 32 % 2) 0
+
+-- "The root must be a directory .., else 12"; "Depth over 63 or directory level not 0: 12."
+unfoldable pub isDirectory : Inode → Bool
+isDirectory i = eqb (i .mode / 4096) 4 && notInline (i .inline) && leb (i .depth) 63 && eqb (i .level) 0
+
+-- ".. and the file regular .., else 12"
+unfoldable pub isRegular : Inode → Bool
+isRegular i = eqb (i .mode / 4096) 8 && notInline (i .inline)
+
+-- "Inline bit 1 set: A = 873 addresses, else A = 923."
+unfoldable pub addressesIn : Inode → ℕ
+addressesIn i = choose (eqb (i .inline % 2) 1) 873 923
+
+-- "Answer 3 if index × 4,096 ≥ size or the index is larger."
+unfoldable pub isPast : Inode → ℕ → Bool
+isPast i index = leb (i .size) (index * 4096) || ltb (lastIndex (addressesIn i)) index
+
+-- "Count: the smaller of 4,096 and size − 4,096 × index."
+unfoldable pub countIn : Inode → ℕ → ℕ
+countIn i index = choose (leb 4096 (i .size - index * 4096)) 4096 (i .size - index * 4096)

@@ -1,0 +1,4 @@
+pub mod Cases
+pub mod Sizes
+pub mod Results
+pub mod Theorems

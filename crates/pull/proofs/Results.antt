@@ -1,0 +1,88 @@
+-- From a walk over lent lists to a pull's result: every number and every lent byte. Then the call's shape, taken apart.
+-- Assumes nothing.
+use Prim.Native.Nat.{ℕ, _*_, _/_, _≤_, _<_}
+use native.Mathlib.Omega.{arith}
+use mathlib.Core.Path.{_≡_, refl, sym, ap, _∙_}
+use mathlib.Core.Bool.{Bool, true, false, _&&_, and-false}
+use mathlib.Core.List.{List}
+use lib.ListN.{length, getD}
+use lib.Dec.{eqb, leb}
+use Rattle.field.specs.Card.{Card, cardOf}
+use Rattle.field.specs.Choice.{choose}
+use Rattle.field.proofs.Choosing.{needed-eq, needed-le}
+use Rattle.superblock.specs.Shape.{inShape}
+use Rattle.checkpoint.specs.declared.Volume.{Volume}
+use Rattle.checkpoint.specs.declared.Opening.{Opening}
+use Rattle.checkpoint.specs.Volume.{openedImage}
+use Rattle.name_hash.specs.Name.{isName}
+use Rattle.name_hash.specs.Hash.{hashOf}
+use Rattle.walk.specs.Walk as walk
+use Rattle.walk.proofs.Written.{left-value, left-counts, left-nodes, left-blocks}
+use Rattle.node.specs.Node.{boundsOf}
+use Rattle.directory.specs.Slot.{wanted}
+use Rattle.pull.specs.declared.Pulled.{Pulled}
+use Rattle.pull.specs.Walk.{Block, pullWalk}
+use Rattle.pull.specs.Pull.{Lent, lending, Result, result, lentInShape, callInShape, answerOf, countOf, bufferAfter, refused, written, pullRun, pulledFrom, pulled}
+use Rattle.pull.proofs.Sizes.{pull-within}
+
+-- ---- the lent memory
+module _ (lent : Lent) (h : lentInShape lent ≡ true) where
+  pub block-room : length (lent .block) ≡ 4096
+  unfolding lentInShape
+  block-room = needed-eq (λ e. rw e refl) h
+
+  nodes-fit : 179 ≤ length (lent .nodes) / 4
+  unfolding lentInShape
+  nodes-fit = needed-le (λ e. rw (e, and-false) refl) h
+
+  blocks-fit : 238 ≤ length (lent .blocks) / 4
+  unfolding lentInShape
+  blocks-fit = needed-le (λ e. rw (e, and-false) refl) h
+
+  pub nodes-room : 4 * 179 ≤ length (lent .nodes)
+  nodes-room = let f = nodes-fit in omega arith
+
+  pub blocks-room : 4 * 238 ≤ length (lent .blocks)
+  blocks-room = let f = blocks-fit in omega arith
+
+-- ---- what a walk leaves
+module _ (card : Card) (v : Volume) (name : List ℕ) (index : ℕ) (lent : Lent) (shape : lentInShape lent ≡ true)
+    {nodes blocks : List ℕ} {n b : ℕ} {x : walk.Outcome Block}
+    (left : walk.Walked (walk.viewOf card v) (pullWalk (boundsOf v) (wanted (hashOf name) name) index) (walk.lent (lent .nodes) (lent .blocks) 0 0) x (walk.lent nodes blocks n b)) where
+  pub pull-written : (bytes : (k : ℕ) → getD nodes k 0 < 256) (bytes' : (k : ℕ) → getD blocks k 0 < 256) {block : List ℕ} {answer count : ℕ}
+      → answer ≡ answerOf x → count ≡ countOf x → block ≡ bufferAfter x (lent .block)
+      → result (record { answer = answer; «byte_count» = count; «node_count» = n; «block_count» = b }) (lending block nodes blocks) ≡ written (pullRun card v name index) lent
+  unfolding pullRun
+  pull-written f g {block} {answer} {count} p q r =
+      let value = left-value left in
+      let counts = left-counts left in
+      let size = pull-within (boundsOf v) (wanted (hashOf name) name) index in
+      let ns = left-nodes left size (nodes-room lent shape) (blocks-room lent shape) f in
+      let bs = left-blocks left size (nodes-room lent shape) (blocks-room lent shape) g in
+      let a = p ∙ ap answerOf value in
+      let c = q ∙ ap countOf value in
+      let d = r ∙ ap (λ (o : walk.Outcome Block). bufferAfter o (lent .block)) value in
+      λ i. record {
+        numbers = record { answer = a i; «byte_count» = c i; «node_count» = counts .0 i; «block_count» = counts .1 i };
+        memory = record { block = d i; nodes = ns i; blocks = bs i };
+      }
+
+-- ---- the call
+module _ (image name : List ℕ) (index : ℕ) (lent : Lent) where
+  pub call-refused : callInShape image name lent ≡ false → pulled image name index lent ≡ refused 4 lent
+  unfolding pulled
+  call-refused e = rw e
+
+  pub call-opens : (opening : Opening) → callInShape image name lent ≡ true → openedImage image ≡ opening
+      → pulled image name index lent ≡ pulledFrom (cardOf image) opening name index lent
+  unfolding pulled
+  call-opens opening e o = rw (e, o)
+
+  pub lent-shape : callInShape image name lent ≡ true → lentInShape lent ≡ true
+  unfolding callInShape
+  lent-shape h = last (inShape (length image) && isName name) (lentInShape lent) h
+    where
+      last : (a b : Bool) → a && b ≡ true → b ≡ true
+      last true b e = e
+      last false true e = refl
+      last false false e = e

@@ -1,0 +1,147 @@
+-- What is so of every pull, whatever the image, the name, the index and the lent memory. Each is stated over `pulled`, the definition
+-- that the contract cites. Assumes nothing.
+use Prim.Native.Nat.{ℕ, _≤_}
+use native.Mathlib.Omega.{arith}
+use mathlib.Core.Path.{_≡_, refl, sym, subst}
+use mathlib.Core.Bool.{Bool, true, false, _&&_, _||_}
+use mathlib.Core.Logic.{_↔_}
+use borrow.Author.Tests.{eqb-true, leb-true}
+use lib.Dec.{eqb, leb}
+use mathlib.Core.List.{List, List·Memᴰ}
+use lib.ListN.{length}
+use Rattle.field.specs.Card.{Card, cardOf}
+use Rattle.checkpoint.specs.declared.Volume.{Volume}
+use Rattle.checkpoint.specs.declared.Opening.{Opening}
+use Rattle.checkpoint.specs.declared.Opening.the-variants.{Opened, Refused}
+use Rattle.checkpoint.specs.Volume.{openedImage}
+use Rattle.checkpoint.proofs.Inside.{refusals}
+use Rattle.name_hash.specs.Hash.{hashOf}
+use Rattle.walk.specs.Lists.{Rising, AllOf, numbers}
+use Rattle.walk.specs.Walk.{View, viewOf, empty, Walk, run, Outcome, ok, stop, ending, Ended, Within, AsksNode, AsksBlock}
+use Rattle.walk.proofs.Runs.{run-rising}
+use Rattle.walk.proofs.Sizes.{few-listed, run-reads, run-value}
+use Rattle.walk.proofs.Asked.{nodes-exact, blocks-exact}
+use Rattle.walk.proofs.Written.{numbers-over}
+use Rattle.node.specs.Node.{boundsOf, inMain}
+use Rattle.node.specs.Block.{Fetched, hole, held}
+use Rattle.directory.specs.Slot.{wanted}
+use Rattle.pull.specs.Walk.{Block, pullWalk}
+use Rattle.pull.specs.Pull.{Lent, Result, callInShape, contentAnswer, answerOf, countOf, refused, written, pullRun, pulled}
+use Rattle.pull.proofs.Sizes.{Counted, pull-within}
+use Rattle.pull.proofs.Results.{call-refused, call-opens}
+
+-- the two lists as a pull leaves them, up to their counts
+abbrev pub nodesListed : Result → List ℕ
+nodesListed r = numbers (r .memory .nodes) 0 (r .numbers .«node_count»)
+
+abbrev pub blocksListed : Result → List ℕ
+blocksListed r = numbers (r .memory .blocks) 0 (r .numbers .«block_count»)
+
+-- the walk of a pull on an opened card
+abbrev pub walkOf : Volume → List ℕ → ℕ → Walk (Outcome Block)
+walkOf v name index = pullWalk (boundsOf v) (wanted (hashOf name) name) index
+
+-- an answer that ends a walk is 2 to 14
+ending-inside : (answer : ℕ) → ending answer ≡ true → (2 ≤ answer) × (answer ≤ 14)
+ending-inside answer h = go (eqb answer 2) refl (eqb answer 3) refl (leb 9 answer) refl (leb answer 14) refl h
+  where
+    go : (a : Bool) → eqb answer 2 ≡ a → (b : Bool) → eqb answer 3 ≡ b → (c : Bool) → leb 9 answer ≡ c → (d : Bool) → leb answer 14 ≡ d
+        → (a || b) || (c && d) ≡ true → (2 ≤ answer) × (answer ≤ 14)
+    go true e b f c g d k t = let is = eqb-true answer 2 e in (omega arith, omega arith)
+    go false e true f c g d k t = let is = eqb-true answer 3 f in (omega arith, omega arith)
+    go false e false f true g true k t = (omega (arith, leb-true 9 answer g), leb-true answer 14 k)
+    go false e false f true g false k t = let z : _≡_ {A = ℕ} 0 1 = cc in absurd (omega arith)
+    go false e false f false g d k t = let z : _≡_ {A = ℕ} 0 1 = cc in absurd (omega arith)
+
+-- ---- the walk's run, on any card
+module _ (card : Card) (v : Volume) (name : List ℕ) (index : ℕ) where
+  size : Within (λ b. inMain (boundsOf v) b ≡ true) (Ended Counted) 179 238 (walkOf v name index)
+  size = pull-within (boundsOf v) (wanted (hashOf name) name) index
+
+  run-few : (length (pullRun card v name index .seen .nodes) ≤ 179) × (length (pullRun card v name index .seen .blocks) ≤ 238)
+  unfolding pullRun
+  run-few = few-listed (viewOf card v) (walkOf v name index) size
+
+  pub run-rises : Rising (pullRun card v name index .seen .nodes) × Rising (pullRun card v name index .seen .blocks)
+  unfolding pullRun
+  run-rises = run-rising (viewOf card v) empty (walkOf v name index) (tt, tt)
+
+  -- every block that is read lies in the main area
+  pub run-inside : AllOf (λ b. inMain (boundsOf v) b ≡ true) (pullRun card v name index .seen .blocks)
+  unfolding pullRun
+  run-inside = run-reads (viewOf card v) empty (walkOf v name index) size tt
+
+  run-ended : Ended Counted (pullRun card v name index .value)
+  unfolding pullRun
+  run-ended = run-value (viewOf card v) empty (walkOf v name index) size
+
+  run-exact : ((n : ℕ) → List·Memᴰ n (pullRun card v name index .seen .nodes) ↔ AsksNode (viewOf card v) (walkOf v name index) n)
+      × ((b : ℕ) → List·Memᴰ b (pullRun card v name index .seen .blocks) ↔ AsksBlock (viewOf card v) (walkOf v name index) b)
+  unfolding pullRun
+  run-exact = (nodes-exact (viewOf card v) (walkOf v name index), blocks-exact (viewOf card v) (walkOf v name index))
+
+-- ---- every pull
+
+-- A pull is refused with 4 to 8, or the card opens and its walk's result is written.
+pub data Ends (image name : List ℕ) (index : ℕ) (lent : Lent) (r : Result) : Type 0 where
+  refusal : (answer : ℕ) → 4 ≤ answer → answer ≤ 8 → r ≡ refused answer lent → Ends image name index lent r
+  walked : (v : Volume) → callInShape image name lent ≡ true → openedImage image ≡ Opened v
+      → r ≡ written (pullRun (cardOf image) v name index) lent → Ends image name index lent r
+
+module _ (image name : List ℕ) (index : ℕ) (lent : Lent) where
+  pub ends : Ends image name index lent (pulled image name index lent)
+  ends = go (callInShape image name lent) refl (openedImage image) refl
+    where
+      go : (b : Bool) → callInShape image name lent ≡ b → (o : Opening) → openedImage image ≡ o → Ends image name index lent (pulled image name index lent)
+      go false e o f = refusal 4 (omega arith) (omega arith) (call-refused image name index lent e)
+      go true e (Refused answer) f =
+          let few = refusals image answer f in
+          refusal answer (few .0) (few .1) (call-opens image name index lent (Refused answer) e f)
+      go true e (Opened v) f = walked v e f (call-opens image name index lent (Opened v) e f)
+
+  -- "at most 179 and 238"
+  pub counts : (pulled image name index lent .numbers .«node_count» ≤ 179) × (pulled image name index lent .numbers .«block_count» ≤ 238)
+  counts = go ends
+    where
+      go : {r : Result} → Ends image name index lent r → (r .numbers .«node_count» ≤ 179) × (r .numbers .«block_count» ≤ 238)
+      go (refusal answer p q e) = rw e (omega arith, omega arith)
+      go (walked v p q e) = rw e (run-few (cardOf image) v name index)
+
+  -- "each once, rising"
+  pub rising : Rising (nodesListed (pulled image name index lent)) × Rising (blocksListed (pulled image name index lent))
+  unfolding numbers
+  rising = go ends
+    where
+      go : {r : Result} → Ends image name index lent r → Rising (nodesListed r) × Rising (blocksListed r)
+      go (refusal answer p q e) = rw e (tt, tt)
+      go (walked v p q e) =
+          let runs = pullRun (cardOf image) v name index .seen in
+          rw (e, numbers-over (runs .nodes) (lent .nodes), numbers-over (runs .blocks) (lent .blocks)) (run-rises (cardOf image) v name index)
+
+  -- "Its lists hold exactly the node numbers looked up and the main-area blocks read": a number is listed if and only if the walk,
+  -- run on this card, asked it
+  pub exactly : (v : Volume) → openedImage image ≡ Opened v → callInShape image name lent ≡ true
+      → ((n : ℕ) → List·Memᴰ n (nodesListed (pulled image name index lent)) ↔ AsksNode (viewOf (cardOf image) v) (walkOf v name index) n)
+      × ((b : ℕ) → List·Memᴰ b (blocksListed (pulled image name index lent)) ↔ AsksBlock (viewOf (cardOf image) v) (walkOf v name index) b)
+  exactly v opens shape =
+      let runs = pullRun (cardOf image) v name index .seen in
+      rw (call-opens image name index lent (Opened v) shape opens, numbers-over (runs .nodes) (lent .nodes), numbers-over (runs .blocks) (lent .blocks))
+      (run-exact (cardOf image) v name index)
+
+  -- the answer is a number of the table, and "a byte count 1 to 4,096" goes with 0 and 1 alone
+  pub answers : (pulled image name index lent .numbers .answer ≤ 14)
+      × (pulled image name index lent .numbers .answer ≤ 1 → (1 ≤ pulled image name index lent .numbers .«byte_count») × (pulled image name index lent .numbers .«byte_count» ≤ 4096))
+      × (2 ≤ pulled image name index lent .numbers .answer → pulled image name index lent .numbers .«byte_count» ≡ 0)
+  answers = go ends
+    where
+      ended : (o : Outcome Block) → Ended Counted o → (answerOf o ≤ 14) × (answerOf o ≤ 1 → (1 ≤ countOf o) × (countOf o ≤ 4096)) × (2 ≤ answerOf o → countOf o ≡ 0)
+      ended (ok b) q = content (b .content) (b .count) q
+        where
+          content : (f : Fetched) (count : ℕ) → (1 ≤ count) × (count ≤ 4096) → (contentAnswer f ≤ 14) × (contentAnswer f ≤ 1 → (1 ≤ count) × (count ≤ 4096)) × (2 ≤ contentAnswer f → count ≡ 0)
+          content hole count q = (omega arith, λ _. q, λ l. absurd (omega arith))
+          content (held block) count q = (omega arith, λ _. q, λ l. absurd (omega arith))
+      ended (stop answer) q = let inside = ending-inside answer q in (inside .1, λ l. absurd (omega arith), λ _. refl)
+
+      go : {r : Result} → Ends image name index lent r → (r .numbers .answer ≤ 14) × (r .numbers .answer ≤ 1 → (1 ≤ r .numbers .«byte_count») × (r .numbers .«byte_count» ≤ 4096)) × (2 ≤ r .numbers .answer → r .numbers .«byte_count» ≡ 0)
+      go (refusal answer p q e) = rw e (omega arith, λ l. absurd (omega arith), λ _. refl)
+      go (walked v p q e) = rw e (ended (pullRun (cardOf image) v name index .value) (run-ended (cardOf image) v name index))

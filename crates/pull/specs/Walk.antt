@@ -1,0 +1,59 @@
+-- The walk of a pull: the root, the name in it, the file, the block of the index. "walks the root, then the file, and stops at the
+-- first of 2, 3, 9 to 14 that it meets. At a node: 9, 10, then the block is read and listed, then 11, then 12, then 2 or 3."
+use Prim.Native.Nat.{ℕ}
+use mathlib.Core.List.{List}
+use lib.Dec.{eqb}
+use Rattle.field.specs.Choice.{choose}
+use Rattle.walk.specs.Walk.{Walk, done, Outcome, ok, stop, andThen}
+use Rattle.node.specs.Node.{Bounds, inodeWalk}
+use Rattle.node.specs.Block.{Fetched, hole, held, blockWalk}
+use Rattle.node.specs.declared.Data.{Data}
+use Rattle.node.specs.declared.Data.the-variants as d
+use Rattle.field.specs.Card.{Card}
+use Rattle.directory.specs.Slot.{Wanted}
+use Rattle.directory.specs.Find.{directory, findWalk}
+use Rattle.inode.specs.Inode.{inodeOf, isDirectory, isRegular, addressesIn, isPast, countIn}
+
+-- the inode number of the root directory
+abbrev pub rootIno : ℕ
+rootIno = 3
+
+-- a block of a file: how many of its bytes are the file's, and what it holds
+pub record Block : Type 0 where
+  pub count : ℕ
+  pub content : Fetched
+
+abbrev pub counted : ℕ → Fetched → Walk (Outcome Block)
+counted count content = done (ok (record { count = count; content = content }))
+
+unfoldable pub atFile : Bounds → ℕ → ℕ → List ℕ → Walk (Outcome Block)
+atFile m index ino inode =
+    choose (isRegular (inodeOf inode))
+    (choose (isPast (inodeOf inode) index) (done (stop 3))
+    (andThen (blockWalk m ino inode (addressesIn (inodeOf inode)) index) (counted (countIn (inodeOf inode) index))))
+    (done (stop 12))
+
+-- block `index` of the file of an inode number
+unfoldable pub fileWalk : Bounds → ℕ → ℕ → Walk (Outcome Block)
+fileWalk m index ino = andThen (inodeWalk m ino) (atFile m index ino)
+
+-- "Then size 0: 2"
+unfoldable pub atRoot : Bounds → Wanted → List ℕ → Walk (Outcome ℕ)
+atRoot m w inode =
+    choose (isDirectory (inodeOf inode))
+    (choose (eqb (inodeOf inode .size) 0) (done (stop 2))
+    (findWalk (directory m rootIno inode (addressesIn (inodeOf inode))) w (inodeOf inode .depth)))
+    (done (stop 12))
+
+-- the inode number of a name in the root directory
+unfoldable pub rootWalk : Bounds → Wanted → Walk (Outcome ℕ)
+rootWalk m w = andThen (inodeWalk m rootIno) (atRoot m w)
+
+unfoldable pub pullWalk : Bounds → Wanted → ℕ → Walk (Outcome Block)
+pullWalk m w index = andThen (rootWalk m w) (fileWalk m index)
+
+-- what the code found as a block of the file: an address stands for the bytes of its block
+abbrev pub blockFound : Card → Data → ℕ → Outcome Block
+blockFound card d.Hole count = ok (record { count = count; content = hole })
+blockFound card (d.At address) count = ok (record { count = count; content = held (card .block address) })
+blockFound card (d.Stop answer) count = stop answer

@@ -1,0 +1,54 @@
+-- `insert` meets its contract: the number is there already, or is shifted in at its place. Assumes nothing.
+use native.Mathlib.Omega.{arith}
+use Rattle.walk.proofs.Entries.{inserted-there, spot-within, inserted-before}
+use borrow.Author.Needs.{needs}
+use Rattle.walk.proofs.insert.Statement.{statement}
+use Rattle.walk.proofs.insert.Tie as tie
+
+find-spot-requires : tie.Need-find-spot-requires
+find-spot-requires c κs = search needs
+
+enum-told : tie.Need-enum-told
+enum-told c = search needs
+
+enum-known-p : tie.Need-enum-known-p
+enum-known-p c = search needs
+
+shift-in-requires : tie.Need-shift-in-requires
+shift-in-requires c κs =
+    let k = c .before .before in
+    let room = k .before .before .before .before .before .pre .room in
+    (spot-within _ _ _ (k .before .before .find-spot .ensures) _ (k .p .given .1), omega arith)
+
+add-result : tie.Need-add-result
+add-result c = search needs
+
+same-length : tie.Need-same-length
+same-length c = search needs
+
+returns : tie.Need-returns
+returns c =
+    inserted-there _ _ _ (c .before .before .find-spot .ensures) (c .enum-told .given .1)
+
+same-length-2 : tie.Need-same-length-2
+same-length-2 c = search needs
+
+returns-2 : tie.Need-returns-2
+returns-2 c =
+    let k = c .before .before .before .before .before in
+    let shift = c .before .before .shift-in in
+    inserted-before _ _ _ (k .before .before .find-spot .ensures) _ (k .p .given .1) (shift .ensures) (shift .kept .0)
+
+pub insert-spec : {M : Type 1} → statement M
+insert-spec =
+    tie.close
+    (tie.spec
+    find-spot-requires
+    enum-told
+    enum-known-p
+    shift-in-requires
+    add-result
+    same-length
+    returns
+    same-length-2
+    returns-2)

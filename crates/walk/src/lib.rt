@@ -1,0 +1,73 @@
+// A rising list of numbers at the front of lent bytes, four bytes a number, and the insertion of one.
+// What a list and an insertion mean is in specs/Lists, what a walk means in specs/Walk.
+ghost use mathlib.Core.Path.{_≡_};
+ghost use Prim.Native.Nat.{_+_, _*_, _≤_};
+ghost use lib.ListN.{length};
+ghost use Rattle.walk.specs.Lists.{Space, HasInserted};
+ghost use Rattle.walk.specs.Insertion.{put32At, Placed, Shifted};
+
+// Where a number goes in a rising list.
+enum Spot {
+    Before(usize),
+    Present,
+}
+
+// x in four bytes, the lowest first.
+fn put32(list: &mut [u8], at: usize, x: u32)
+    requires { ⌜ at + 4 ≤ length (now list) ⌝ }
+    ensures { λ _. ⌜ now (list .exit) ≡ put32At (now (list .entry)) at x ⌝ }
+{
+    list[at] = (x % 256) as u8;
+    list[at + 1] = (x / 256 % 256) as u8;
+    list[at + 2] = (x / 65536 % 256) as u8;
+    list[at + 3] = (x / 16777216) as u8;
+}
+
+// The search starts at the end, where most numbers go.
+fn find_spot(list: &[u8], count: usize, x: u32) -> Spot
+    requires { ⌜ Space 0 (now list) count ⌝ }
+    ensures { λ r. ⌜ Placed (now (list .entry)) count x r ⌝ }
+{
+    let mut i = count;
+    while i > 0 {
+        let y = field::get32(list, 4 * (i - 1));
+        if y < x {
+            return Spot::Before(i);
+        }
+        if y == x {
+            return Spot::Present;
+        }
+        i -= 1;
+    }
+    Spot::Before(0)
+}
+
+// x put before entry p, and the entries from there on moved up by one.
+fn shift_in(list: &mut [u8], p: usize, count: usize, x: u32)
+    requires { ⌜ (p ≤ count) × (4 * (count + 1) ≤ length (now list)) ⌝ }
+    ensures { λ _. ⌜ Shifted (now (list .entry)) p count x (now (list .exit)) ⌝ }
+{
+    let mut i = p;
+    let mut carry = x;
+    while i < count {
+        let next = field::get32(list, 4 * i);
+        put32(list, 4 * i, carry);
+        carry = next;
+        i += 1;
+    }
+    put32(list, 4 * i, carry);
+}
+
+// x put in its place among the first `count` numbers, unless it is there: how many there are then.
+pub fn insert(list: &mut [u8], count: usize, x: u32) -> usize
+    requires { ⌜ Space 1 (now list) count ⌝ }
+    ensures { λ r. ⌜ HasInserted (now (list .entry)) count x (now (list .exit)) r ⌝ }
+{
+    match find_spot(list, count, x) {
+        Spot::Present => count,
+        Spot::Before(p) => {
+            shift_in(list, p, count, x);
+            count + 1
+        }
+    }
+}
