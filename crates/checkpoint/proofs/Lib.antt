@@ -3,4 +3,4 @@ mod Negated
 mod Passing
 mod Choosing
 mod Reading
-mod Ways
+pub mod Ways

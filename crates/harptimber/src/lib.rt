@@ -6,6 +6,8 @@ ghost use Rattle.place.specs.Way.{inArray};
 ghost use Rattle.name_hash.specs.Answer.{hashed};
 ghost use Rattle.nat.specs.Lookup.{answered, lookupOf};
 ghost use Rattle.pull.specs.Pull.{lending, result, pulled};
+ghost use Rattle.compare.specs.Lists.{listing};
+ghost use Rattle.compare.specs.Compare.{compared};
 ghost use Rattle.harptimber.specs.NameHash.{nameHash};
 ghost use Rattle.harptimber.specs.FilePlace.{crossing, placed, filePlace};
 
@@ -122,4 +124,18 @@ pub extern "C" fn harptimber_pull(
         ≡ pulled (now (image .entry)) (now (name .entry)) index (lending (now (block .entry)) (now (nodes .entry)) (now (blocks .entry))) ⌝ }
 {
     pull::pull(image, name, index, block, nodes, blocks)
+}
+
+#[no_mangle]
+pub extern "C" fn harptimber_compare(
+    kept: &[u8],
+    fresh: &[u8],
+    nodes: &[u8],
+    node_count: u32,
+    blocks: &[u8],
+    block_count: u32,
+) -> compare::Compared
+    ensures { λ r. ⌜ r ≡ compared (now (kept .entry)) (now (fresh .entry)) (listing (now (nodes .entry)) «node_count») (listing (now (blocks .entry)) «block_count») ⌝ }
+{
+    compare::compare(kept, fresh, nodes, node_count, blocks, block_count)
 }

@@ -66,7 +66,7 @@ fn data_came(data: Data, nodes: usize, blocks: usize) -> DataStep
 }
 
 // Whether an address lies in the main area.
-fn in_main(v: checkpoint::Volume, address: u32) -> bool
+pub fn in_main(v: checkpoint::Volume, address: u32) -> bool
     ensures { λ r. ⌜ r ≡ inMain (boundsOf v) address ⌝ }
 {
     let areas = v.areas;

@@ -9,7 +9,7 @@ use lib.ListN.{length, getD}
 use lib.Dec.{eqb, leb}
 use Rattle.field.specs.Card.{Card, cardOf}
 use Rattle.field.specs.Choice.{choose}
-use Rattle.field.proofs.Choosing.{needed-eq, needed-le}
+use Rattle.field.proofs.Choosing.{needed, needed-eq, needed-le}
 use Rattle.superblock.specs.Shape.{inShape}
 use Rattle.checkpoint.specs.declared.Volume.{Volume}
 use Rattle.checkpoint.specs.declared.Opening.{Opening}
@@ -78,11 +78,19 @@ module _ (image name : List ℕ) (index : ℕ) (lent : Lent) where
   unfolding pulled
   call-opens opening e o = rw (e, o)
 
+  -- its three parts
+  pub image-in-shape : callInShape image name lent ≡ true → inShape (length image) ≡ true
+  unfolding callInShape
+  image-in-shape = needed (λ e. rw e refl)
+
+  pub name-in-shape : callInShape image name lent ≡ true → isName name ≡ true
+  unfolding callInShape
+  name-in-shape = needed (λ e. rw (e, and-false) refl)
+
   pub lent-shape : callInShape image name lent ≡ true → lentInShape lent ≡ true
   unfolding callInShape
-  lent-shape h = last (inShape (length image) && isName name) (lentInShape lent) h
-    where
-      last : (a b : Bool) → a && b ≡ true → b ≡ true
-      last true b e = e
-      last false true e = refl
-      last false false e = e
+  lent-shape = needed (λ e. rw (e, and-false) refl)
+
+  pub call-in-shape : inShape (length image) ≡ true → isName name ≡ true → lentInShape lent ≡ true → callInShape image name lent ≡ true
+  unfolding callInShape
+  call-in-shape p q r = rw (p, q, r)

@@ -1,13 +1,13 @@
 -- What is so of every pull, whatever the image, the name, the index and the lent memory. Each is stated over `pulled`, the definition
 -- that the contract cites. Assumes nothing.
-use Prim.Native.Nat.{ℕ, _≤_}
+use Prim.Native.Nat.{ℕ, _<_, _≤_}
 use native.Mathlib.Omega.{arith}
 use mathlib.Core.Path.{_≡_, refl, sym, subst}
 use mathlib.Core.Bool.{Bool, true, false, _&&_, _||_}
-use mathlib.Core.Logic.{_↔_}
+use mathlib.Core.Logic.{_⊎_, inl, inr, _↔_}
 use borrow.Author.Tests.{eqb-true, leb-true}
 use lib.Dec.{eqb, leb}
-use mathlib.Core.List.{List, List·Memᴰ}
+use mathlib.Core.List.{List, [], _∷_, List·Memᴰ, List·Memᴰ·not-nil}
 use lib.ListN.{length}
 use Rattle.field.specs.Card.{Card, cardOf}
 use Rattle.checkpoint.specs.declared.Volume.{Volume}
@@ -17,15 +17,15 @@ use Rattle.checkpoint.specs.Volume.{openedImage}
 use Rattle.checkpoint.proofs.Inside.{refusals}
 use Rattle.name_hash.specs.Hash.{hashOf}
 use Rattle.walk.specs.Lists.{Rising, AllOf, numbers}
-use Rattle.walk.specs.Walk.{View, viewOf, empty, Walk, run, Outcome, ok, stop, ending, Ended, Within, AsksNode, AsksBlock}
+use Rattle.walk.specs.Walk.{View, viewOf, empty, Walk, run, Outcome, ok, stop, ending, Ended, Within, bind, andThen, AsksNode, AsksBlock}
 use Rattle.walk.proofs.Runs.{run-rising}
 use Rattle.walk.proofs.Sizes.{few-listed, run-reads, run-value}
 use Rattle.walk.proofs.Asked.{nodes-exact, blocks-exact}
 use Rattle.walk.proofs.Written.{numbers-over}
-use Rattle.node.specs.Node.{boundsOf, inMain}
+use Rattle.node.specs.Node.{boundsOf, inMain, nodeWalk}
 use Rattle.node.specs.Block.{Fetched, hole, held}
 use Rattle.directory.specs.Slot.{wanted}
-use Rattle.pull.specs.Walk.{Block, pullWalk}
+use Rattle.pull.specs.Walk.{rootIno, Block, rootWalk, pullWalk}
 use Rattle.pull.specs.Pull.{Lent, Result, callInShape, contentAnswer, answerOf, countOf, refused, written, pullRun, pulled}
 use Rattle.pull.proofs.Sizes.{Counted, pull-within}
 use Rattle.pull.proofs.Results.{call-refused, call-opens}
@@ -41,15 +41,15 @@ blocksListed r = numbers (r .memory .blocks) 0 (r .numbers .«block_count»)
 abbrev pub walkOf : Volume → List ℕ → ℕ → Walk (Outcome Block)
 walkOf v name index = pullWalk (boundsOf v) (wanted (hashOf name) name) index
 
--- an answer that ends a walk is 2 to 14
-ending-inside : (answer : ℕ) → ending answer ≡ true → (2 ≤ answer) × (answer ≤ 14)
+-- an answer that ends a walk is 2 to 14, and none of 4 to 8
+pub ending-inside : (answer : ℕ) → ending answer ≡ true → (2 ≤ answer) × (answer ≤ 14) × ((answer < 4) ⊎ (8 < answer))
 ending-inside answer h = go (eqb answer 2) refl (eqb answer 3) refl (leb 9 answer) refl (leb answer 14) refl h
   where
     go : (a : Bool) → eqb answer 2 ≡ a → (b : Bool) → eqb answer 3 ≡ b → (c : Bool) → leb 9 answer ≡ c → (d : Bool) → leb answer 14 ≡ d
-        → (a || b) || (c && d) ≡ true → (2 ≤ answer) × (answer ≤ 14)
-    go true e b f c g d k t = let is = eqb-true answer 2 e in (omega arith, omega arith)
-    go false e true f c g d k t = let is = eqb-true answer 3 f in (omega arith, omega arith)
-    go false e false f true g true k t = (omega (arith, leb-true 9 answer g), leb-true answer 14 k)
+        → (a || b) || (c && d) ≡ true → (2 ≤ answer) × (answer ≤ 14) × ((answer < 4) ⊎ (8 < answer))
+    go true e b f c g d k t = let is = eqb-true answer 2 e in (omega arith, omega arith, inl (omega arith))
+    go false e true f c g d k t = let is = eqb-true answer 3 f in (omega arith, omega arith, inl (omega arith))
+    go false e false f true g true k t = let least = leb-true 9 answer g in (omega arith, leb-true answer 14 k, inr (omega arith))
     go false e false f true g false k t = let z : _≡_ {A = ℕ} 0 1 = cc in absurd (omega arith)
     go false e false f false g d k t = let z : _≡_ {A = ℕ} 0 1 = cc in absurd (omega arith)
 
@@ -71,7 +71,7 @@ module _ (card : Card) (v : Volume) (name : List ℕ) (index : ℕ) where
   unfolding pullRun
   run-inside = run-reads (viewOf card v) empty (walkOf v name index) size tt
 
-  run-ended : Ended Counted (pullRun card v name index .value)
+  pub run-ended : Ended Counted (pullRun card v name index .value)
   unfolding pullRun
   run-ended = run-value (viewOf card v) empty (walkOf v name index) size
 
@@ -79,6 +79,18 @@ module _ (card : Card) (v : Volume) (name : List ℕ) (index : ℕ) where
       × ((b : ℕ) → List·Memᴰ b (pullRun card v name index .seen .blocks) ↔ AsksBlock (viewOf card v) (walkOf v name index) b)
   unfolding pullRun
   run-exact = (nodes-exact (viewOf card v) (walkOf v name index), blocks-exact (viewOf card v) (walkOf v name index))
+
+  root-asked : AsksNode (viewOf card v) (walkOf v name index) rootIno
+  unfolding pullWalk rootWalk nodeWalk andThen bind AsksNode
+  root-asked = inl refl
+
+  -- the root is looked up first, so the node list is never empty
+  pub run-some : 1 ≤ length (pullRun card v name index .seen .nodes)
+  run-some = some (pullRun card v name index .seen .nodes) (run-exact .0 rootIno .1 root-asked)
+    where
+      some : (l : List ℕ) → List·Memᴰ rootIno l → 1 ≤ length l
+      some [] m = absurd (List·Memᴰ·not-nil m)
+      some (x ∷ xs) m = omega arith
 
 -- ---- every pull
 

@@ -1,0 +1,6 @@
+pub mod Sameness
+pub mod Searching
+pub mod Differences
+pub mod Shapes
+pub mod Openings
+mod Turns

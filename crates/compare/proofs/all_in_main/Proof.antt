@@ -1,0 +1,66 @@
+-- The invariant: what is left decides; all passed lie in the main area.
+use mathlib.Core.Path.{_≡_, sym, _∙_}
+use mathlib.Core.Bool.{true, false}
+use Prim.Native.Nat.{_≤_, _-_}
+use native.Mathlib.Omega.{arith}
+use borrow.Author.Needs.{needs}
+use Rattle.walk.specs.Lists.{numbers}
+use Rattle.node.specs.Node.{boundsOf, inMain}
+use Rattle.compare.specs.Lists.{allInMain}
+use Rattle.compare.proofs.Searching.{main-searched}
+use Rattle.compare.proofs.Turns.{Left, search-starts, search-over, search-on, search-stops}
+use Rattle.compare.proofs.all_in_main.Statement.{statement}
+use Rattle.compare.proofs.all_in_main.Tie as tie
+
+abbrev Inv-loop : tie.InvT-loop
+Inv-loop v list count i₀ i = (i ≤ count) × (allInMain (boundsOf v) (numbers list 0 count) ≡ Left (inMain (boundsOf v)) (λ b. false) true list i count)
+
+abbrev μ-loop : tie.MeasureT-loop
+μ-loop v list count i₀ i = count - i
+
+loop-holds : tie.Need-loop-holds Inv-loop μ-loop
+loop-holds c =
+    (omega arith, main-searched _ _ ∙ search-starts _ _ _ _ _)
+
+mul-get32 : tie.Need-mul-get32 Inv-loop μ-loop
+mul-get32 c = search needs
+
+get32-requires : tie.Need-get32-requires Inv-loop μ-loop
+get32-requires c κs = search needs
+
+in-main-requires : tie.Need-in-main-requires Inv-loop μ-loop
+in-main-requires c κs = search needs
+
+returns : tie.Need-returns Inv-loop μ-loop
+returns c =
+    sym (c .before .before .before .before .loop .inv .1 ∙ search-stops _ _ _ _ _ _ (c .before .before .before .loop-test .taken) (c .before .before .get32 .ensures) (c .before .in-main .ensures) (c .if1 .taken))
+
+add-i : tie.Need-add-i Inv-loop μ-loop
+add-i c = search needs
+
+loop-less : tie.Need-loop-less Inv-loop μ-loop
+loop-less c = search needs
+
+loop-again : tie.Need-loop-again Inv-loop μ-loop
+loop-again c =
+    (omega arith, c .before .before .before .before .loop .inv .1 ∙ search-on _ _ _ _ _ _ (c .before .before .before .loop-test .taken) (c .before .before .get32 .ensures) (c .before .in-main .ensures) (c .if1 .left))
+
+returns-2 : tie.Need-returns-2 Inv-loop μ-loop
+returns-2 c =
+    sym (c .before .loop .inv .1 ∙ search-over _ _ _ _ _ _ (c .loop-test .left))
+
+pub all-in-main-spec : {M : Type 1} → statement M
+all-in-main-spec =
+    tie.close
+    (tie.spec
+    Inv-loop
+    μ-loop
+    loop-holds
+    mul-get32
+    get32-requires
+    in-main-requires
+    returns
+    add-i
+    loop-less
+    loop-again
+    returns-2)

@@ -1,0 +1,58 @@
+-- Equal bounds put the listed blocks inside both cards, since they lie in the kept main area.
+use mathlib.Core.Path.{sym, _∙_}
+use mathlib.Core.Logic.{⊎-elim}
+use native.Mathlib.Omega.{arith}
+use denote.Ref.{now}
+use borrow.Author.Tests.{not-true, not-false}
+use borrow.Author.Needs.{needs}
+use Rattle.compare.specs.Lists.{listing, entries}
+use Rattle.compare.proofs.Shapes.{in-shape-lists, main-in-both}
+use Rattle.compare.proofs.Differences.{bounds-differ, bounds-agree, nodes-agree, node-first}
+use Rattle.compare.proofs.first_difference.Statement.{statement}
+use Rattle.compare.proofs.first_difference.Tie as tie
+
+same-bounds-requires : tie.Need-same-bounds-requires
+same-bounds-requires c κs = search needs
+
+returns : tie.Need-returns
+returns c =
+    sym (bounds-differ _ _ _ _ _ _ (sym (c .before .same-bounds .ensures) ∙ not-true _ (c .if1 .taken)))
+
+nodes-differ-requires : tie.Need-nodes-differ-requires
+nodes-differ-requires c κs =
+    let s = c .before .before .before .before .before .before in
+    (s .pre .0, (s .pre .1 .0, in-shape-lists _ _ _ (s .pre .1 .1) .nodesHeld))
+
+enum-told : tie.Need-enum-told
+enum-told c = search needs
+
+blocks-differ-requires : tie.Need-blocks-differ-requires
+blocks-differ-requires c κs =
+    let s = c .before .before .before .before .before .before .before .before .before in
+    let f = in-shape-lists _ _ _ (s .pre .1 .1) in (
+      main-in-both (s .pre .0) (s .pre .1 .0) (sym (c .before .before .before .before .same-bounds .ensures) ∙ not-false _ (c .before .before .before .if1 .left)) (entries (listing (now (s .args .blocks)) (s .args .block-count))) (f .inside),
+      f .blocksHeld,
+    )
+
+returns-2 : tie.Need-returns-2
+returns-2 c =
+    sym (bounds-agree _ _ _ _ _ _ (sym (c .before .before .before .before .before .same-bounds .ensures) ∙ not-false _ (c .before .before .before .before .if1 .left))
+    ∙ nodes-agree _ _ _ (c .before .before .before .nodes-differ .ensures) _ (c .before .enum-told .given .1)
+    ∙ sym (c .blocks-differ .ensures _ _))
+
+returns-3 : tie.Need-returns-3
+returns-3 c =
+    sym (bounds-agree _ _ _ _ _ _ (sym (c .before .before .before .same-bounds .ensures) ∙ not-false _ (c .before .before .if1 .left))
+    ∙ node-first _ _ _ (c .before .nodes-differ .ensures) _ (λ e. ⊎-elim (λ p. omega arith) (⊎-elim (λ p. omega arith) (λ p. omega arith)) (rw e at (c .match .keys2))))
+
+pub first-difference-spec : {M : Type 1} → statement M
+first-difference-spec =
+    tie.close
+    (tie.spec
+    same-bounds-requires
+    returns
+    nodes-differ-requires
+    enum-told
+    blocks-differ-requires
+    returns-2
+    returns-3)

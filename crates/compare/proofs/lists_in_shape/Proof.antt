@@ -1,0 +1,50 @@
+use mathlib.Core.Path.{sym, _∙_}
+use Prim.Native.Nat.{_*_, _≤_}
+use lib.ListN.{length}
+use denote.Ref.{now}
+use borrow.Author.Tests.{not-true, not-false}
+use borrow.Author.Needs.{needs}
+use Rattle.compare.specs.Lists.{listing}
+use Rattle.compare.proofs.Shapes.{counts-refuse, counts-pass, counts-held}
+use Rattle.compare.proofs.lists_in_shape.Statement.{statement}
+use Rattle.compare.proofs.lists_in_shape.Tie as tie
+
+-- the counts passed, so each list is held by its slice
+held : (k : tie.Else1) → (4 * k .before .before .before .before .args .node-count ≤ length (now (k .before .before .before .before .args .nodes))) × (4 * k .before .before .before .before .args .block-count ≤ length (now (k .before .before .before .before .args .blocks)))
+held k =
+    let a = k .before .before .before .before .args in
+    counts-held (listing (now (a .nodes)) (a .node-count)) (listing (now (a .blocks)) (a .block-count)) (sym (k .before .counts-fit .ensures) ∙ not-false _ (k .if1 .left))
+
+counts-fit-requires : tie.Need-counts-fit-requires
+counts-fit-requires c κs = search needs
+
+returns : tie.Need-returns
+returns c =
+    sym (counts-refuse _ _ _ (sym (c .before .counts-fit .ensures) ∙ not-true _ (c .if1 .taken)))
+
+is-rising-requires : tie.Need-is-rising-requires
+is-rising-requires c κs =
+    held c .0
+
+is-rising-requires-2 : tie.Need-is-rising-requires-2
+is-rising-requires-2 c κs =
+    held (c .before) .1
+
+all-in-main-requires : tie.Need-all-in-main-requires
+all-in-main-requires c κs =
+    held (c .before .before) .1
+
+returns-2 : tie.Need-returns-2
+returns-2 c =
+    rw (c .before .before .is-rising .ensures, c .before .is-rising2 .ensures, c .all-in-main .ensures) (sym (counts-pass _ _ _ (sym (c .before .before .before .before .counts-fit .ensures) ∙ not-false _ (c .before .before .before .if1 .left))))
+
+pub lists-in-shape-spec : {M : Type 1} → statement M
+lists-in-shape-spec =
+    tie.close
+    (tie.spec
+    counts-fit-requires
+    returns
+    is-rising-requires
+    is-rising-requires-2
+    all-in-main-requires
+    returns-2)

@@ -1,0 +1,4 @@
+pub mod Lists
+pub mod Difference
+pub mod Compare
+pub mod Reading

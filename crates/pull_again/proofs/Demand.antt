@@ -1,0 +1,120 @@
+-- Demand 3, whole. "Take any image, name and block index whose pull got past opening, and any second image that opens. The comparison
+-- is given the first image as the kept one, the second as the new one, and the lists and counts as that pull left them."
+-- Assumes nothing.
+use Prim.Native.Nat.{ℕ}
+use mathlib.Core.Path.{_≡_, refl, sym, ap, subst, _∙_}
+use mathlib.Core.Bool.{true}
+use mathlib.Core.List.{List, [], _∷_}
+use mathlib.Core.Logic.{_⊎_, inl, inr, _↔_}
+use native.Mathlib.Omega.{arith}
+use Rattle.field.specs.Card.{cardOf}
+use Rattle.checkpoint.specs.declared.Volume.{Volume}
+use Rattle.checkpoint.specs.declared.Opening.the-variants.{Opened}
+use Rattle.checkpoint.specs.Volume.{openedImage}
+use Rattle.checkpoint.proofs.Inside.{image-shaped}
+use Rattle.nat.specs.Table.{tableAnswer}
+use Rattle.walk.specs.Lists.{AllOf}
+use Rattle.walk.specs.Walk.{viewOf, Ran, Outcome}
+use Rattle.node.specs.Node.{boundsOf}
+use Rattle.pull.specs.Walk.{Block}
+use Rattle.pull.specs.Pull.{Lent, Result, lentInShape, written, pullRun, pulled}
+use Rattle.pull.proofs.Results.{name-in-shape, call-in-shape, call-opens}
+use Rattle.pull.proofs.Theorems.{run-ended}
+use Rattle.compare.specs.declared.Difference.{Difference}
+use Rattle.compare.specs.declared.Difference.the-variants.{Same, BoundsDiffer, NodeDiffers, BlockDiffers}
+use Rattle.compare.specs.Difference.{difference}
+use Rattle.compare.specs.Compare.{answered, verdict}
+use Rattle.compare.proofs.Searching.{FirstNot}
+use Rattle.compare.proofs.Differences.{SameTable, SameBlock, difference-same, same-difference, difference-bounds, difference-node, difference-block}
+use Rattle.compare.proofs.Openings.{lists-compared, compared-opened}
+use Rattle.pull_again.specs.Demand.{PastOpening, nodesLeft, blocksLeft, entriesOf, said, SameOn, SamePull}
+use Rattle.pull_again.proofs.Steps.{Came, past-came, lists-fit, nodes-of-run, blocks-of-run, same-run, same-written, Opens, same-opens, some-past}
+
+module _ (kept name : List ℕ) (index : ℕ) (lent : Lent) (v : Volume) (keptOpens : openedImage kept ≡ Opened v)
+    (past : PastOpening (pulled kept name index lent)) (fresh : List ℕ) (u : Volume) (freshOpens : openedImage fresh ≡ Opened u) where
+  -- the entries of the two lists as the pull left them
+  abbrev nodes : List ℕ
+  nodes = entriesOf (nodesLeft (pulled kept name index lent))
+
+  abbrev blocks : List ℕ
+  blocks = entriesOf (blocksLeft (pulled kept name index lent))
+
+  -- the first difference between the two cards, on those lists
+  abbrev first : Difference
+  first = difference (boundsOf v) (boundsOf u) (viewOf (cardOf kept) v) (viewOf (cardOf fresh) u) nodes blocks
+
+  came : Came kept name index lent v
+  came = past-came kept name index lent v keptOpens past
+
+  -- Compare takes the lists and says what the first difference is
+  says : said kept fresh (pulled kept name index lent) ≡ verdict first
+  says =
+      compared-opened kept fresh _ _ v u keptOpens freshOpens
+      ∙ lists-compared (cardOf kept) v (cardOf fresh) u _ _ (lists-fit kept name index lent v came)
+
+  -- "It says "same" exactly if both images have the same main area bounds, each listed node number has the same table answer in both,
+  -- and each listed block the same 4,096 bytes in both."
+  pub same-exactly-if : (said kept fresh (pulled kept name index lent) .answer ≡ 15) ↔ SameOn kept v fresh u nodes blocks
+  same-exactly-if = (λ e. agreed (ends-same first (ap (λ x. x .answer) (sym says) ∙ e)), λ s. ap (λ x. x .answer) (says ∙ ap verdict (alike s)))
+    where
+      ends-same : (d : Difference) → verdict d .answer ≡ 15 → d ≡ Same
+      ends-same Same e = refl
+      ends-same BoundsDiffer e = absurd (omega arith)
+      ends-same (NodeDiffers n) e = absurd (omega arith)
+      ends-same (BlockDiffers b) e = absurd (omega arith)
+
+      agreed : first ≡ Same → SameOn kept v fresh u nodes blocks
+      agreed e = let all = difference-same _ _ _ _ _ _ e in record { bounds = all .0; tables = all .1; bytes = all .2 }
+
+      alike : SameOn kept v fresh u nodes blocks → first ≡ Same
+      alike s = same-difference _ _ _ _ _ _ (s .bounds) (s .tables) (s .bytes)
+
+  -- "Otherwise it says "changed"", "with kind and number of the first difference: 1 main area bounds (number 0), 2 lowest node number
+  -- (table answer), 3 lowest block (bytes)". FirstNot P l x: x is in l, P fails of it and holds of all before it.
+  pub data Says : Type 0 where
+    same : said kept fresh (pulled kept name index lent) ≡ answered 15 0 0 0 → Says
+    otherBounds : said kept fresh (pulled kept name index lent) ≡ answered 16 0 1 0 → (boundsOf v ≡ boundsOf u → ⊥) → Says
+    otherNode : (n : ℕ) → said kept fresh (pulled kept name index lent) ≡ answered 16 0 2 n → boundsOf v ≡ boundsOf u
+        → FirstNot (SameTable (viewOf (cardOf kept) v) (viewOf (cardOf fresh) u)) nodes n → Says
+    otherBlock : (b : ℕ) → said kept fresh (pulled kept name index lent) ≡ answered 16 0 3 b → boundsOf v ≡ boundsOf u
+        → AllOf (SameTable (viewOf (cardOf kept) v) (viewOf (cardOf fresh) u)) nodes
+        → FirstNot (SameBlock (viewOf (cardOf kept) v) (viewOf (cardOf fresh) u)) blocks b → Says
+
+  pub else-changed : Says
+  else-changed = go first refl
+    where
+      go : (d : Difference) → first ≡ d → Says
+      go Same e = same (says ∙ ap verdict e)
+      go BoundsDiffer e = otherBounds (says ∙ ap verdict e) (difference-bounds _ _ _ _ _ _ e)
+      go (NodeDiffers n) e = let f = difference-node _ _ _ _ _ _ n e in otherNode n (says ∙ ap verdict e) (f .0) (f .1)
+      go (BlockDiffers b) e = let f = difference-block _ _ _ _ _ _ b e in otherBlock b (says ∙ ap verdict e) (f .0) (f .1) (f .2)
+
+  -- "Whenever it says "same", the pull of the same name and block index on the second image gives the same answer, byte count, block
+  -- bytes and lists." The second pull "may be lent other memory, of any lengths that Pull takes".
+  pub then-same-pull : (lent' : Lent) → lentInShape lent' ≡ true → said kept fresh (pulled kept name index lent) .answer ≡ 15
+      → SamePull (pulled kept name index lent) (pulled fresh name index lent')
+  then-same-pull lent' takes e =
+      let runs : Ran (Outcome Block) = pullRun (cardOf kept) v name index in
+      let on : SameOn kept v fresh u nodes blocks = same-exactly-if .0 e in
+      let listed : SameOn kept v fresh u (runs .seen .nodes) (runs .seen .blocks) = record { bounds = on .bounds; tables = subst (AllOf _) (nodes-of-run came) (on .tables); bytes = subst (AllOf _) (blocks-of-run came) (on .bytes) } in
+      let same-runs = same-run kept v fresh u name index listed in
+      let shape = call-in-shape fresh name index lent' (image-shaped fresh u freshOpens) (name-in-shape kept name index lent (came .shape)) takes in
+      let second = call-opens fresh name index lent' (Opened u) shape freshOpens ∙ ap (λ (r : Ran (Outcome Block)). written r lent') same-runs in
+      rw (came .wrote, second) (same-written runs lent lent' (run-ended (cardOf kept) v name index))
+
+-- "Whenever it says "same"", with nothing else asked: what it says is enough.
+pub whenever-same : (kept fresh name : List ℕ) (index : ℕ) (lent lent' : Lent) → lentInShape lent' ≡ true
+    → said kept fresh (pulled kept name index lent) .answer ≡ 15 → SamePull (pulled kept name index lent) (pulled fresh name index lent')
+whenever-same kept fresh name index lent lent' takes e =
+    let o = same-opens kept fresh _ _ e in
+    then-same-pull kept name index lent (o .v) (o .keptOpens) (some-past kept name index lent (o .some)) fresh (o .u) (o .freshOpens) lent' takes e
+
+-- Compared with itself, an image is "same".
+pub same-itself : (image name : List ℕ) (index : ℕ) (lent : Lent) (v : Volume) → openedImage image ≡ Opened v → PastOpening (pulled image name index lent)
+    → said image image (pulled image name index lent) .answer ≡ 15
+same-itself image name index lent v opens past =
+    same-exactly-if image name index lent v opens past image v opens .1 (record { bounds = refl; tables = all _ (tableAnswer (cardOf image) v) (entriesOf (nodesLeft (pulled image name index lent))); bytes = all _ (cardOf image .block) (entriesOf (blocksLeft (pulled image name index lent))) })
+  where
+    all : (A : Type 0) (f : ℕ → A) (l : List ℕ) → AllOf (λ n. f n ≡ f n) l
+    all A f [] = tt
+    all A f (x ∷ xs) = (refl, all A f xs)

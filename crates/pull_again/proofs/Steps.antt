@@ -1,0 +1,158 @@
+-- The steps of demand 3: what a pull that got past opening left, that Compare takes its lists, and that cards which agree on them
+-- give the same run. The last is the tree's law, applied once. Assumes nothing.
+use Prim.Native.Nat.{ℕ, _*_, _<_, _≤_}
+use native.Mathlib.Omega.{arith}
+use mathlib.Core.Path.{_≡_, refl, sym, ap, subst, _∙_}
+use mathlib.Core.Bool.{Bool, true, false, _&&_}
+use mathlib.Core.List.{List}
+use mathlib.Core.Logic.{_⊎_, inl, inr, ⊎-elim}
+use lib.ListN.{length}
+use Rattle.field.specs.Card.{cardOf}
+use Rattle.superblock.specs.Shape.{inShape}
+use Rattle.checkpoint.specs.declared.Volume.{Volume}
+use Rattle.checkpoint.specs.declared.Opening.{Opening}
+use Rattle.checkpoint.specs.declared.Opening.the-variants.{Opened, Refused}
+use Rattle.checkpoint.proofs.Inside.{refusals}
+use Rattle.checkpoint.specs.Volume.{openedImage}
+use Rattle.name_hash.specs.Hash.{hashOf}
+use Rattle.walk.specs.Lists.{Rising, AllOf, numbers, over}
+use Rattle.walk.specs.Walk.{viewOf, empty, Ran, run, Outcome, ok, stop, Ended}
+use Rattle.walk.proofs.Runs.{agree}
+use Rattle.walk.proofs.Written.{numbers-over, over-inside}
+use Rattle.node.specs.Node.{Bounds, boundsOf, inMain}
+use Rattle.directory.specs.Slot.{wanted}
+use Rattle.pull.specs.Walk.{Block, pullWalk}
+use Rattle.pull.specs.Pull.{Lent, Result, callInShape, contentAnswer, answerOf, bufferAfter, written, pullRun, pulled}
+use Rattle.pull.proofs.Sizes.{Counted}
+use Rattle.pull.proofs.Theorems.{Ends, refusal, walked, ends, ending-inside, run-rises, run-inside, run-ended, run-some}
+use Rattle.compare.specs.Lists.{Listed, listing, listsInShape}
+use Rattle.compare.specs.declared.Compared.{Compared}
+use Rattle.compare.specs.Compare.{compared}
+use Rattle.compare.proofs.Shapes.{ListsFit, lists-in-shape, in-shape-lists}
+use Rattle.compare.proofs.Openings.{lists-refused, shape-refused, kept-refused, fresh-refused, compared-opened}
+use Rattle.node.specs.Block.{Fetched, hole, held}
+use Rattle.pull_again.specs.Demand.{PastOpening, nodesLeft, blocksLeft, entriesOf, SameOn, SamePull}
+
+-- what a pull that got past opening left: its card opened, and its walk's result was written
+pub record Came (image name : List ℕ) (index : ℕ) (lent : Lent) (v : Volume) : Type 0 where
+  pub shape : callInShape image name lent ≡ true
+  pub wrote : pulled image name index lent ≡ written (pullRun (cardOf image) v name index) lent
+
+-- the first case is no refusal, by its answer
+pub past-came : (image name : List ℕ) (index : ℕ) (lent : Lent) (v : Volume) → openedImage image ≡ Opened v
+    → PastOpening (pulled image name index lent) → Came image name index lent v
+past-came image name index lent v opens past = go refl (ends image name index lent)
+  where
+    go : {r : Result} → pulled image name index lent ≡ r → Ends image name index lent r → Came image name index lent v
+    go e (refusal answer p q f) =
+        let g : pulled image name index lent .numbers .answer ≡ answer = ap (λ (x : Result). x .numbers .answer) (e ∙ f) in
+        absurd (⊎-elim (λ l. omega arith) (λ l. omega arith) past)
+    go e (walked w s o f) =
+        let same : w ≡ v = cc in
+        record { shape = s; wrote = e ∙ f ∙ ap (λ (x : Volume). written (pullRun (cardOf image) x name index) lent) same }
+
+-- ---- the lists as the pull left them
+module _ (r : Ran (Outcome Block)) (lent : Lent) where
+  pub nodes-left : entriesOf (nodesLeft (written r lent)) ≡ r .seen .nodes
+  nodes-left = numbers-over (r .seen .nodes) (lent .nodes)
+
+  pub blocks-left : entriesOf (blocksLeft (written r lent)) ≡ r .seen .blocks
+  blocks-left = numbers-over (r .seen .blocks) (lent .blocks)
+
+-- they are the run's
+module _ {image name : List ℕ} {index : ℕ} {lent : Lent} {v : Volume} (came : Came image name index lent v) where
+  pub nodes-of-run : entriesOf (nodesLeft (pulled image name index lent)) ≡ pullRun (cardOf image) v name index .seen .nodes
+  nodes-of-run = ap (λ (r : Result). entriesOf (nodesLeft r)) (came .wrote) ∙ nodes-left (pullRun (cardOf image) v name index) lent
+
+  pub blocks-of-run : entriesOf (blocksLeft (pulled image name index lent)) ≡ pullRun (cardOf image) v name index .seen .blocks
+  blocks-of-run = ap (λ (r : Result). entriesOf (blocksLeft r)) (came .wrote) ∙ blocks-left (pullRun (cardOf image) v name index) lent
+
+-- Compare takes them
+pub lists-fit : (image name : List ℕ) (index : ℕ) (lent : Lent) (v : Volume) → Came image name index lent v
+    → listsInShape (boundsOf v) (nodesLeft (pulled image name index lent)) (blocksLeft (pulled image name index lent)) ≡ true
+lists-fit image name index lent v came = rw (came .wrote) (lists-in-shape _ _ _ fit)
+  where
+    fit : ListsFit (boundsOf v) (nodesLeft (written (pullRun (cardOf image) v name index) lent)) (blocksLeft (written (pullRun (cardOf image) v name index) lent))
+    fit = record {
+      some = run-some (cardOf image) v name index;
+      nodesHeld = over-inside (pullRun (cardOf image) v name index .seen .nodes) (lent .nodes);
+      blocksHeld = over-inside (pullRun (cardOf image) v name index .seen .blocks) (lent .blocks);
+      nodesRise = subst Rising (sym (nodes-left (pullRun (cardOf image) v name index) lent)) (run-rises (cardOf image) v name index .0);
+      blocksRise = subst Rising (sym (blocks-left (pullRun (cardOf image) v name index) lent)) (run-rises (cardOf image) v name index .1);
+      inside = subst (AllOf (λ b. inMain (boundsOf v) b ≡ true)) (sym (blocks-left (pullRun (cardOf image) v name index) lent)) (run-inside (cardOf image) v name index);
+    }
+
+-- ---- the tree's law, applied once: cards that agree on what a run listed give the same run
+pub same-run : (kept : List ℕ) (v : Volume) (fresh : List ℕ) (u : Volume) (name : List ℕ) (index : ℕ)
+    → SameOn kept v fresh u (pullRun (cardOf kept) v name index .seen .nodes) (pullRun (cardOf kept) v name index .seen .blocks)
+    → pullRun (cardOf fresh) u name index ≡ pullRun (cardOf kept) v name index
+unfolding pullRun
+same-run kept v fresh u name index same =
+    let w = pullWalk (boundsOf v) (wanted (hashOf name) name) index in
+    ap (λ (m : Bounds). run (viewOf (cardOf fresh) u) empty (pullWalk m (wanted (hashOf name) name) index)) (sym (same .bounds))
+    ∙ agree (viewOf (cardOf kept) v) (viewOf (cardOf fresh) u) empty w (same .tables) (same .bytes)
+
+-- the same run, written into any lent memory, is the same pull
+pub same-written : (r : Ran (Outcome Block)) (lent lent' : Lent) → Ended Counted (r .value) → SamePull (written r lent) (written r lent')
+same-written r lent lent' ended = record {
+  numbers = refl;
+  nodes = nodes-left r lent ∙ sym (nodes-left r lent');
+  blocks = blocks-left r lent ∙ sym (blocks-left r lent');
+  block = same-block (r .value) ended;
+}
+  where
+    same-block : (o : Outcome Block) → Ended Counted o → answerOf o ≤ 1 → bufferAfter o (lent .block) ≡ bufferAfter o (lent' .block)
+    same-block (ok b) q l = refl
+    same-block (stop answer) q l = let least = ending-inside answer q .0 in absurd (omega arith)
+
+-- ---- "same" is said only of a pull that got past opening, and of a new image that opens
+pub record Opens (kept fresh : List ℕ) (nodes blocks : Listed) : Type 0 where
+  pub v : Volume
+  pub u : Volume
+  pub keptOpens : openedImage kept ≡ Opened v
+  pub freshOpens : openedImage fresh ≡ Opened u
+  pub some : 1 ≤ nodes .count
+
+pub same-opens : (kept fresh : List ℕ) (nodes blocks : Listed) → compared kept fresh nodes blocks .answer ≡ 15 → Opens kept fresh nodes blocks
+same-opens kept fresh nodes blocks e = go (inShape (length kept) && inShape (length fresh)) refl (openedImage kept) refl (openedImage fresh) refl
+  where
+    -- another answer is not 15
+    other : {c : Compared} → compared kept fresh nodes blocks ≡ c → (c .answer ≡ 15 → ⊥) → ⊥
+    other f g = g (ap (λ (c : Compared). c .answer) (sym f) ∙ e)
+
+    listed : (v u : Volume) → openedImage kept ≡ Opened v → openedImage fresh ≡ Opened u → (b : Bool) → listsInShape (boundsOf v) nodes blocks ≡ b → Opens kept fresh nodes blocks
+    listed v u p q true l = record { v = v; u = u; keptOpens = p; freshOpens = q; some = in-shape-lists _ _ _ l .some }
+    listed v u p q false l =
+        absurd (other (compared-opened kept fresh nodes blocks v u p q ∙ lists-refused (cardOf kept) v (cardOf fresh) u nodes blocks l) (λ f. omega arith))
+
+    go : (b : Bool) → inShape (length kept) && inShape (length fresh) ≡ b → (o : Opening) → openedImage kept ≡ o → (o' : Opening) → openedImage fresh ≡ o' → Opens kept fresh nodes blocks
+    go false s o p o' q = absurd (other (shape-refused kept fresh nodes blocks s) (λ f. omega arith))
+    go true s (Refused n) p o' q =
+        let few = refusals kept n p in
+        absurd (other (kept-refused kept fresh nodes blocks s n p) (λ f. omega arith))
+    go true s (Opened v) p (Refused n) q =
+        let few = refusals fresh n q in
+        absurd (other (fresh-refused kept fresh nodes blocks s v p n q) (λ f. omega arith))
+    go true s (Opened v) p (Opened u) q = listed v u p q (listsInShape (boundsOf v) nodes blocks) refl
+
+-- a pull with a node listed got past opening
+pub some-past : (image name : List ℕ) (index : ℕ) (lent : Lent) → 1 ≤ nodesLeft (pulled image name index lent) .count → PastOpening (pulled image name index lent)
+some-past image name index lent some = go (ends image name index lent) some
+  where
+    outcome : (o : Outcome Block) → Ended Counted o → (answerOf o < 4) ⊎ (8 < answerOf o)
+    outcome (ok b) q = content (b .content)
+      where
+        content : (f : Fetched) → (contentAnswer f < 4) ⊎ (8 < contentAnswer f)
+        content hole = inl (omega arith)
+        content (held block) = inl (omega arith)
+    outcome (stop answer) q = ending-inside answer q .2
+
+    go : {r : Result} → Ends image name index lent r → 1 ≤ nodesLeft r .count → PastOpening r
+    go {r} (refusal answer p q e) l =
+        let none : nodesLeft r .count ≡ 0 = ap (λ (r : Result). nodesLeft r .count) e in
+        absurd (omega arith)
+    go (walked v p q e) l = rw e (outcome (pullRun (cardOf image) v name index .value) (run-ended (cardOf image) v name index))
+
+-- the same, of results that are known by an equation
+pub same-pulls : {r r' q q' : Result} → r ≡ r' → q ≡ q' → SamePull r' q' → SamePull r q
+same-pulls {r} {r'} {q} {q'} e f s = subst (λ (x : Result). SamePull x q) (sym e) (subst (SamePull r') (sym f) s)

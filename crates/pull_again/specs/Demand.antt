@@ -1,0 +1,48 @@
+-- The words of demand 3, over the definitions that the contracts of Pull and Compare cite.
+use Prim.Native.Nat.{ℕ, _<_, _≤_}
+use mathlib.Core.Path.{_≡_}
+use mathlib.Core.List.{List}
+use mathlib.Core.Logic.{_⊎_}
+use Rattle.field.specs.Card.{cardOf}
+use Rattle.checkpoint.specs.declared.Volume.{Volume}
+use Rattle.nat.specs.Table.{tableAnswer}
+use Rattle.walk.specs.Lists.{AllOf, numbers}
+use Rattle.node.specs.Node.{boundsOf}
+use Rattle.pull.specs.Pull.{Lent, Result, pulled}
+use Rattle.compare.specs.declared.Compared.{Compared}
+use Rattle.compare.specs.Lists.{Listed, listing}
+use Rattle.compare.specs.Compare.{compared}
+
+-- "A pull got past opening if its answer isn't 4 to 8."
+abbrev pub PastOpening : Result → Type 0
+PastOpening r = (r .numbers .answer < 4) ⊎ (8 < r .numbers .answer)
+
+-- "the lists and counts as that pull left them"
+abbrev pub nodesLeft : Result → Listed
+nodesLeft r = listing (r .memory .nodes) (r .numbers .«node_count»)
+
+abbrev pub blocksLeft : Result → Listed
+blocksLeft r = listing (r .memory .blocks) (r .numbers .«block_count»)
+
+-- "all list entries up to [the counts]"
+abbrev pub entriesOf : Listed → List ℕ
+entriesOf l = numbers (l .bytes) 0 (l .count)
+
+-- what Compare says of a pull's lists: "the first image as the kept one, the second as the new one"
+abbrev pub said : List ℕ → List ℕ → Result → Compared
+said kept fresh r = compared kept fresh (nodesLeft r) (blocksLeft r)
+
+-- "both images have the same main area bounds, each listed node number has the same table answer in both, and each listed block the
+-- same 4,096 bytes in both"
+pub record SameOn (kept : List ℕ) (v : Volume) (fresh : List ℕ) (u : Volume) (nodes blocks : List ℕ) : Type 0 where
+  pub bounds : boundsOf v ≡ boundsOf u
+  pub tables : AllOf (λ n. tableAnswer (cardOf kept) v n ≡ tableAnswer (cardOf fresh) u n) nodes
+  pub bytes : AllOf (λ b. cardOf kept .block b ≡ cardOf fresh .block b) blocks
+
+-- "Equal in both pulls are the result number, the byte count, both list counts, all list entries up to them and, with 0 and 1, all
+-- 4,096 bytes of the block buffer."
+pub record SamePull (r q : Result) : Type 0 where
+  pub numbers : r .numbers ≡ q .numbers
+  pub nodes : entriesOf (nodesLeft r) ≡ entriesOf (nodesLeft q)
+  pub blocks : entriesOf (blocksLeft r) ≡ entriesOf (blocksLeft q)
+  pub block : r .numbers .answer ≤ 1 → r .memory .block ≡ q .memory .block

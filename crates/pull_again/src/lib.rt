@@ -1,0 +1,46 @@
+// What a host does with a cache: it pulls a block and keeps the image and the lists, and when a new image comes it compares. If
+// that says "same", the pull on the new image gives what was kept; here that pull is made, and the contract says so.
+ghost use mathlib.Core.Path.{_≡_};
+ghost use Rattle.pull.specs.Pull.{lending, lentInShape, result};
+ghost use Rattle.pull_again.specs.Demand.{SamePull};
+ghost use mathlib.Core.Bool.{true};
+
+// The first pull, what Compare says, and the second pull.
+pub struct Again {
+    pub first: pull::Pulled,
+    pub compared: compare::Compared,
+    pub second: pull::Pulled,
+}
+
+pub fn pull_again(
+    kept: &[u8],
+    fresh: &[u8],
+    name: &[u8],
+    index: u32,
+    block: &mut [u8],
+    nodes: &mut [u8],
+    blocks: &mut [u8],
+    new_block: &mut [u8],
+    new_nodes: &mut [u8],
+    new_blocks: &mut [u8],
+) -> Again
+    ensures { λ r. ⌜ (lentInShape (lending (now («new_block» .entry)) (now («new_nodes» .entry)) (now («new_blocks» .entry))) ≡ true → r .compared .answer ≡ 15 →
+        SamePull (result (r .first) (lending (now (block .exit)) (now (nodes .exit)) (now (blocks .exit))))
+        (result (r .second) (lending (now («new_block» .exit)) (now («new_nodes» .exit)) (now («new_blocks» .exit))))) ⌝ }
+{
+    let first = pull::pull(kept, name, index, block, nodes, blocks);
+    let compared = compare::compare(
+        kept,
+        fresh,
+        nodes,
+        first.node_count,
+        blocks,
+        first.block_count,
+    );
+    let second = pull::pull(fresh, name, index, new_block, new_nodes, new_blocks);
+    Again {
+        first,
+        compared,
+        second,
+    }
+}
