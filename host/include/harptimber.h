@@ -1,7 +1,7 @@
 /*
- * Harptimber: a proved library for reading F2FS cards. So far it has the two calls that need no card,
- * the hash of a file name and the place of a file's block, and the one that opens a card and looks up a
- * node in its table.
+ * Harptimber: a proved library for reading F2FS cards. It pulls one block of a named file from a card
+ * image, lists what the answer rested on, and says from those lists whether another image gives the
+ * same answer.
  *
  * Link target/staticlib/libharptimber.a, which `rt staticlib harptimber` writes at the repository's
  * root. A call keeps nothing for the next one and touches only the memory that it is lent.
@@ -14,9 +14,12 @@
  * never null, also with length 0; that many bytes can be read there; and the slices lent to one call
  * don't overlap.
  *
- *     struct harptimber_hashed hashed = harptimber_name_hash((const uint8_t *)"road.bin", 8);
- *     if (hashed.answer == HARPTIMBER_DATA)
- *         printf("%08" PRIX32 "\n", hashed.hash);
+ *     uint8_t block[4096], nodes[179 * 4], blocks[238 * 4];
+ *     struct harptimber_pulled p = harptimber_pull(
+ *         image, image_len, (const uint8_t *)"road.bin", 8, 0,
+ *         block, sizeof block, nodes, sizeof nodes, blocks, sizeof blocks);
+ *     if (p.answer == HARPTIMBER_DATA)
+ *         use(block, p.byte_count);
  */
 #ifndef HARPTIMBER_H
 #define HARPTIMBER_H
@@ -30,14 +33,23 @@ extern "C" {
 
 /* What an answer number means. */
 enum harptimber_answer {
-    HARPTIMBER_DATA = 0,          /* done: the other fields hold the result */
-    HARPTIMBER_PAST_END = 3,      /* the block index lies past the last one */
-    HARPTIMBER_OUT_OF_SHAPE = 4,  /* the call itself is out of shape: a bad name, number or length */
-    HARPTIMBER_NO_SUPERBLOCK = 5, /* neither copy of the superblock passes */
-    HARPTIMBER_FEATURES = 6,      /* the card has features or a payload, which aren't read */
-    HARPTIMBER_NO_CHECKPOINT = 7, /* neither checkpoint pack passes */
-    HARPTIMBER_UNREADABLE = 8,    /* the checkpoint pack in use has its maps or journal out of place */
-    HARPTIMBER_NO_NODE = 9        /* the node number is out of range */
+    HARPTIMBER_DATA = 0,            /* done: the other fields hold the result */
+    HARPTIMBER_HOLE = 1,            /* the block is a hole: zeros */
+    HARPTIMBER_NO_NAME = 2,         /* the root directory has no such name */
+    HARPTIMBER_PAST_END = 3,        /* the block index lies past the end */
+    HARPTIMBER_OUT_OF_SHAPE = 4,    /* the call itself is out of shape: a bad name, number or length */
+    HARPTIMBER_NO_SUPERBLOCK = 5,   /* neither copy of the superblock passes */
+    HARPTIMBER_FEATURES = 6,        /* the card has features or a payload, which aren't read */
+    HARPTIMBER_NO_CHECKPOINT = 7,   /* neither checkpoint pack passes */
+    HARPTIMBER_UNREADABLE = 8,      /* the checkpoint pack in use has its maps or journal out of place */
+    HARPTIMBER_NO_NODE = 9,         /* a node number is out of range, or its address is 0 */
+    HARPTIMBER_NODE_OUTSIDE = 10,   /* a node's address lies outside the main area */
+    HARPTIMBER_FOREIGN_NODE = 11,   /* a node block belongs elsewhere */
+    HARPTIMBER_KIND_NOT_READ = 12,  /* an inode of a kind that isn't read */
+    HARPTIMBER_DATA_OUTSIDE = 13,   /* a data address lies outside the main area */
+    HARPTIMBER_MALFORMED_SLOT = 14, /* a directory entry doesn't fit its block */
+    HARPTIMBER_SAME = 15,           /* Compare: the new image gives the same answer */
+    HARPTIMBER_CHANGED = 16         /* Compare: something that the answer rested on has changed */
 };
 
 /* The result of harptimber_name_hash. */
@@ -92,6 +104,49 @@ struct harptimber_entry {
  * 116,480 times the card's NAT segments, less 1; any other is HARPTIMBER_NO_NODE.
  */
 struct harptimber_entry harptimber_node_lookup(const uint8_t *image, size_t image_len, uint32_t number);
+
+/* The result of harptimber_pull. */
+struct harptimber_pulled {
+    uint32_t answer;      /* one of 0 to 14 of harptimber_answer */
+    uint32_t byte_count;  /* with 0 and 1: how many bytes of the block are the file's, 1 to 4,096 */
+    uint32_t node_count;  /* how many numbers of the node list were written, at most 179 */
+    uint32_t block_count; /* how many numbers of the block list were written, at most 238 */
+};
+
+/*
+ * Block `index` of a file in the root directory, and what the answer rested on. `block` has exactly
+ * 4,096 bytes; `nodes` has room for at least 179 numbers and `blocks` for at least 238, four bytes a
+ * number, the lowest byte first (a remainder isn't used); otherwise the answer is 4.
+ *
+ * The block buffer is written with 0 (the file's bytes up to the count, then zeros) and with 1 (zeros),
+ * and left untouched by every other answer. With 4 to 8 the lists are untouched and their counts are 0;
+ * otherwise the node list holds the node numbers that were looked up, and the block list the main-area
+ * blocks that were read, each once, rising, and entries behind the counts are untouched.
+ */
+struct harptimber_pulled harptimber_pull(const uint8_t *image, size_t image_len, const uint8_t *name,
+                                         size_t name_len, uint32_t index, uint8_t *block,
+                                         size_t block_len, uint8_t *nodes, size_t nodes_len,
+                                         uint8_t *blocks, size_t blocks_len);
+
+/* The result of harptimber_compare. */
+struct harptimber_compared {
+    uint32_t answer; /* HARPTIMBER_SAME, HARPTIMBER_CHANGED, or 4 to 8 */
+    uint32_t side;   /* with 5 to 8: 1 for the kept image, 2 for the new one */
+    uint32_t kind;   /* with 16: 1 the main area bounds differ, 2 a node's table answer, 3 a block's bytes */
+    uint32_t number; /* with 16: the lowest node number or block that differs; 0 with kind 1 */
+};
+
+/*
+ * Whether a pull gives the same on a new image: `kept` is the image it was made on, the lists and
+ * counts are those it left. It writes nowhere. HARPTIMBER_SAME is answered exactly if both images have
+ * the same main area bounds, each listed node number has the same table answer in both, and each listed
+ * block the same bytes; then that pull on the new image gives the same answer, byte count, block bytes
+ * and lists. 4 is answered for an image's length (first), and for lists that no pull leaves.
+ */
+struct harptimber_compared harptimber_compare(const uint8_t *kept, size_t kept_len, const uint8_t *fresh,
+                                              size_t fresh_len, const uint8_t *nodes, size_t nodes_len,
+                                              uint32_t node_count, const uint8_t *blocks,
+                                              size_t blocks_len, uint32_t block_count);
 
 #ifdef __cplusplus
 }
