@@ -10,6 +10,8 @@ pub mod place;
 pub mod bytes;
 pub mod open;
 pub mod lookup;
+pub mod pull;
+pub mod compare;
 
 #[cfg(test)]
 mod sample;

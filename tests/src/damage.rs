@@ -109,11 +109,17 @@ fn in_each(blocks: &[u32], field: Field) -> Vec<(u32, Field)> {
     blocks.iter().map(|&block| (block, field)).collect()
 }
 
-/// A new value for a number, of a kind that rules may take wrongly.
+/// A new value for a number of a superblock, a checkpoint or a journal.
 fn damaged(image: &Image, (block, field): (u32, Field), random: &mut Random) -> u64 {
-    let old = image.get(block, field);
     let siblings = if block < 2 { superblock::ALL } else { ALL };
-    match random.below(10) {
+    let of_sibling = image.get(block, pick(random, siblings));
+    let likely = [of_sibling, pick(random, &BOUNDS)];
+    altered(random, image.get(block, field), field, &likely)
+}
+
+/// A new value for a number, of a kind that rules may take wrongly; one in three is a likely one.
+pub fn altered(random: &mut Random, old: u64, field: Field, likely: &[u64]) -> u64 {
+    match random.below(12) {
         0 => 0,
         1 => field.greatest(),
         2 => old.wrapping_add(1),
@@ -123,7 +129,6 @@ fn damaged(image: &Image, (block, field): (u32, Field), random: &mut Random) -> 
         // 512 times this wraps to 512 times the old value in 32 bits.
         6 => old.wrapping_add((1 + random.below(511)) << 23),
         7 => random.below(600),
-        8 => image.get(block, pick(random, siblings)),
-        _ => pick(random, &BOUNDS),
+        _ => pick(random, likely),
     }
 }

@@ -4,7 +4,7 @@
 use std::fmt::{Debug, Formatter, Result};
 use std::ops::Range;
 
-use crate::knobs::{Areas, Knobs, Pack};
+use crate::knobs::{Areas, Knobs, Pack, MOST_BLOCKS};
 use crate::layout::nat::{NatEntry, ENTRIES_PER_BLOCK, MAP_BYTES_PER_SEGMENT};
 use crate::layout::{checkpoint, footer, journal, nat, superblock};
 use crate::layout::{Field, BLOCK_SIZE, SEGMENT_BLOCKS};
@@ -45,6 +45,15 @@ impl Image {
         image
     }
 
+    /// With one block too many. The pages that nothing is written to are never really there, so that
+    /// a gigabyte costs little.
+    pub fn largest(knobs: Knobs) -> Image {
+        Image::new(&Knobs {
+            spare_image_blocks: MOST_BLOCKS + 1 - knobs.image_blocks(),
+            ..knobs
+        })
+    }
+
     /// An image that wasn't built here. Its first superblock copy has to be sound.
     pub fn read(origin: String, bytes: Vec<u8>) -> Image {
         let number = |field| number_in(&bytes, 0, field) as u32;
@@ -75,6 +84,10 @@ impl Image {
         &self.bytes
     }
 
+    pub fn block(&self, block: u32) -> &[u8] {
+        &self.bytes[place(block, 0, BLOCK_SIZE)]
+    }
+
     pub fn get(&self, block: u32, field: Field) -> u64 {
         number_in(&self.bytes, block, field)
     }
@@ -84,7 +97,7 @@ impl Image {
         self.put(field.name, block, field.at, &stored[..field.size]);
     }
 
-    fn set_all(&mut self, block: u32, fields: &[(Field, u64)]) {
+    pub fn set_all(&mut self, block: u32, fields: &[(Field, u64)]) {
         for &(field, value) in fields {
             self.set(block, field, value);
         }
@@ -106,6 +119,13 @@ impl Image {
     /// For `undo`: how many patches there are by now.
     pub fn mark(&self) -> usize {
         self.patches.len()
+    }
+
+    /// Makes what was written part of the image, so that it isn't undone. A mismatch then shows
+    /// these words instead of the patches.
+    pub fn settle(&mut self, words: &str) {
+        self.patches.clear();
+        self.origin = format!("{words} on {}", self.origin);
     }
 
     /// Takes back what was written since the mark.
@@ -179,7 +199,8 @@ impl Image {
         self.areas.nat + (2 * pairs_before + copy) * SEGMENT_BLOCKS + within
     }
 
-    fn nat_place(&self, nid: u32, copy: u32) -> (u32, usize) {
+    /// The block that has a number's entry, and the entry's first byte there.
+    pub fn nat_place(&self, nid: u32, copy: u32) -> (u32, usize) {
         let slot = (nid % ENTRIES_PER_BLOCK) as usize;
         let block = self.nat_block(nid / ENTRIES_PER_BLOCK, copy);
         (block, slot * nat::ENTRY_SIZE)
@@ -213,11 +234,15 @@ impl Image {
         };
         self.set_nat_entry(nid, 0, entry);
         self.set_nat_entry(nid, 1, entry);
-        let flag = u64::from(place_number) << footer::OFFSET_BIT_SHIFT;
-        self.set(block_addr, footer::NID, u64::from(nid));
-        self.set(block_addr, footer::INO, u64::from(ino));
-        self.set(block_addr, footer::FLAG, flag);
+        self.put_footer(block_addr, nid, ino, place_number);
         block_addr
+    }
+
+    pub fn put_footer(&mut self, block: u32, nid: u32, ino: u32, place_number: u32) {
+        let flag = u64::from(place_number) << footer::OFFSET_BIT_SHIFT;
+        self.set(block, footer::NID, u64::from(nid));
+        self.set(block, footer::INO, u64::from(ino));
+        self.set(block, footer::FLAG, flag);
     }
 }
 

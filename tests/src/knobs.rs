@@ -6,6 +6,9 @@ use crate::layout::nat::{BLOCKS_PER_SEGMENT, ENTRIES_PER_BLOCK, MAP_BYTES_PER_SE
 use crate::layout::superblock::*;
 use crate::layout::{Field, SEGMENT_BLOCKS};
 
+/// The most blocks that an image may have.
+pub const MOST_BLOCKS: u32 = 262_144;
+
 /// A checkpoint pack.
 #[derive(Clone, Debug)]
 pub struct Pack {
@@ -52,6 +55,12 @@ impl Pack {
         let clean = self.flags & (CP_UMOUNT_FLAG | CP_FASTBOOT_FLAG) != 0;
         let from_end = if clean { 7 } else { 4 };
         (self.total > from_end).then(|| (self.total - from_end, journal::IN_PLAIN_BLOCK))
+    }
+
+    /// Which copy of a table block its map says is in use.
+    pub fn nat_copy(&self, table_block: u32) -> u32 {
+        let byte = self.nat_map.get(table_block as usize / 8).unwrap_or(&0);
+        u32::from(byte >> (7 - table_block % 8) & 1)
     }
 
     /// The numbers of its first block, but for the checksum.
@@ -122,6 +131,19 @@ impl Knobs {
         let mut packs = [None, None];
         packs[which] = Some(pack);
         Knobs { packs, ..self }
+    }
+
+    /// The pack with the greater version, or the first of two with the same; and which it is.
+    pub fn pack_in_use(&self) -> (usize, &Pack) {
+        let there = self.packs.iter().flatten();
+        let greatest = there.map(|pack| pack.version).max();
+        let is_greatest = |pack: &Pack| Some(pack.version) == greatest;
+        let mut packs = self.packs.iter().enumerate();
+        packs
+            .find_map(|(which, pack)| {
+                Some((which, pack.as_ref().filter(|pack| is_greatest(pack))?))
+            })
+            .expect("a pack")
     }
 
     pub fn areas(&self) -> Areas {

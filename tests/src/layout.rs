@@ -1,5 +1,5 @@
-//! Where the numbers stand that opening a card and looking up a node consult, under their names in
-//! the Linux header f2fs_fs.h. All are little-endian; places count from the start of a block.
+//! Where the numbers stand that the library consults, under their names in the Linux header
+//! f2fs_fs.h. All are little-endian; places count from the start of a block.
 
 pub const BLOCK_SIZE: usize = 4096;
 pub const SEGMENT_BLOCKS: u32 = 512;
@@ -115,6 +115,13 @@ pub mod nat {
     /// Bytes of a map for each segment of its area.
     pub const MAP_BYTES_PER_SEGMENT: u32 = 32;
 
+    // The numbers of a block's first entry.
+    fields! { from 0:
+        VERSION: 1 at 0,
+        INO: 4 at 1,
+        BLOCK_ADDR: 4 at 5,
+    }
+
     /// What the table says of a node number.
     #[derive(Clone, Copy, Debug, PartialEq, Eq)]
     pub struct NatEntry {
@@ -183,4 +190,63 @@ pub mod footer {
 
     /// The flag word has the node's place number from this bit on.
     pub const OFFSET_BIT_SHIFT: u32 = 3;
+}
+
+/// An inode, at the start of its node block.
+pub mod inode {
+    fields! { from 0:
+        I_MODE: 2 at 0,
+        I_INLINE: 1 at 3,
+        I_SIZE: 8 at 16,
+        I_CURRENT_DEPTH: 4 at 72,
+        I_DIR_LEVEL: 1 at 347,
+    }
+
+    pub const S_IFREG: u64 = 0x8000;
+    pub const S_IFDIR: u64 = 0x4000;
+
+    /// With it the inode has fewer addresses.
+    pub const INLINE_XATTR: u64 = 0x01;
+    /// Inode kinds that aren't read: the file's or the directory's contents stand in the inode, or
+    /// the addresses start further on.
+    pub const INLINE_DATA: u64 = 0x02;
+    pub const INLINE_DENTRY: u64 = 0x04;
+    pub const EXTRA_ATTR: u64 = 0x20;
+
+    pub const ADDRESSES: u32 = 923;
+    pub const ADDRESSES_WITH_XATTR: u32 = 873;
+}
+
+/// The first of the slots in a node block that lead on: addresses and node numbers in an inode, and
+/// one or the other in every other node.
+pub mod slots {
+    fields! { from 0:
+        I_ADDR: 4 at 360,
+        I_NID: 4 at 4052,
+        ADDR_OR_NID: 4 at 0,
+    }
+
+    pub const SIZE: usize = 4;
+    pub const NIDS_PER_INODE: usize = 5;
+    /// In a node that isn't an inode.
+    pub const PER_NODE: u64 = 1018;
+}
+
+/// A block of a directory.
+pub mod dentry {
+    // The numbers of the first slot's entry.
+    fields! { from 30:
+        HASH_CODE: 4 at 0,
+        INO: 4 at 4,
+        NAME_LEN: 2 at 8,
+        FILE_TYPE: 1 at 10,
+    }
+
+    pub const NR_DENTRY_IN_BLOCK: usize = 214;
+    pub const MAP_BYTES: usize = 27;
+    pub const ENTRY_SIZE: usize = 11;
+    /// Bytes of a name in one slot.
+    pub const SLOT_LEN: usize = 8;
+    pub const FILENAMES: usize = 2384;
+    pub const LONGEST_NAME: usize = 255;
 }

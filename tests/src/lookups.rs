@@ -1,8 +1,8 @@
 //! Node lookups in the library, compared with the reference and with what the paper says.
 
-use std::collections::BTreeMap;
 use std::fmt::Debug;
 
+use crate::answers::Answers;
 use crate::image::Image;
 use crate::layout::journal::JournalEntry;
 use crate::layout::nat::NatEntry;
@@ -11,15 +11,14 @@ use crate::{node_lookup, Entry};
 
 pub struct Lookups {
     pub trial: Trial,
-    /// How often each answer came up.
-    seen: BTreeMap<u32, u64>,
+    answers: Answers,
 }
 
 impl Lookups {
     pub fn new(name: &'static str) -> Lookups {
         Lookups {
             trial: Trial::new(name),
-            seen: BTreeMap::new(),
+            answers: Answers::default(),
         }
     }
 
@@ -58,7 +57,7 @@ impl Lookups {
     /// What the library finds, and what the reference does.
     fn look_up(&mut self, bytes: &[u8], number: u32) -> (Entry, Entry) {
         let library = node_lookup(bytes, number);
-        *self.seen.entry(library.answer).or_default() += 1;
+        self.answers.note(library.answer);
         let reference = reference::lookup::node_lookup(bytes, number);
         (library, by_reference(reference))
     }
@@ -66,11 +65,7 @@ impl Lookups {
     /// Ends the trial, in which each of these answers has to have come up.
     pub fn finish(self, at_least: u64, answers: &[u32]) {
         self.trial.finish(at_least);
-        println!("  answers, each with how often: {:?}", self.seen);
-        for answer in answers {
-            let seen = self.seen.contains_key(answer);
-            assert!(seen, "answer {answer} never came up");
-        }
+        self.answers.finish(answers);
     }
 }
 

@@ -1,4 +1,4 @@
-//! Random sound cards.
+//! Random sound cards, and random choices.
 
 use crate::knobs::{Knobs, Pack};
 use crate::layout::checkpoint::{CP_COMPACT_SUM_FLAG, CP_LARGE_NAT_BITMAP_FLAG};
@@ -11,8 +11,14 @@ pub fn pick<T: Copy>(random: &mut Random, choices: &[T]) -> T {
     choices[random.below(choices.len() as u64) as usize]
 }
 
+pub fn shuffle<T>(random: &mut Random, items: &mut [T]) {
+    for last in (1..items.len()).rev() {
+        items.swap(last, random.below(last as u64 + 1) as usize);
+    }
+}
+
 /// A number from `least` to `most`, often one of the two.
-fn between(random: &mut Random, least: u32, most: u32) -> u32 {
+pub fn between(random: &mut Random, least: u32, most: u32) -> u32 {
     let any = least + random.below(u64::from(most - least) + 1) as u32;
     pick(random, &[least, most, any, any])
 }

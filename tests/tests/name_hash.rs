@@ -1,6 +1,7 @@
 //! Name hash against the reference, on well over 100,000 names.
 
-use harptimber_tests::trial::{Random, Trial};
+use harptimber_tests::names::good_name;
+use harptimber_tests::trial::Trial;
 use harptimber_tests::Hashed;
 
 const LONGEST: u64 = 300;
@@ -11,18 +12,6 @@ fn compare(trial: &mut Trial, name: &[u8]) {
         None => Hashed { answer: 4, hash: 0 },
     };
     trial.compare(name, harptimber_tests::name_hash(name), expected);
-}
-
-/// A byte that a name may have.
-fn good_byte(random: &mut Random) -> u8 {
-    match random.number() as u8 {
-        0 | b'/' => b'.',
-        byte => byte,
-    }
-}
-
-fn good_name(random: &mut Random, len: usize) -> Vec<u8> {
-    (0..len).map(|_| good_byte(random)).collect()
 }
 
 #[test]

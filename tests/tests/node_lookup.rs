@@ -1,13 +1,13 @@
 //! Node lookup: the image's length, and which of several answers comes first.
 
 use harptimber_tests::image::Image;
-use harptimber_tests::knobs::Knobs;
+use harptimber_tests::knobs::{self, Knobs};
 use harptimber_tests::layout::checkpoint::{CHECKSUM_OFFSET, CKPT_FLAGS, CP_LARGE_NAT_BITMAP_FLAG};
 use harptimber_tests::layout::superblock::{FEATURE, MAGIC};
 use harptimber_tests::layout::BLOCK_SIZE;
 use harptimber_tests::lookups::Lookups;
 
-const MOST_BLOCKS: usize = 262_144;
+const MOST_BLOCKS: usize = knobs::MOST_BLOCKS as usize;
 const NUMBERS: [u32; 4] = [0, 1, 3, u32::MAX];
 
 /// Looks up numbers in the first `len` bytes; `answer` is that of numbers in range.
@@ -22,18 +22,10 @@ fn expect_at_length(lookups: &mut Lookups, image: &Image, len: usize, answer: u3
     }
 }
 
-/// The pages that nothing is written to are never really there, so that a gigabyte costs little.
-fn largest(knobs: Knobs) -> Image {
-    Image::new(&Knobs {
-        spare_image_blocks: MOST_BLOCKS as u32 + 1 - knobs.image_blocks(),
-        ..knobs
-    })
-}
-
 #[test]
 fn lengths_of_a_sound_card() {
     let mut lookups = Lookups::new("node lookup by length");
-    let image = largest(Knobs::sound());
+    let image = Image::largest(Knobs::sound());
     let blocks = image.areas.block_count as usize;
     let by_blocks = [
         (0, 4),
@@ -62,7 +54,7 @@ fn lengths_of_a_sound_card() {
 #[test]
 fn lengths_of_zeros() {
     let mut lookups = Lookups::new("node lookup in zeros");
-    let image = largest(Knobs {
+    let image = Image::largest(Knobs {
         copies: [false, false],
         packs: [None, None],
         ..Knobs::sound()

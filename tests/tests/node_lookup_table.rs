@@ -23,24 +23,19 @@ fn with_map(nat_segments: u32, nat_map: Vec<u8>) -> Knobs {
     }
 }
 
-/// Which copy of a table block the map says is in use.
-fn copy_by(nat_map: &[u8], table_block: u32) -> u32 {
-    let byte = nat_map[table_block as usize / 8];
-    u32::from(byte >> (7 - table_block % 8) & 1)
-}
-
 /// The reference opens the card once; the library does for each number.
 fn compare_all(name: &'static str, numbers: Range<u32>) {
     let mut trial = Trial::new(name);
     let nat_map = trial.random.bytes(2 * MAP_BYTES_PER_SEGMENT as usize);
-    let knobs = with_map(2, nat_map.clone());
+    let knobs = with_map(2, nat_map);
     let image = Image::new(&knobs);
+    let (_, pack) = knobs.pack_in_use();
     let volume = reference::open::open(image.bytes()).expect("a sound card opens");
     let expected = |number: u32| -> Entry {
         if number == 0 || number >= knobs.node_numbers() {
             return by_reference(Err(9));
         }
-        let copy = copy_by(&nat_map, number / ENTRIES_PER_BLOCK);
+        let copy = pack.nat_copy(number / ENTRIES_PER_BLOCK);
         found(image.nat_entry(number, copy))
     };
     for number in numbers.clone() {

@@ -1,85 +1,15 @@
 //! Node lookup in images that the published tools write: mkfs.f2fs and sload.f2fs, which Debian has
 //! in f2fs-tools.
 
-use std::fs::{self, File};
-use std::io::Read;
-use std::path::{Path, PathBuf};
-use std::process::{self, Command};
-use std::sync::atomic::{AtomicU32, Ordering};
-
+use harptimber_tests::card::ROOT;
 use harptimber_tests::damage::Damage;
 use harptimber_tests::image::Image;
 use harptimber_tests::layout::nat::{BLOCKS_PER_SEGMENT, ENTRIES_PER_BLOCK};
 use harptimber_tests::layout::{checkpoint, footer, superblock};
 use harptimber_tests::lookups::Lookups;
 use harptimber_tests::node_lookup;
+use harptimber_tests::published::{filled_with, formatted};
 use harptimber_tests::random_card::pick;
-
-const MEGABYTE: usize = 1 << 20;
-const ROOT: u32 = 3;
-
-/// A folder of a test's own, which goes with it.
-struct Scratch(PathBuf);
-
-impl Scratch {
-    fn new() -> Scratch {
-        static MADE: AtomicU32 = AtomicU32::new(0);
-        let made = MADE.fetch_add(1, Ordering::Relaxed);
-        let folder = Path::new(env!("CARGO_TARGET_TMPDIR"));
-        let folder = folder.join(format!("image-{}-{made}", process::id()));
-        fs::create_dir_all(&folder).expect("a folder for images");
-        Scratch(folder)
-    }
-
-    fn image_path(&self) -> PathBuf {
-        self.0.join("image")
-    }
-
-    /// Writes a sparse image.
-    fn format(&self, megabytes: usize, options: &str) {
-        let file = File::create(self.image_path()).expect("an image file");
-        let len = megabytes * MEGABYTE;
-        file.set_len(len as u64).expect("room for an image");
-        run(Command::new("mkfs.f2fs")
-            .args(options.split_whitespace())
-            .arg(self.image_path()));
-    }
-
-    /// Reads the image. Zeros aren't written to memory, which for them isn't really there.
-    fn image(&self, origin: String) -> Image {
-        let mut file = File::open(self.image_path()).expect("the image");
-        let len = file.metadata().expect("its length").len() as usize;
-        let (mut bytes, mut part) = (vec![0; len], vec![0; MEGABYTE]);
-        for place in bytes.chunks_exact_mut(MEGABYTE) {
-            file.read_exact(&mut part).expect("its bytes");
-            if part.iter().any(|&byte| byte != 0) {
-                place.copy_from_slice(&part);
-            }
-        }
-        Image::read(origin, bytes)
-    }
-}
-
-impl Drop for Scratch {
-    fn drop(&mut self) {
-        // What can't be removed is no fault of the library.
-        let _ = fs::remove_dir_all(&self.0);
-    }
-}
-
-fn run(command: &mut Command) {
-    let output = command
-        .output()
-        .unwrap_or_else(|error| panic!("{command:?}: {error}; Debian's f2fs-tools has it"));
-    let log = String::from_utf8_lossy(&output.stdout);
-    assert!(output.status.success(), "{command:?} failed:\n{log}");
-}
-
-fn formatted(megabytes: usize, options: &str) -> Image {
-    let scratch = Scratch::new();
-    scratch.format(megabytes, options);
-    scratch.image(format!("mkfs.f2fs {options} of {megabytes} MB"))
-}
 
 /// The first number past the table.
 fn numbers_of(image: &Image) -> u32 {
@@ -197,18 +127,12 @@ fn formatted_with_large_nat_map() {
 fn filled() {
     const FILES: usize = 600;
     let mut lookups = Lookups::new("sload");
-    let scratch = Scratch::new();
-    scratch.format(100, "");
-    let folder = scratch.0.join("files");
-    fs::create_dir(&folder).expect("a folder for files");
-    for file in 0..FILES {
-        let bytes = vec![file as u8; 1 + file * 20];
-        fs::write(folder.join(format!("file {file}")), bytes).expect("a file");
-    }
-    run(Command::new("sload.f2fs")
-        .arg("-f")
-        .args([folder, scratch.image_path()]));
-    let image = scratch.image("sload.f2fs over 100 MB".into());
+    let file = |n: usize| {
+        let name = format!("file {n}").into_bytes();
+        (name, vec![n as u8; 1 + n * 20])
+    };
+    let files: Vec<_> = (0..FILES).map(file).collect();
+    let image = filled_with(100, "", &files);
     expect_opened(&mut lookups, &image);
     let nodes = expect_nodes(&mut lookups, &image);
     lookups.finish(2 * 511 + 2000 + 5 + 1000 + 601, &[0, 9]);

@@ -1,0 +1,519 @@
+//! Pull: one block of a file in the root directory, with the nodes and blocks it stood on.
+
+use std::collections::BTreeSet;
+
+use crate::bytes::{le16, le32, le64, BLOCK_SIZE};
+use crate::hash::{is_name, raw_hash};
+use crate::lookup::lookup_in;
+use crate::open::{is_image_length, open, Volume};
+use crate::place::{file_place, Place, Way, ADDRESSES, ADDRESSES_WITH_XATTR};
+
+const ROOT: u32 = 3;
+const DIRECTORY: u16 = 4;
+const REGULAR: u16 = 8;
+
+/// "a node list of at least 179 and a block list of at least 238 32-bit numbers"
+const NODES_LENT: usize = 179;
+const BLOCKS_LENT: usize = 238;
+
+/// "A block has 214 slots"
+const SLOTS: usize = 214;
+
+/// The result numbers of a pull; those that the answer doesn't name are 0.
+#[derive(Debug, Clone, Copy, PartialEq, Eq, Default)]
+pub struct Pulled {
+    pub answer: u32,
+    pub byte_count: u32,
+    pub node_count: u32,
+    pub block_count: u32,
+}
+
+/// Reads block `index` of the file `name`. The lists are lent as bytes, four to a number.
+pub fn pull(
+    image: &[u8],
+    name: &[u8],
+    index: u32,
+    block: &mut [u8],
+    nodes: &mut [u8],
+    blocks: &mut [u8],
+) -> Pulled {
+    let in_shape = is_image_length(image.len())
+        && is_name(name)
+        && block.len() == BLOCK_SIZE
+        && nodes.len() / 4 >= NODES_LENT
+        && blocks.len() / 4 >= BLOCKS_LENT;
+    if !in_shape {
+        return Pulled { answer: 4, ..Pulled::default() };
+    }
+    // 5 to 8, like 4: buffer and lists untouched, counts 0.
+    let volume = match open(image) {
+        Ok(volume) => volume,
+        Err(answer) => return Pulled { answer, ..Pulled::default() },
+    };
+    let mut walk = Walk::new(volume);
+    let (answer, byte_count) = match walk.root_then_file(name, index) {
+        Ok(found) => found.hand_out(block),
+        Err(answer) => (answer, 0),
+    };
+    write_list(nodes, &walk.nodes);
+    write_list(blocks, &walk.blocks);
+    Pulled {
+        answer,
+        byte_count,
+        node_count: walk.nodes.len() as u32,
+        block_count: walk.blocks.len() as u32,
+    }
+}
+
+/// "Written": "the first entries, as many as the count, rising, each once; later entries
+/// untouched"
+fn write_list(list: &mut [u8], numbers: &BTreeSet<u32>) {
+    for (entry, number) in list.chunks_exact_mut(4).zip(numbers) {
+        entry.copy_from_slice(&number.to_le_bytes());
+    }
+}
+
+/// The file's block that was asked for: 0 with data, 1 for a hole.
+struct Found<'a> {
+    /// 1 to 4,096.
+    count: u32,
+    data: Option<&'a [u8]>,
+}
+
+impl Found<'_> {
+    /// Fills the lent buffer and gives answer and byte count.
+    fn hand_out(&self, block: &mut [u8]) -> (u32, u32) {
+        block.fill(0);
+        let Some(data) = self.data else {
+            return (1, self.count);
+        };
+        // "file bytes up to the count, then zeros"
+        for (byte, &stored) in block.iter_mut().zip(data).take(self.count as usize) {
+            *byte = stored;
+        }
+        (0, self.count)
+    }
+}
+
+/// An inode that was read and checked.
+#[derive(Clone, Copy)]
+struct Inode<'a> {
+    number: u32,
+    block: &'a [u8],
+}
+
+impl Inode<'_> {
+    /// "size 16 (64 bits)"
+    fn size(&self) -> u64 {
+        le64(self.block, 16)
+    }
+
+    fn inline(&self) -> u8 {
+        self.block.get(3).copied().unwrap_or(0)
+    }
+
+    /// "Inline bit 1 set: A = 873 addresses, else A = 923."
+    fn addresses(&self) -> u32 {
+        if self.inline() & 1 != 0 {
+            ADDRESSES_WITH_XATTR
+        } else {
+            ADDRESSES
+        }
+    }
+
+    /// "The root must be a directory and the file regular, both with inline bits 2, 4 and 20 hex
+    /// clear, else 12."
+    fn expect_kind(&self, kind: u16) -> Result<(), u32> {
+        let mode = le16(self.block, 0);
+        if mode >> 12 != kind || self.inline() & 0x26 != 0 {
+            return Err(12);
+        }
+        Ok(())
+    }
+
+    /// "Depth over 63 or directory level not 0: 12."
+    fn directory_depth(&self) -> Result<u32, u32> {
+        let depth = le32(self.block, 72);
+        let level = self.block.get(347).copied().unwrap_or(0);
+        if depth > 63 || level != 0 {
+            return Err(12);
+        }
+        Ok(depth)
+    }
+}
+
+/// The walk through an opened volume, with the node numbers asked of the table and the blocks of
+/// the main area read so far. Errors are answer numbers.
+struct Walk<'a> {
+    volume: Volume<'a>,
+    nodes: BTreeSet<u32>,
+    blocks: BTreeSet<u32>,
+}
+
+impl<'a> Walk<'a> {
+    fn new(volume: Volume<'a>) -> Walk<'a> {
+        Walk { volume, nodes: BTreeSet::new(), blocks: BTreeSet::new() }
+    }
+
+    /// "then walks the root, then the file, and stops at the first of 2, 3, 9 to 14 that it
+    /// meets"
+    fn root_then_file(&mut self, name: &[u8], index: u32) -> Result<Found<'a>, u32> {
+        let number = self.search_root(name)?;
+        self.read_file(number, index)
+    }
+
+    /// Block `index` of the regular file with this inode number.
+    fn read_file(&mut self, number: u32, index: u32) -> Result<Found<'a>, u32> {
+        let inode = self.read_inode(number)?;
+        inode.expect_kind(REGULAR)?;
+        // "Answer 3 if index × 4,096 ≥ size or the index is larger."
+        let start = u64::from(index) * BLOCK_SIZE as u64;
+        if start >= inode.size() {
+            return Err(3);
+        }
+        let Place::Way(way) = file_place(inode.addresses(), index) else {
+            return Err(3);
+        };
+        // "Count: the smaller of 4,096 and size − 4,096 × index."
+        let count = (inode.size() - start).min(BLOCK_SIZE as u64) as u32;
+        let data = self.read_data(&inode, &way)?;
+        Ok(Found { count, data })
+    }
+
+    fn read_inode(&mut self, number: u32) -> Result<Inode<'a>, u32> {
+        // "for an inode, the number itself"; "Place numbers: inode 0"
+        let block = self.read_node(number, number, 0)?;
+        Ok(Inode { number, block })
+    }
+
+    /// "At a node: 9, 10, then the block is read and listed, then 11"
+    fn read_node(&mut self, number: u32, inode: u32, place: u32) -> Result<&'a [u8], u32> {
+        // A number asked of the table is listed, also if the answer is 9.
+        self.nodes.insert(number);
+        let (table_inode, address) = lookup_in(&self.volume, number)?;
+        // "node number out of range, or its address is 0"
+        if address == 0 {
+            return Err(9);
+        }
+        // "node address outside the main area"
+        if !self.volume.in_main_area(address) {
+            return Err(10);
+        }
+        let node = self.read_block(address);
+        // "A node block ends with 24 bytes: number, inode, flag, version, next. The block's
+        // number must be the one asked, its inode and the table's inode the file's inode number
+        // [...], and flag / 8 its place number; else 11."
+        let belongs = le32(node, 4072) == number
+            && le32(node, 4076) == inode
+            && table_inode == inode
+            && le32(node, 4080) / 8 == place;
+        if belongs {
+            Ok(node)
+        } else {
+            Err(11)
+        }
+    }
+
+    /// Follows the way from the inode; `None` is a hole.
+    fn read_data(&mut self, inode: &Inode<'a>, way: &Way) -> Result<Option<&'a [u8]>, u32> {
+        let mut node = inode.block;
+        let mut first_number = 4052;
+        let mut first_address = 360;
+        let mut steps = way.steps().iter().peekable();
+        while let Some(step) = steps.next() {
+            let slot = step.slot as usize;
+            let Some(next) = steps.peek() else {
+                return self.read_address(le32(node, first_address + 4 * slot));
+            };
+            let number = le32(node, first_number + 4 * slot);
+            // "Inside a node, number 0 [...] [is a hole]"
+            if number == 0 {
+                return Ok(None);
+            }
+            node = self.read_node(number, inode.number, next.place)?;
+            // Nodes below the inode hold their numbers from their first byte.
+            first_number = 0;
+            first_address = 0;
+        }
+        Ok(None)
+    }
+
+    /// "address 0 and address FFFFFFFF are holes"
+    fn read_address(&mut self, address: u32) -> Result<Option<&'a [u8]>, u32> {
+        if address == 0 || address == u32::MAX {
+            return Ok(None);
+        }
+        // "data address outside the main area"
+        if !self.volume.in_main_area(address) {
+            return Err(13);
+        }
+        Ok(Some(self.read_block(address)))
+    }
+
+    /// Reads and lists a block of the main area.
+    fn read_block(&mut self, address: u32) -> &'a [u8] {
+        self.blocks.insert(address);
+        self.volume.block(address)
+    }
+
+    /// The inode number under this name: "The name is sought in the root directory."
+    fn search_root(&mut self, name: &[u8]) -> Result<u32, u32> {
+        let root = self.read_inode(ROOT)?;
+        root.expect_kind(DIRECTORY)?;
+        let depth = root.directory_depth()?;
+        // "Then size 0: 2; size isn't consulted otherwise."
+        if root.size() == 0 {
+            return Err(2);
+        }
+        let hash = raw_hash(name);
+        // "Search levels 0 to depth − 1, in each the bucket hash mod buckets, its blocks in
+        // order, slots rising, stopping at the first match."
+        for level in (0..depth).map(level) {
+            let bucket = u64::from(hash) % level.buckets;
+            let first = level.start + bucket * level.bucket_blocks;
+            for index in first..first + level.bucket_blocks {
+                let Some(block) = self.directory_block(&root, index)? else {
+                    continue;
+                };
+                if let Some(inode) = search_block(block, name, hash)? {
+                    return Ok(inode);
+                }
+            }
+        }
+        Err(2)
+    }
+
+    /// "A hole is an empty block, with only the nodes on the way to it looked up and read; so is
+    /// an index past the last place, for which nothing is looked up or read."
+    fn directory_block(&mut self, root: &Inode<'a>, index: u64) -> Result<Option<&'a [u8]>, u32> {
+        let Ok(index) = u32::try_from(index) else {
+            return Ok(None);
+        };
+        match file_place(root.addresses(), index) {
+            Place::Way(way) => self.read_data(root, &way),
+            Place::BadAddresses | Place::Past => Ok(None),
+        }
+    }
+}
+
+/// One level of a directory's hash table.
+struct Level {
+    /// Index of its first block.
+    start: u64,
+    buckets: u64,
+    bucket_blocks: u64,
+}
+
+/// "level n below 31 has 2^n buckets of 2 blocks, others 2^30 of 4"
+fn level(n: u32) -> Level {
+    let shape = |n: u32| if n < 31 { (1u64 << n, 2) } else { (1 << 30, 4) };
+    let (buckets, bucket_blocks) = shape(n);
+    // Each level starts where the one before ends.
+    let start = (0..n).map(shape).map(|(buckets, blocks)| buckets * blocks).sum();
+    Level { start, buckets, bucket_blocks }
+}
+
+/// The inode number of the first matching dentry in a directory block.
+///
+/// "A block has 214 slots: map 27 bytes, 3 reserved, entries of 11 (hash, inode, 16-bit length,
+/// type) from 30, names of 8 bytes a slot from 2,384."
+fn search_block(block: &[u8], name: &[u8], hash: u32) -> Result<Option<u32>, u32> {
+    let mut slot = 0;
+    while slot < SLOTS {
+        // "A clear bit moves on one slot."
+        if !slot_is_used(block, slot) {
+            slot += 1;
+            continue;
+        }
+        let entry = 30 + 11 * slot;
+        let length = usize::from(le16(block, entry + 8));
+        let slots = length.div_ceil(8);
+        // "A set one needs length 1 to 255 and ⌈length/8⌉ slots before the end, else 14"
+        if !(1..=255).contains(&length) || slot + slots > SLOTS {
+            return Err(14);
+        }
+        // "then it matches by hash, length and bytes, or the search moves past its slots"
+        let name_at = 2384 + 8 * slot;
+        if le32(block, entry) == hash && block.get(name_at..name_at + length) == Some(name) {
+            return Ok(Some(le32(block, entry + 4)));
+        }
+        slot += slots;
+    }
+    Ok(None)
+}
+
+/// "Directory maps count from the bottom bit."
+fn slot_is_used(map: &[u8], slot: usize) -> bool {
+    let byte = map.get(slot / 8).copied().unwrap_or(0);
+    byte & (1 << (slot % 8)) != 0
+}
+
+#[cfg(test)]
+mod tests {
+    use super::*;
+    use crate::sample::Sample;
+
+    const NAME: &[u8] = b"file";
+    const DATA: usize = 4200;
+
+    /// Root at 4096 with a dentry block at 4097; the file, number 7, at 4098.
+    fn sample(size: u64) -> Sample {
+        let mut sample = Sample::new();
+        sample.put_inode(3, 0x41ED, 4096, 4096);
+        sample.put32(4096, 72, 1);
+        sample.put32(4096, 360, 4097);
+        sample.put_dentry(4097, 0, 0, 3, b".");
+        sample.put_dentry(4097, 1, 0, 3, b"..");
+        sample.put_dentry(4097, 2, raw_hash(NAME), 7, NAME);
+        sample.put_inode(7, 0x81A4, size, 4098);
+        sample
+    }
+
+    struct Lent {
+        block: Vec<u8>,
+        nodes: Vec<u8>,
+        blocks: Vec<u8>,
+    }
+
+    impl Lent {
+        fn new() -> Lent {
+            Lent { block: vec![0xAA; 4096], nodes: vec![0xAA; 716], blocks: vec![0xAA; 952] }
+        }
+
+        fn pull(&mut self, sample: &Sample, name: &[u8], index: u32) -> Pulled {
+            let Lent { block, nodes, blocks } = self;
+            pull(&sample.bytes, name, index, block, nodes, blocks)
+        }
+    }
+
+    fn answer(sample: &Sample, name: &[u8], index: u32) -> Pulled {
+        Lent::new().pull(sample, name, index)
+    }
+
+    fn numbers(list: &[u8], count: u32) -> Vec<u32> {
+        assert!(list[count as usize * 4..].iter().all(|&byte| byte == 0xAA));
+        list.chunks_exact(4).take(count as usize).map(|entry| le32(entry, 0)).collect()
+    }
+
+    #[test]
+    fn levels_start_where_the_sheet_says() {
+        assert_eq!([0, 1, 2, 3].map(|n| level(n).start), [0, 2, 6, 14]);
+        assert_eq!(level(29).start, 1_073_741_822);
+        assert_eq!((level(31).buckets, level(31).bucket_blocks), (1 << 30, 4));
+    }
+
+    #[test]
+    fn byte_80_is_slot_7_of_a_directory() {
+        assert!(slot_is_used(&[0x80], 7));
+        assert!((0..7).all(|slot| !slot_is_used(&[0x80], slot)));
+    }
+
+    #[test]
+    fn length_8_at_slot_213_fits_and_9_is_14() {
+        let mut block = vec![0; 4096];
+        block[213 / 8] = 1 << (213 % 8);
+        block[30 + 11 * 213 + 8] = 8;
+        assert_eq!(search_block(&block, b"other", 1), Ok(None));
+        block[30 + 11 * 213 + 8] = 9;
+        assert_eq!(search_block(&block, b"other", 1), Err(14));
+        block[30 + 11 * 213 + 8] = 0;
+        assert_eq!(search_block(&block, b"other", 1), Err(14));
+    }
+
+    #[test]
+    fn size_4097_gives_count_1_at_index_1_and_3_at_index_2() {
+        let mut sample = sample(4097);
+        sample.put32(4098, 364, DATA as u32);
+        sample.put(DATA, 0, &[9; 4096]);
+        let mut lent = Lent::new();
+        let pulled = lent.pull(&sample, NAME, 1);
+        assert_eq!(pulled, Pulled { answer: 0, byte_count: 1, node_count: 2, block_count: 4 });
+        assert_eq!(lent.block[0], 9);
+        assert!(lent.block[1..].iter().all(|&byte| byte == 0));
+        assert_eq!(numbers(&lent.nodes, 2), [3, 7]);
+        assert_eq!(numbers(&lent.blocks, 4), [4096, 4097, 4098, DATA as u32]);
+        let mut lent = Lent::new();
+        let pulled = lent.pull(&sample, NAME, 2);
+        assert_eq!(pulled, Pulled { answer: 3, byte_count: 0, node_count: 2, block_count: 3 });
+        assert!(lent.block.iter().all(|&byte| byte == 0xAA));
+    }
+
+    #[test]
+    fn holes() {
+        let mut sample = sample(4097);
+        let mut lent = Lent::new();
+        let hole = Pulled { answer: 1, byte_count: 4096, node_count: 2, block_count: 3 };
+        assert_eq!(lent.pull(&sample, NAME, 0), hole);
+        assert!(lent.block.iter().all(|&byte| byte == 0));
+        sample.put32(4098, 360, u32::MAX);
+        assert_eq!(answer(&sample, NAME, 0), hole);
+        sample.put32(4098, 360, 4095);
+        assert_eq!(answer(&sample, NAME, 0).answer, 13);
+        sample.put32(4098, 360, 4608);
+        assert_eq!(answer(&sample, NAME, 0).answer, 13);
+    }
+
+    #[test]
+    fn direct_node() {
+        let mut sample = sample(1 << 40);
+        assert_eq!(answer(&sample, NAME, 923).answer, 1);
+        sample.put32(4098, 4052, 8);
+        let unknown = answer(&sample, NAME, 923);
+        assert_eq!((unknown.answer, unknown.node_count, unknown.block_count), (9, 3, 3));
+        sample.put_node(8, 7, 1, 4099);
+        sample.put32(4099, 0, DATA as u32);
+        assert_eq!(answer(&sample, NAME, 923).answer, 0);
+        assert_eq!(answer(&sample, NAME, 924).answer, 1);
+        sample.put32(4099, 4080, 2 * 8);
+        assert_eq!(answer(&sample, NAME, 923).answer, 11);
+        assert_eq!(answer(&sample, NAME, 1_057_053_439).answer, 3);
+    }
+
+    #[test]
+    fn kinds_not_read() {
+        assert_eq!(answer(&sample(0), b".", 0).answer, 12);
+        for (block, at, value) in [(4098, 3, 2), (4098, 3, 0x20), (4096, 3, 4), (4096, 347, 1)] {
+            let mut sample = sample(4097);
+            sample.bytes[block * 4096 + at] = value;
+            assert_eq!(answer(&sample, NAME, 0).answer, 12);
+        }
+        let mut sample = sample(4097);
+        sample.put32(4096, 72, 64);
+        assert_eq!(answer(&sample, NAME, 0).answer, 12);
+    }
+
+    #[test]
+    fn name_not_there() {
+        let mut sample = sample(4097);
+        let missing = Pulled { answer: 2, byte_count: 0, node_count: 1, block_count: 2 };
+        assert_eq!(answer(&sample, b"other", 0), missing);
+        sample.put32(4096, 72, 63);
+        assert_eq!(answer(&sample, b"other", 0), missing);
+        sample.put64(4096, 16, 0);
+        assert_eq!(answer(&sample, NAME, 0), Pulled { block_count: 1, ..missing });
+    }
+
+    #[test]
+    fn inode_number_0_in_a_dentry_is_listed_and_9() {
+        let mut sample = sample(4097);
+        sample.put32(4097, 30 + 11 * 2 + 4, 0);
+        let mut lent = Lent::new();
+        let pulled = lent.pull(&sample, NAME, 0);
+        assert_eq!((pulled.answer, pulled.node_count, pulled.block_count), (9, 2, 2));
+        assert_eq!(numbers(&lent.nodes, 2), [0, 3]);
+    }
+
+    #[test]
+    fn out_of_shape_leaves_everything_untouched() {
+        let sample = sample(4097);
+        let mut lent = Lent::new();
+        let refused = Pulled { answer: 4, ..Pulled::default() };
+        assert_eq!(lent.pull(&sample, b"a/b", 0), refused);
+        lent.nodes.truncate(715);
+        assert_eq!(lent.pull(&sample, NAME, 0), refused);
+        let mut lent = Lent::new();
+        lent.block.push(0xAA);
+        assert_eq!(lent.pull(&sample, NAME, 0), refused);
+        assert!(lent.block.iter().chain(&lent.nodes).chain(&lent.blocks).all(|&b| b == 0xAA));
+    }
+}

@@ -1,0 +1,101 @@
+//! Images that the published tools write: mkfs.f2fs and sload.f2fs, which Debian has in f2fs-tools.
+
+use std::ffi::OsStr;
+use std::fs;
+use std::io::Read;
+use std::os::unix::ffi::OsStrExt;
+use std::path::{Path, PathBuf};
+use std::process::{self, Command};
+use std::sync::atomic::{AtomicU32, Ordering};
+
+use crate::image::Image;
+
+const MEGABYTE: usize = 1 << 20;
+
+/// A file's name and bytes.
+pub type File = (Vec<u8>, Vec<u8>);
+
+/// A folder of a test's own, which goes with it.
+struct Scratch(PathBuf);
+
+impl Scratch {
+    fn new() -> Scratch {
+        static MADE: AtomicU32 = AtomicU32::new(0);
+        let made = MADE.fetch_add(1, Ordering::Relaxed);
+        let folder = Path::new(env!("CARGO_MANIFEST_DIR")).join("target/tmp");
+        let folder = folder.join(format!("image-{}-{made}", process::id()));
+        fs::create_dir_all(&folder).expect("a folder for images");
+        Scratch(folder)
+    }
+
+    fn image_path(&self) -> PathBuf {
+        self.0.join("image")
+    }
+
+    /// Writes a sparse image.
+    fn format(&self, megabytes: usize, options: &str) {
+        let file = fs::File::create(self.image_path()).expect("an image file");
+        let len = megabytes * MEGABYTE;
+        file.set_len(len as u64).expect("room for an image");
+        run(Command::new("mkfs.f2fs")
+            .args(options.split_whitespace())
+            .arg(self.image_path()));
+    }
+
+    /// Puts files into the root directory.
+    fn fill(&self, files: &[File]) {
+        let folder = self.0.join("files");
+        fs::create_dir(&folder).expect("a folder for files");
+        for (name, bytes) in files {
+            fs::write(folder.join(OsStr::from_bytes(name)), bytes).expect("a file");
+        }
+        run(Command::new("sload.f2fs")
+            .arg("-f")
+            .args([folder, self.image_path()]));
+    }
+
+    /// Reads the image. Zeros aren't written to memory, which for them isn't really there.
+    fn image(&self, origin: String) -> Image {
+        let mut file = fs::File::open(self.image_path()).expect("the image");
+        let len = file.metadata().expect("its length").len() as usize;
+        let (mut bytes, mut part) = (vec![0; len], vec![0; MEGABYTE]);
+        for place in bytes.chunks_exact_mut(MEGABYTE) {
+            file.read_exact(&mut part).expect("its bytes");
+            if part.iter().any(|&byte| byte != 0) {
+                place.copy_from_slice(&part);
+            }
+        }
+        Image::read(origin, bytes)
+    }
+}
+
+impl Drop for Scratch {
+    fn drop(&mut self) {
+        // What can't be removed is no fault of the library.
+        let _ = fs::remove_dir_all(&self.0);
+    }
+}
+
+fn run(command: &mut Command) {
+    let output = command
+        .output()
+        .unwrap_or_else(|error| panic!("{command:?}: {error}; Debian's f2fs-tools has it"));
+    let log = String::from_utf8_lossy(&output.stdout);
+    assert!(output.status.success(), "{command:?} failed:\n{log}");
+}
+
+pub fn formatted(megabytes: usize, options: &str) -> Image {
+    let scratch = Scratch::new();
+    scratch.format(megabytes, options);
+    scratch.image(format!("mkfs.f2fs {options} of {megabytes} MB"))
+}
+
+/// An image with these files in its root directory.
+pub fn filled_with(megabytes: usize, options: &str, files: &[File]) -> Image {
+    let scratch = Scratch::new();
+    scratch.format(megabytes, options);
+    scratch.fill(files);
+    scratch.image(format!(
+        "sload.f2fs over mkfs.f2fs {options} of {megabytes} MB"
+    ))
+}

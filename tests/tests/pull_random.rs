@@ -1,0 +1,90 @@
+//! Pulls from random cards, sound and damaged.
+
+use std::ops::RangeInclusive;
+
+use harptimber_tests::damage::Damage;
+use harptimber_tests::names::good_name;
+use harptimber_tests::pulls::Pulls;
+use harptimber_tests::random_card::pick;
+use harptimber_tests::random_files::{random_files, RandomFiles, Target};
+use harptimber_tests::trial::Random;
+use harptimber_tests::walk_damage::strike;
+
+/// One in so many damages is to what a card is opened by.
+const OPENING: u64 = 6;
+
+fn any_target<'a>(targets: &'a [Target], random: &mut Random) -> &'a Target {
+    &targets[random.below(targets.len() as u64) as usize]
+}
+
+/// Mostly the target's own name and index.
+fn any_call(target: &Target, random: &mut Random) -> (Vec<u8>, u32) {
+    let any = random.number() as u32;
+    let beside = target.index.wrapping_add(1);
+    let index = match random.below(16) {
+        0 => pick(random, &[0, any, beside, u32::MAX]),
+        _ => target.index,
+    };
+    let mut name = target.name.clone();
+    match random.below(32) {
+        0 => name.push(b'x'),
+        1 => name = good_name(random, 5),
+        2 => name.clear(),
+        3 => name[0] = pick(random, b"\0/"),
+        _ => {}
+    }
+    (name, index)
+}
+
+/// Each target of each card, and names that aren't there.
+#[test]
+fn sound_cards() {
+    const CARDS: u64 = 40;
+    let mut pulls = Pulls::new("pull from random cards");
+    for _ in 0..pulls.trial.times(CARDS) {
+        let RandomFiles { card, targets } = random_files(&mut pulls.trial.random);
+        for target in &targets {
+            pulls.compare(&card.image, &target.name, target.index);
+            let name = good_name(&mut pulls.trial.random, 6);
+            pulls.expect(&card.image, &name, target.index, 2);
+        }
+    }
+    pulls.finish(CARDS * 32, &[0, 1, 2]);
+}
+
+/// Damages random cards, each time with so many strikes, which are undone before the next ones.
+fn damaged_cards(name: &'static str, strikes: RangeInclusive<u64>) {
+    const CARDS: u64 = 30;
+    const DAMAGES: u64 = 1000;
+    let mut pulls = Pulls::new(name);
+    for _ in 0..pulls.trial.times(CARDS) {
+        let RandomFiles { mut card, targets } = random_files(&mut pulls.trial.random);
+        let opening = Damage::of(&card.image);
+        for _ in 0..DAMAGES {
+            let random = &mut pulls.trial.random;
+            let target = any_target(&targets, random);
+            let more = random.below(strikes.end() - strikes.start() + 1);
+            for _ in 0..strikes.start() + more {
+                match random.below(OPENING) {
+                    0 => opening.strike(&mut card.image, random),
+                    _ => strike(&mut card, target, random),
+                }
+            }
+            let (name, index) = any_call(target, random);
+            pulls.compare(&card.image, &name, index);
+            card.image.undo(0);
+        }
+    }
+    let every_answer: Vec<u32> = (0..=14).collect();
+    pulls.finish(CARDS * DAMAGES, &every_answer);
+}
+
+#[test]
+fn cards_damaged_once() {
+    damaged_cards("pull from cards damaged once", 1..=1);
+}
+
+#[test]
+fn cards_damaged_several_times() {
+    damaged_cards("pull from cards damaged several times", 2..=4);
+}
