@@ -141,7 +141,9 @@ struct harptimber_compared {
  * counts are those it left. It writes nowhere. HARPTIMBER_SAME is answered exactly if both images have
  * the same main area bounds, each listed node number has the same table answer in both, and each listed
  * block the same bytes; then that pull on the new image gives the same answer, byte count, block bytes
- * and lists. 4 is answered for an image's length (first), and for lists that no pull leaves.
+ * and lists. 4 is answered, first, for an image's length; and, once both images are opened, where the
+ * node list is empty, a list isn't strictly rising, a count exceeds its slice, or a listed block lies
+ * outside the kept image's main area.
  */
 struct harptimber_compared harptimber_compare(const uint8_t *kept, size_t kept_len, const uint8_t *fresh,
                                               size_t fresh_len, const uint8_t *nodes, size_t nodes_len,

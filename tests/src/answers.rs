@@ -1,21 +1,23 @@
 //! How often each answer came up in a trial: one in which the expected answers never do shows little.
 
 use std::collections::BTreeMap;
+use std::fmt::Debug;
 
+/// An answer is its number, or that with more of the result.
 #[derive(Default)]
-pub struct Answers(BTreeMap<u32, u64>);
+pub struct Answers<T = u32>(BTreeMap<T, u64>);
 
-impl Answers {
-    pub fn note(&mut self, answer: u32) {
+impl<T: Ord + Debug> Answers<T> {
+    pub fn note(&mut self, answer: T) {
         *self.0.entry(answer).or_default() += 1;
     }
 
     /// Each of these has to have come up.
-    pub fn finish(&self, answers: &[u32]) {
+    pub fn finish(&self, answers: &[T]) {
         println!("  answers, each with how often: {:?}", self.0);
         for answer in answers {
             let seen = self.0.contains_key(answer);
-            assert!(seen, "answer {answer} never came up");
+            assert!(seen, "answer {answer:?} never came up");
         }
     }
 }

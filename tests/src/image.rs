@@ -10,6 +10,7 @@ use crate::layout::{checkpoint, footer, journal, nat, superblock};
 use crate::layout::{Field, BLOCK_SIZE, SEGMENT_BLOCKS};
 use crate::trial::Random;
 
+#[derive(Clone)]
 pub struct Image {
     /// How it came about, to be printed with a mismatch.
     origin: String,
@@ -21,6 +22,7 @@ pub struct Image {
 }
 
 /// Bytes that were changed in an image.
+#[derive(Clone)]
 struct Patch {
     name: &'static str,
     block: u32,

@@ -5,6 +5,7 @@ use std::fmt::{Debug, Formatter, Result};
 use std::ops::Range;
 
 use crate::layout::BLOCK_SIZE;
+use crate::trial::Random;
 
 pub const LEAST_NODES: usize = 179;
 pub const LEAST_BLOCKS: usize = 238;
@@ -12,6 +13,9 @@ pub const LEAST_BLOCKS: usize = 238;
 pub const NUMBER_SIZE: usize = 4;
 
 const MARGIN: usize = 32;
+/// A longer list has up to so many bytes more than it needs.
+const MOST_SPARE: u64 = 70;
+const MOST_SHIFT: u64 = 16;
 
 /// How many bytes of each kind are lent.
 #[derive(Clone, Copy, Debug)]
@@ -136,5 +140,20 @@ impl Lent {
             nodes: slice(lens.nodes),
             blocks: slice(lens.blocks),
         }
+    }
+
+    /// As little as is in shape.
+    pub fn least() -> Lent {
+        Lent::new(Lens::least(), Pattern::Plain, 0)
+    }
+
+    /// Other memory with longer lists, mostly with a remainder of one to three bytes.
+    pub fn longer(random: &mut Random) -> Lent {
+        let shift = random.below(MOST_SHIFT) as usize;
+        let mut lens = Lens::least();
+        for len in [&mut lens.nodes, &mut lens.blocks] {
+            *len += random.below(MOST_SPARE) as usize;
+        }
+        Lent::new(lens, Pattern::Inverted, shift)
     }
 }

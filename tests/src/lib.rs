@@ -3,6 +3,7 @@
 
 pub mod answers;
 pub mod card;
+pub mod compares;
 pub mod damage;
 pub mod directory;
 pub mod image;
@@ -66,7 +67,7 @@ pub struct Pulled {
 
 /// The result of `compare`.
 #[repr(C)]
-#[derive(Clone, Copy, Debug, PartialEq, Eq)]
+#[derive(Clone, Copy, Debug, Default, PartialEq, Eq)]
 pub struct Compared {
     pub answer: u32,
     pub side: u32,

@@ -7,6 +7,7 @@ use std::os::unix::ffi::OsStrExt;
 use std::path::{Path, PathBuf};
 use std::process::{self, Command};
 use std::sync::atomic::{AtomicU32, Ordering};
+use std::time::{Duration, UNIX_EPOCH};
 
 use crate::image::Image;
 
@@ -42,14 +43,19 @@ impl Scratch {
             .arg(self.image_path()));
     }
 
-    /// Puts files into the root directory.
-    fn fill(&self, files: &[File]) {
+    /// Puts files into the root directory. With a date, nothing on the card has another one.
+    fn fill(&self, date: Option<u32>, files: &[File]) {
         let folder = self.0.join("files");
         fs::create_dir(&folder).expect("a folder for files");
         for (name, bytes) in files {
-            fs::write(folder.join(OsStr::from_bytes(name)), bytes).expect("a file");
+            let path = folder.join(OsStr::from_bytes(name));
+            fs::write(&path, bytes).expect("a file");
+            date.inspect(|&date| put_date(&path, date));
         }
+        date.inspect(|&date| put_date(&folder, date));
+        let option = date.map(|date| format!("-T{date}"));
         run(Command::new("sload.f2fs")
+            .args(option)
             .arg("-f")
             .args([folder, self.image_path()]));
     }
@@ -76,6 +82,13 @@ impl Drop for Scratch {
     }
 }
 
+/// Puts a date, in seconds since 1970, on a file or folder.
+fn put_date(path: &Path, date: u32) {
+    let time = UNIX_EPOCH + Duration::from_secs(u64::from(date));
+    let file = fs::File::open(path).expect("a file to put a date on");
+    file.set_modified(time).expect("the date of a file");
+}
+
 fn run(command: &mut Command) {
     let output = command
         .output()
@@ -94,8 +107,20 @@ pub fn formatted(megabytes: usize, options: &str) -> Image {
 pub fn filled_with(megabytes: usize, options: &str, files: &[File]) -> Image {
     let scratch = Scratch::new();
     scratch.format(megabytes, options);
-    scratch.fill(files);
+    scratch.fill(None, files);
     scratch.image(format!(
         "sload.f2fs over mkfs.f2fs {options} of {megabytes} MB"
+    ))
+}
+
+/// The same with one date everywhere and, by -r, without a random version in each node. Two such cards
+/// differ where their files do, and in the volume's name.
+pub fn filled_on(megabytes: usize, date: u32, files: &[File]) -> Image {
+    let scratch = Scratch::new();
+    let options = format!("-r -T {date}");
+    scratch.format(megabytes, &options);
+    scratch.fill(Some(date), files);
+    scratch.image(format!(
+        "sload.f2fs and mkfs.f2fs {options} of {megabytes} MB"
     ))
 }

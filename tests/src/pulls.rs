@@ -8,13 +8,9 @@ use crate::answers::Answers;
 use crate::card::ROOT;
 use crate::image::Image;
 use crate::layout::BLOCK_SIZE;
-use crate::lent::{Lens, Lent, Pattern, LEAST_BLOCKS, LEAST_NODES, NUMBER_SIZE};
+use crate::lent::{Lens, Lent, Pattern, Slice, LEAST_BLOCKS, LEAST_NODES, NUMBER_SIZE};
 use crate::trial::Trial;
 use crate::Pulled;
-
-/// A longer list has up to so many bytes more than it needs.
-const MOST_SPARE: u64 = 70;
-const MOST_SHIFT: u64 = 16;
 
 /// What is asked of a pull. Any bytes may stand for the image; `image` says what they are.
 pub struct Call<'a> {
@@ -32,6 +28,14 @@ impl<'a> Call<'a> {
             name,
             index,
         }
+    }
+
+    /// Makes the call, by the library or by the reference.
+    pub fn by(&self, pull: Pull, lent: &mut Lent) -> Pulled {
+        let block = lent.block.lend();
+        let nodes = lent.nodes.lend();
+        let blocks = lent.blocks.lend();
+        pull(self.bytes, self.name, self.index, block, nodes, blocks)
     }
 }
 
@@ -54,15 +58,40 @@ pub struct Outcome {
 }
 
 /// The library's pull, or the reference's.
-type Pull = fn(&[u8], &[u8], u32, &mut [u8], &mut [u8], &mut [u8]) -> Pulled;
+pub type Pull = fn(&[u8], &[u8], u32, &mut [u8], &mut [u8], &mut [u8]) -> Pulled;
 
 impl Outcome {
-    fn of(pull: Pull, call: &Call, mut lent: Lent) -> Outcome {
-        let block = lent.block.lend();
-        let nodes = lent.nodes.lend();
-        let blocks = lent.blocks.lend();
-        let pulled = pull(call.bytes, call.name, call.index, block, nodes, blocks);
+    pub fn of(pull: Pull, call: &Call, mut lent: Lent) -> Outcome {
+        let pulled = call.by(pull, &mut lent);
         Outcome { pulled, lent }
+    }
+
+    /// What the paper then says of the same pull into other memory: the same numbers, lists and
+    /// block, and nothing else written.
+    fn in_memory(&self, mut lent: Lent) -> Outcome {
+        let (of_nodes, of_blocks) = self.list_lens();
+        copy(&self.lent.nodes, &mut lent.nodes, of_nodes);
+        copy(&self.lent.blocks, &mut lent.blocks, of_blocks);
+        copy(&self.lent.block, &mut lent.block, self.block_len());
+        Outcome {
+            pulled: self.pulled,
+            lent,
+        }
+    }
+
+    /// How many bytes of each list are written.
+    fn list_lens(&self) -> (usize, usize) {
+        let len = |count| NUMBER_SIZE * count as usize;
+        (len(self.pulled.node_count), len(self.pulled.block_count))
+    }
+
+    /// How many bytes of the block buffer are written.
+    fn block_len(&self) -> usize {
+        if self.found() {
+            BLOCK_SIZE
+        } else {
+            0
+        }
     }
 
     pub fn nodes(&self) -> Vec<u32> {
@@ -71,6 +100,13 @@ impl Outcome {
 
     pub fn blocks(&self) -> Vec<u32> {
         self.lent.blocks.numbers(self.pulled.block_count)
+    }
+
+    /// What a second pull has to give too, into whatever memory.
+    pub fn result(&self) -> (Pulled, Vec<u32>, Vec<u32>, Option<Bytes>) {
+        let block = Bytes(self.lent.block.bytes().to_vec());
+        let found = self.found().then_some(block);
+        (self.pulled, self.nodes(), self.blocks(), found)
     }
 
     /// Which promises of the paper's table of answers are broken, whatever the image is.
@@ -97,19 +133,16 @@ impl Outcome {
     }
 
     fn kept_by_memory(&self) -> Vec<(&'static str, bool)> {
-        let block_len = if self.found() { BLOCK_SIZE } else { 0 };
-        let node_len = NUMBER_SIZE * self.pulled.node_count as usize;
-        let blocks_len = NUMBER_SIZE * self.pulled.block_count as usize;
+        let Lent {
+            block,
+            nodes,
+            blocks,
+        } = &self.lent;
+        let (of_nodes, of_blocks) = self.list_lens();
         vec![
-            ("block buffer", self.lent.block.untouched_from(block_len)),
-            (
-                "end of the node list",
-                self.lent.nodes.untouched_from(node_len),
-            ),
-            (
-                "end of the block list",
-                self.lent.blocks.untouched_from(blocks_len),
-            ),
+            ("block buffer", block.untouched_from(self.block_len())),
+            ("end of the node list", nodes.untouched_from(of_nodes)),
+            ("end of the block list", blocks.untouched_from(of_blocks)),
         ]
     }
 
@@ -129,7 +162,11 @@ impl Debug for Outcome {
     }
 }
 
-fn reference_pull(
+fn copy(from: &Slice, to: &mut Slice, len: usize) {
+    to.lend()[..len].copy_from_slice(&from.bytes()[..len]);
+}
+
+pub fn reference_pull(
     image: &[u8],
     name: &[u8],
     index: u32,
@@ -156,7 +193,7 @@ struct Judged<T> {
 
 /// The bytes of a block, of which a mismatch shows the first and a checksum.
 #[derive(Clone, PartialEq, Eq)]
-struct Bytes(Vec<u8>);
+pub struct Bytes(Vec<u8>);
 
 impl Debug for Bytes {
     fn fmt(&self, f: &mut Formatter) -> Result {
@@ -167,8 +204,7 @@ impl Debug for Bytes {
 
 /// The lists of a pull, by the reference.
 pub fn lists(call: &Call) -> (Vec<u32>, Vec<u32>) {
-    let lent = Lent::new(Lens::least(), Pattern::Plain, 0);
-    let outcome = Outcome::of(reference_pull, call, lent);
+    let outcome = Outcome::of(reference_pull, call, Lent::least());
     (outcome.nodes(), outcome.blocks())
 }
 
@@ -184,7 +220,7 @@ impl Pulls {
         Pulls {
             trial: Trial::new(name),
             answers: Answers::default(),
-            shortest: Lent::new(Lens::least(), Pattern::Plain, 0),
+            shortest: Lent::least(),
         }
     }
 
@@ -261,24 +297,20 @@ impl Pulls {
                 outcome,
             }
         });
+        let [first, _] = &lents;
+        let reference = Outcome::of(reference_pull, call, first.clone());
         let reference = lents.map(|lent| Judged {
             by_the_paper: paper.clone(),
             broken: Vec::new(),
-            outcome: Outcome::of(reference_pull, call, lent),
+            outcome: reference.in_memory(lent),
         });
         self.answers.note(library[0].outcome.pulled.answer);
         self.trial.compare(call, library, reference);
     }
 
-    /// The least memory, and longer lists, mostly with a remainder of one to three bytes.
+    /// The least memory, and longer lists.
     fn in_shape(&mut self) -> [Lent; 2] {
-        let random = &mut self.trial.random;
-        let shift = random.below(MOST_SHIFT) as usize;
-        let mut lens = Lens::least();
-        for len in [&mut lens.nodes, &mut lens.blocks] {
-            *len += random.below(MOST_SPARE) as usize;
-        }
-        let longer = Lent::new(lens, Pattern::Inverted, shift);
+        let longer = Lent::longer(&mut self.trial.random);
         [self.shortest.clone(), longer]
     }
 

@@ -125,6 +125,23 @@ fn data_that_is_something_else_too() {
     pulls.finish(2 * (3 + 4 + 5 + 6), &[0]);
 }
 
+/// Whatever the bytes are, they are data: zeros in a block don't make it a hole.
+#[test]
+fn plain_contents() {
+    let mut pulls = Pulls::new("pull of plain contents");
+    let mut scene = Scene::new(&mut pulls.trial.random, LONGEST);
+    let data = scene.card.add_block(scene.ino, 0);
+    for byte in [0x00, 0x01, 0x80, 0xFF] {
+        let contents = vec![byte; BLOCK_SIZE];
+        scene.card.image.put("contents", data, 0, &contents);
+        for size in [BLOCK - 1, BLOCK] {
+            scene.card.image.set(scene.file_block(), I_SIZE, size);
+            pulls.expect_data(&scene.card.image, NAME, 0, &contents[..size as usize]);
+        }
+    }
+    pulls.finish(4 * 2, &[0]);
+}
+
 /// Sizes around the start and the end of a block, also with a high half.
 #[test]
 fn sizes() {

@@ -1,5 +1,5 @@
--- A card: how many blocks it has, and the bytes of each. Every meaning above this layer is a function of a card, so that a
--- reader which holds the whole image and one which is fed its blocks can share it.
+-- A card: how many blocks it has, and the bytes of each. What a card holds is always said of a card and not of an image, so
+-- that a reader which holds the whole image and one which is fed its blocks can share it.
 use mathlib.Core.List.{List}
 use Prim.Native.Nat.{ℕ, _*_, _/_}
 use lib.ListN.{length, take, drop}

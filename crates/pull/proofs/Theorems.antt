@@ -26,7 +26,7 @@ use Rattle.node.specs.Node.{boundsOf, inMain, nodeWalk}
 use Rattle.node.specs.Block.{Fetched, hole, held}
 use Rattle.directory.specs.Slot.{wanted}
 use Rattle.pull.specs.Walk.{rootIno, Block, rootWalk, pullWalk}
-use Rattle.pull.specs.Pull.{Lent, Result, callInShape, contentAnswer, answerOf, countOf, refused, written, pullRun, pulled}
+use Rattle.pull.specs.Pull.{Lent, Result, callInShape, contentAnswer, answerOf, countOf, bufferAfter, refused, written, pullRun, pulled}
 use Rattle.pull.proofs.Sizes.{Counted, pull-within}
 use Rattle.pull.proofs.Results.{call-refused, call-opens}
 
@@ -157,3 +157,19 @@ module _ (image name : List ℕ) (index : ℕ) (lent : Lent) where
       go : {r : Result} → Ends image name index lent r → (r .numbers .answer ≤ 14) × (r .numbers .answer ≤ 1 → (1 ≤ r .numbers .«byte_count») × (r .numbers .«byte_count» ≤ 4096)) × (2 ≤ r .numbers .answer → r .numbers .«byte_count» ≡ 0)
       go (refusal answer p q e) = rw e (omega arith, λ l. absurd (omega arith), λ _. refl)
       go (walked v p q e) = rw e (ended (pullRun (cardOf image) v name index .value) (run-ended (cardOf image) v name index))
+
+  -- "A refused pull leaves the block buffer untouched": every answer but 0 and 1 does
+  pub untouched : 2 ≤ pulled image name index lent .numbers .answer → pulled image name index lent .memory .block ≡ lent .block
+  untouched = go ends
+    where
+      outcome : (o : Outcome Block) → 2 ≤ answerOf o → bufferAfter o (lent .block) ≡ lent .block
+      outcome (ok b) l = content (b .content) l
+        where
+          content : (f : Fetched) → 2 ≤ contentAnswer f → bufferAfter (ok (record { count = b .count; content = f })) (lent .block) ≡ lent .block
+          content hole l = absurd (omega arith)
+          content (held block) l = absurd (omega arith)
+      outcome (stop answer) l = refl
+
+      go : {r : Result} → Ends image name index lent r → 2 ≤ r .numbers .answer → r .memory .block ≡ lent .block
+      go (refusal answer p q e) = rw e (λ l. refl)
+      go (walked v p q e) = rw e (outcome (pullRun (cardOf image) v name index .value))

@@ -3,15 +3,17 @@ use Prim.Native.Nat.{ℕ, _<_, _≤_}
 use mathlib.Core.Path.{_≡_}
 use mathlib.Core.List.{List}
 use mathlib.Core.Logic.{_⊎_}
+use mathlib.Core.Bool.{true}
 use Rattle.field.specs.Card.{cardOf}
 use Rattle.checkpoint.specs.declared.Volume.{Volume}
 use Rattle.nat.specs.Table.{tableAnswer}
 use Rattle.walk.specs.Lists.{AllOf, numbers}
 use Rattle.node.specs.Node.{boundsOf}
-use Rattle.pull.specs.Pull.{Lent, Result, pulled}
+use Rattle.pull.specs.Pull.{Lent, Result, result, lentInShape, pulled}
 use Rattle.compare.specs.declared.Compared.{Compared}
 use Rattle.compare.specs.Lists.{Listed, listing}
 use Rattle.compare.specs.Compare.{compared}
+use Rattle.pull_again.specs.declared.Again.{Again}
 
 -- "A pull got past opening if its answer isn't 4 to 8."
 abbrev pub PastOpening : Result → Type 0
@@ -46,3 +48,11 @@ pub record SamePull (r q : Result) : Type 0 where
   pub nodes : entriesOf (nodesLeft r) ≡ entriesOf (nodesLeft q)
   pub blocks : entriesOf (blocksLeft r) ≡ entriesOf (blocksLeft q)
   pub block : r .numbers .answer ≤ 1 → r .memory .block ≡ q .memory .block
+
+-- What a host that pulls, compares and pulls again has in hand, over the memory that it lent to the first pull and to the second:
+-- both pulls are the definition's, Compare says what it says of the first one's lists, and where that is "same" the pulls are the same.
+pub record PulledAgain (kept fresh name : List ℕ) (index : ℕ) (lent lent' left left' : Lent) (r : Again) : Type 0 where
+  pub first : result (r .first) left ≡ pulled kept name index lent
+  pub compared : r .compared ≡ said kept fresh (pulled kept name index lent)
+  pub second : result (r .second) left' ≡ pulled fresh name index lent'
+  pub same : lentInShape lent' ≡ true → r .compared .answer ≡ 15 → SamePull (result (r .first) left) (result (r .second) left')

@@ -1,9 +1,7 @@
 // What a host does with a cache: it pulls a block and keeps the image and the lists, and when a new image comes it compares. If
 // that says "same", the pull on the new image gives what was kept; here that pull is made, and the contract says so.
-ghost use mathlib.Core.Path.{_≡_};
-ghost use Rattle.pull.specs.Pull.{lending, lentInShape, result};
-ghost use Rattle.pull_again.specs.Demand.{SamePull};
-ghost use mathlib.Core.Bool.{true};
+ghost use Rattle.pull.specs.Pull.{lending};
+ghost use Rattle.pull_again.specs.Demand.{PulledAgain};
 
 // The first pull, what Compare says, and the second pull.
 pub struct Again {
@@ -24,9 +22,11 @@ pub fn pull_again(
     new_nodes: &mut [u8],
     new_blocks: &mut [u8],
 ) -> Again
-    ensures { λ r. ⌜ (lentInShape (lending (now («new_block» .entry)) (now («new_nodes» .entry)) (now («new_blocks» .entry))) ≡ true → r .compared .answer ≡ 15 →
-        SamePull (result (r .first) (lending (now (block .exit)) (now (nodes .exit)) (now (blocks .exit))))
-        (result (r .second) (lending (now («new_block» .exit)) (now («new_nodes» .exit)) (now («new_blocks» .exit))))) ⌝ }
+    ensures { λ r. ⌜ PulledAgain (now (kept .entry)) (now (fresh .entry)) (now (name .entry)) index
+        (lending (now (block .entry)) (now (nodes .entry)) (now (blocks .entry)))
+        (lending (now («new_block» .entry)) (now («new_nodes» .entry)) (now («new_blocks» .entry)))
+        (lending (now (block .exit)) (now (nodes .exit)) (now (blocks .exit)))
+        (lending (now («new_block» .exit)) (now («new_nodes» .exit)) (now («new_blocks» .exit))) r ⌝ }
 {
     let first = pull::pull(kept, name, index, block, nodes, blocks);
     let compared = compare::compare(

@@ -1,6 +1,5 @@
 use mathlib.Core.Path.{sym, ap, _∙_}
 use denote.Ref.{now}
-use Rattle.pull.specs.Pull.{Result}
 use Rattle.compare.specs.declared.Compared.{Compared}
 use Rattle.pull_again.specs.Demand.{said}
 use Rattle.pull_again.proofs.Steps.{same-pulls}
@@ -38,9 +37,14 @@ same-length-6 c = search needs
 
 returns : tie.Need-returns
 returns c =
-    λ takes e.
-    let says = ap (λ (r : Result). said (now (c .before .before .before .before .before .before .before .before .before .before .before .before .before .before .before .before .before .before .before .before .before .before .before .before .before .before .before .before .before .before .before .before .args .kept)) (now (c .before .before .before .before .before .before .before .before .before .before .before .before .before .before .before .before .before .before .before .before .before .before .before .before .before .before .before .before .before .before .before .before .args .fresh)) r .answer) (sym (c .before .before .before .before .before .before .before .before .before .before .before .before .before .before .before .before .before .before .before .pull .ensures)) ∙ ap (λ (x : Compared). x .answer) (sym (c .before .before .before .before .before .before .before .before .before .before .compare .ensures)) ∙ e in
-    same-pulls (c .before .before .before .before .before .before .before .before .before .before .before .before .before .before .before .before .before .before .before .pull .ensures) (c .before .before .before .before .before .before .pull2 .ensures) (whenever-same _ _ _ _ _ _ takes says)
+    let says = c .before .before .before .before .before .before .before .before .before .before .compare .ensures ∙ ap (said (now (c .before .before .before .before .before .before .before .before .before .before .before .before .before .before .before .before .before .before .before .before .before .before .before .before .before .before .before .before .before .before .before .before .args .kept)) (now (c .before .before .before .before .before .before .before .before .before .before .before .before .before .before .before .before .before .before .before .before .before .before .before .before .before .before .before .before .before .before .before .before .args .fresh))) (c .before .before .before .before .before .before .before .before .before .before .before .before .before .before .before .before .before .before .before .pull .ensures) in
+    record {
+      first = c .before .before .before .before .before .before .before .before .before .before .before .before .before .before .before .before .before .before .before .pull .ensures;
+      compared = says;
+      second = c .before .before .before .before .before .before .pull2 .ensures;
+      same = λ takes e.
+          same-pulls (c .before .before .before .before .before .before .before .before .before .before .before .before .before .before .before .before .before .before .before .pull .ensures) (c .before .before .before .before .before .before .pull2 .ensures) (whenever-same _ _ _ _ _ _ takes (ap (λ (x : Compared). x .answer) (sym says) ∙ e));
+    }
 
 pub pull-again-spec : {M : Type 1} → statement M
 pull-again-spec =
