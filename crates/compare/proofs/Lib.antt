@@ -3,4 +3,5 @@ pub mod Searching
 pub mod Differences
 pub mod Shapes
 pub mod Openings
+pub mod Theorems
 mod Turns

@@ -12,25 +12,17 @@ use lib.Seq.{drop-cons}
 use borrow.Author.Tests.{lt-ltb, le-ltb, not-true, not-false}
 use Rattle.field.specs.Number.{le32}
 use Rattle.walk.specs.Lists.{AllOf, numbers}
+use Rattle.walk.proofs.Entries.{numbers-cons, numbers-nil}
 use Rattle.compare.specs.Lists.{risingAfter, isRising}
 use Rattle.compare.specs.Difference.{sameBytes}
 use Rattle.compare.proofs.Searching.{searched, over, passed, failed}
-
-module _ (l : List ℕ) (i n : ℕ) where
-  next : i < n → numbers l i (n - i) ≡ le32 l (4 * i) ∷ numbers l (i + 1) (n - (i + 1))
-  unfolding numbers
-  next h = let e : n - i ≡ suc (n - (i + 1)) = omega arith in ap (numbers l i) e
-
-  none : n ≤ i → numbers l i (n - i) ≡ []
-  unfolding numbers
-  none h = let e : n - i ≡ 0 = omega arith in ap (numbers l i) e
 
 all : (l : List ℕ) (n : ℕ) → numbers l 0 (n - 0) ≡ numbers l 0 n
 all l n = let e : n - 0 ≡ n = omega arith in ap (numbers l 0) e
 
 -- what holds of all that are left, at a turn: of the next, and of all left then
 pub all-next : (P : ℕ → Type 0) (l : List ℕ) (i n : ℕ) → i < n → AllOf P (numbers l i (n - i)) → P (le32 l (4 * i)) × AllOf P (numbers l (i + 1) (n - (i + 1)))
-all-next P l i n h a = rw (next l i n h) at a
+all-next P l i n h a = rw (numbers-cons l i n h) at a
 
 pub all-left : (P : ℕ → Type 0) (l : List ℕ) (n : ℕ) → AllOf P (numbers l 0 n) → AllOf P (numbers l 0 (n - 0))
 all-left P l n a = rw (all l n) a
@@ -44,15 +36,15 @@ module _ {A : Type 0} (test : ℕ → Bool) (found : ℕ → A) (other : A) (l :
   search-starts n = rw (all l n)
 
   pub search-over : (i n : ℕ) → n ≤ i → Left i n ≡ other
-  search-over i n h = rw (none l i n h) (over test found other)
+  search-over i n h = rw (numbers-nil l i n h) (over test found other)
 
   -- x is entry i, and r whether it passes
   module _ (i n : ℕ) (h : i < n) {x : ℕ} (e : x ≡ le32 l (4 * i)) {r : Bool} (t : r ≡ test x) where
     pub search-on : not r ≡ false → Left i n ≡ Left (i + 1) n
-    search-on p = rw (next l i n h, ← e) (passed test found other _ (sym t ∙ not-false r p))
+    search-on p = rw (numbers-cons l i n h, ← e) (passed test found other _ (sym t ∙ not-false r p))
 
     pub search-stops : not r ≡ true → Left i n ≡ found x
-    search-stops p = rw (next l i n h, ← e) (failed test found other _ (sym t ∙ not-true r p))
+    search-stops p = rw (numbers-cons l i n h, ← e) (failed test found other _ (sym t ∙ not-true r p))
 
 -- ---- rising
 module _ (l : List ℕ) where
@@ -62,21 +54,21 @@ module _ (l : List ℕ) where
 
   pub rises-first : (n : ℕ) → (n ≡ 0 → ⊥) → {x : ℕ} → x ≡ le32 l 0 → isRising (numbers l 0 n) ≡ risingAfter x (numbers l 1 (n - 1))
   unfolding isRising
-  rises-first n z e = rw (← all l n, next l 0 n (omega arith), ← e)
+  rises-first n z e = rw (← all l n, numbers-cons l 0 n (omega arith), ← e)
 
   module _ (i n x : ℕ) where
     pub rises-over : n ≤ i → risingAfter x (numbers l i (n - i)) ≡ true
     unfolding risingAfter
-    rises-over h = rw (none l i n h)
+    rises-over h = rw (numbers-nil l i n h)
 
     module _ (h : i < n) {y : ℕ} (e : y ≡ le32 l (4 * i)) where
       pub rises-on : x < y → risingAfter x (numbers l i (n - i)) ≡ risingAfter y (numbers l (i + 1) (n - (i + 1)))
       unfolding risingAfter
-      rises-on p = rw (next l i n h, ← e, lt-ltb x y p)
+      rises-on p = rw (numbers-cons l i n h, ← e, lt-ltb x y p)
 
       pub rises-stops : y ≤ x → risingAfter x (numbers l i (n - i)) ≡ false
       unfolding risingAfter
-      rises-stops p = rw (next l i n h, ← e, le-ltb x y p)
+      rises-stops p = rw (numbers-cons l i n h, ← e, le-ltb x y p)
 
 -- ---- two blocks: `same` says whether their first i bytes are
 module _ (one other : List ℕ) (i : ℕ) (same : Bool) where

@@ -26,7 +26,7 @@ use Rattle.compare.specs.Difference.{difference}
 use Rattle.compare.specs.Compare.{answered, verdict}
 use Rattle.compare.proofs.Searching.{FirstNot}
 use Rattle.compare.proofs.Differences.{SameTable, SameBlock, difference-same, same-difference, difference-bounds, difference-node, difference-block}
-use Rattle.compare.proofs.Openings.{lists-compared, compared-opened}
+use Rattle.compare.proofs.Openings.{says-same, lists-compared, compared-opened}
 use Rattle.pull_again.specs.Demand.{PastOpening, nodesLeft, blocksLeft, entriesOf, said, SameOn, SamePull}
 use Rattle.pull_again.proofs.Steps.{Came, past-came, lists-fit, nodes-of-run, blocks-of-run, same-run, same-written, Opens, same-opens, some-past}
 
@@ -55,14 +55,8 @@ module _ (kept name : List ℕ) (index : ℕ) (lent : Lent) (v : Volume) (keptOp
   -- "It says "same" exactly if both images have the same main area bounds, each listed node number has the same table answer in both,
   -- and each listed block the same 4,096 bytes in both."
   pub same-exactly-if : (said kept fresh (pulled kept name index lent) .answer ≡ 15) ↔ SameOn kept v fresh u nodes blocks
-  same-exactly-if = (λ e. agreed (ends-same first (ap (λ x. x .answer) (sym says) ∙ e)), λ s. ap (λ x. x .answer) (says ∙ ap verdict (alike s)))
+  same-exactly-if = (λ e. agreed (says-same first (ap (λ x. x .answer) (sym says) ∙ e)), λ s. ap (λ x. x .answer) (says ∙ ap verdict (alike s)))
     where
-      ends-same : (d : Difference) → verdict d .answer ≡ 15 → d ≡ Same
-      ends-same Same e = refl
-      ends-same BoundsDiffer e = absurd (omega arith)
-      ends-same (NodeDiffers n) e = absurd (omega arith)
-      ends-same (BlockDiffers b) e = absurd (omega arith)
-
       agreed : first ≡ Same → SameOn kept v fresh u nodes blocks
       agreed e = let all = difference-same _ _ _ _ _ _ e in record { bounds = all .0; tables = all .1; bytes = all .2 }
 

@@ -29,11 +29,12 @@ numbers-add l i (suc j) k =
     let r = numbers-add l (i + 1) j k in
     rw f (ap (λ (s : List ℕ). le32 l (4 * i) ∷ s) (rw e at r))
 
-numbers-cons : (l : List ℕ) (i n : ℕ) → i < n → numbers l i (n - i) ≡ le32 l (4 * i) ∷ numbers l (i + 1) (n - (i + 1))
+-- a loop's turn: entry i of n is the next
+pub numbers-cons : (l : List ℕ) (i n : ℕ) → i < n → numbers l i (n - i) ≡ le32 l (4 * i) ∷ numbers l (i + 1) (n - (i + 1))
 unfolding numbers
 numbers-cons l i n h = let e : n - i ≡ suc (n - (i + 1)) = omega arith in ap (λ (k : ℕ). numbers l i k) e
 
-numbers-nil : (l : List ℕ) (i n : ℕ) → n ≤ i → numbers l i (n - i) ≡ []
+pub numbers-nil : (l : List ℕ) (i n : ℕ) → n ≤ i → numbers l i (n - i) ≡ []
 unfolding numbers
 numbers-nil l i n h = let e : n - i ≡ 0 = omega arith in ap (λ (k : ℕ). numbers l i k) e
 

@@ -1,0 +1,67 @@
+-- What is so of every compare, whatever the images, lists and counts. Stated over `compared`, the definition that the contract cites.
+-- Assumes nothing.
+use Prim.Native.Nat.{ℕ, _≤_}
+use native.Mathlib.Omega.{arith}
+use mathlib.Core.Path.{_≡_, refl, _∙_}
+use mathlib.Core.Bool.{Bool, true, false, _&&_}
+use mathlib.Core.Logic.{_⊎_, inl, inr, ⊎-elim}
+use mathlib.Core.List.{List}
+use lib.ListN.{length}
+use Rattle.field.specs.Card.{cardOf}
+use Rattle.field.proofs.Choosing.{either}
+use Rattle.superblock.specs.Shape.{inShape}
+use Rattle.checkpoint.specs.declared.Volume.{Volume}
+use Rattle.checkpoint.specs.declared.Opening.{Opening}
+use Rattle.checkpoint.specs.declared.Opening.the-variants.{Opened, Refused}
+use Rattle.checkpoint.specs.Volume.{openedImage}
+use Rattle.checkpoint.proofs.Inside.{refusals}
+use Rattle.walk.specs.Walk.{viewOf}
+use Rattle.node.specs.Node.{boundsOf}
+use Rattle.compare.specs.declared.Compared.{Compared}
+use Rattle.compare.specs.declared.Difference.{Difference}
+use Rattle.compare.specs.declared.Difference.the-variants.{Same, BoundsDiffer, NodeDiffers, BlockDiffers}
+use Rattle.compare.specs.Lists.{Listed, entries, listsInShape}
+use Rattle.compare.specs.Difference.{difference}
+use Rattle.compare.specs.Compare.{refused, verdict, compared}
+use Rattle.compare.proofs.Openings.{lists-refused, lists-compared, shape-refused, kept-refused, fresh-refused, compared-opened}
+
+-- A compare is out of shape, or an image is refused with its side, or a difference is told.
+pub data Ends (r : Compared) : Type 0 where
+  outOfShape : r ≡ refused 4 0 → Ends r
+  refusal : (answer side : ℕ) → (4 ≤ answer) × (answer ≤ 8) → (side ≡ 1) ⊎ (side ≡ 2) → r ≡ refused answer side → Ends r
+  told : (d : Difference) → r ≡ verdict d → Ends r
+
+module _ (kept fresh : List ℕ) (nodes blocks : Listed) where
+  both : (v u : Volume) → openedImage kept ≡ Opened v → openedImage fresh ≡ Opened u → Ends (compared kept fresh nodes blocks)
+  both v u e f =
+      let is = compared-opened kept fresh nodes blocks v u e f in
+      ⊎-elim (λ h. told (difference (boundsOf v) (boundsOf u) (viewOf (cardOf kept) v) (viewOf (cardOf fresh) u) (entries nodes) (entries blocks))
+      (is ∙ lists-compared (cardOf kept) v (cardOf fresh) u nodes blocks h))
+      (λ h. outOfShape (is ∙ lists-refused (cardOf kept) v (cardOf fresh) u nodes blocks h))
+      (either (listsInShape (boundsOf v) nodes blocks))
+
+  pub ends : Ends (compared kept fresh nodes blocks)
+  ends = go (inShape (length kept) && inShape (length fresh)) refl (openedImage kept) refl (openedImage fresh) refl
+    where
+      go : (b : Bool) → (inShape (length kept) && inShape (length fresh)) ≡ b → (o : Opening) → openedImage kept ≡ o
+          → (p : Opening) → openedImage fresh ≡ p → Ends (compared kept fresh nodes blocks)
+      go false h o e p f = outOfShape (shape-refused kept fresh nodes blocks h)
+      go true h (Refused answer) e p f = refusal answer 1 (refusals kept answer e) (inl refl) (kept-refused kept fresh nodes blocks h answer e)
+      go true h (Opened v) e (Refused answer) f = refusal answer 2 (refusals fresh answer f) (inr refl) (fresh-refused kept fresh nodes blocks h v e answer f)
+      go true h (Opened v) e (Opened u) f = both v u e f
+
+  -- the answer is a number of the table: 4 to 8, 15 or 16
+  pub answers : ((4 ≤ compared kept fresh nodes blocks .answer) × (compared kept fresh nodes blocks .answer ≤ 8))
+      ⊎ ((15 ≤ compared kept fresh nodes blocks .answer) × (compared kept fresh nodes blocks .answer ≤ 16))
+  answers = go ends
+    where
+      ended : (d : Difference) → (15 ≤ verdict d .answer) × (verdict d .answer ≤ 16)
+      ended Same = (omega arith, omega arith)
+      ended BoundsDiffer = (omega arith, omega arith)
+      ended (NodeDiffers n) = (omega arith, omega arith)
+      ended (BlockDiffers b) = (omega arith, omega arith)
+
+      go : {r : Compared} → Ends r → ((4 ≤ r .answer) × (r .answer ≤ 8)) ⊎ ((15 ≤ r .answer) × (r .answer ≤ 16))
+      go (outOfShape e) = rw e (inl (omega arith, omega arith))
+      go (refusal answer side few s e) = rw e (inl few)
+      go (told d e) = rw e (inr (ended d))
