@@ -49,9 +49,8 @@ static char *message_if_lost(const char *path)
     FILE *out = open_memstream(&message, &len);
     if (out == NULL)
         return NULL;
-    fputs("harptimber: ", out);
-    show(out, path);
-    fputs(": can't be read any more: it was cut short, or its medium fails\n", out);
+    show_subject(out, path);
+    fputs("can't be read any more: it was cut short, or its medium fails\n", out);
     return fclose(out) == 0 ? message : NULL;
 }
 
@@ -75,8 +74,9 @@ static size_t size_to_map(int file, const struct stat *info, const char **why)
 }
 
 /*
- * Maps what was opened, or returns why not. A private mapping is enough, since nothing is written. Neither kind
- * would hold the bytes still while another program writes the file: card_is_settled asks for that.
+ * Maps what was opened, or returns why not. Neither kind of mapping would hold the bytes still while
+ * another program writes the file; card_is_settled looks for that. A private one is enough to read, and
+ * there are file systems that give no other.
  */
 static const char *map(struct card *card)
 {
@@ -106,7 +106,7 @@ bool card_open(struct card *card, const char *path)
         card_close(card);
         return false;
     }
-    mapped[mapped[0] != NULL] = card;
+    mapped[mapped[0] == NULL ? 0 : 1] = card;
     watch_bus_errors();
     return true;
 }
@@ -147,6 +147,11 @@ struct harptimber_pulled card_pull(const struct card *card, const char *name, ui
     return harptimber_pull(card->bytes, card->len, (const uint8_t *)name, strlen(name), index, block,
                            BLOCK_SIZE, lists->nodes, sizeof lists->nodes, lists->blocks,
                            sizeof lists->blocks);
+}
+
+bool is_block(uint32_t answer)
+{
+    return answer == HARPTIMBER_DATA || answer == HARPTIMBER_HOLE;
 }
 
 uint32_t list_number(const uint8_t *list, uint32_t i)

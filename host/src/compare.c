@@ -7,17 +7,12 @@
 #include "text.h"
 #include "words.h"
 
-bool is_block(uint32_t answer)
-{
-    return answer == HARPTIMBER_DATA || answer == HARPTIMBER_HOLE;
-}
-
 bool is_changed(const struct run *run)
 {
     return run->verdict.answer == HARPTIMBER_CHANGED;
 }
 
-/* What the library says of one block: the pull on the kept card, and whether that still holds on the new one. */
+/* What the library says of a block: a pull on the kept card, and whether that still holds on the new one. */
 struct finding {
     struct harptimber_pulled pulled;
     struct lists lists;
@@ -115,7 +110,7 @@ static enum status compare_and_tell(const struct request *request, struct compar
     return answer == HARPTIMBER_CHANGED ? CHANGED : REFUSED;
 }
 
-/* Both paths may be the same: each is mapped by itself, so that the slices lent to the library don't overlap. */
+/* Both paths may be the same: each is mapped by itself, so that slices lent to the library don't overlap. */
 enum status run_compare(const struct request *request)
 {
     struct comparison c = {.name = request->words[2], .whole = request->word_count == 3};

@@ -27,7 +27,6 @@ struct comparison {
 enum { KIND_BOUNDS = 1, KIND_NODE = 2, KIND_BLOCK = 3 };
 enum { NO_SIDE = 0, KEPT_SIDE = 1, NEW_SIDE = 2 };
 
-bool is_block(uint32_t answer);
 bool is_changed(const struct run *run);
 
 /* The answer to the whole question. */

@@ -83,7 +83,8 @@ static void words_one(const struct comparison *c)
 
 static void words_runs(const struct comparison *c)
 {
-    for (const struct run *run = c->runs; run < c->runs + c->run_count; run++) {
+    for (size_t i = 0; i < c->run_count; i++) {
+        const struct run *run = &c->runs[i];
         if (run->first == run->last)
             printf("block %" PRIu32 ": ", run->first);
         else
@@ -98,10 +99,12 @@ static void words_whole(const struct comparison *c)
     uint32_t total = c->same + c->changed;
     bool to_the_end = c->last_answer == HARPTIMBER_PAST_END;
     if (total == 0) {
-        printf(to_the_end ? ": an empty file: " : ": ");
+        printf("%s", to_the_end ? ": an empty file: " : ": ");
         words_end(c);
+    } else if (to_the_end && c->changed == 0 && total == 1) {
+        printf(": the only block is still good\n");
     } else if (to_the_end && c->changed == 0) {
-        printf(total == 1 ? ": the only block is still good\n" : ": all %" PRIu32 " blocks are still good\n", total);
+        printf(": all %" PRIu32 " blocks are still good\n", total);
     } else {
         printf(": %" PRIu32 " of %" PRIu32 " blocks are still good\n", c->same, total);
         words_runs(c);
@@ -137,11 +140,11 @@ static void json_verdict(struct json *json, const struct comparison *c, const st
 static void json_runs(struct json *json, const struct comparison *c)
 {
     json_open(json, "runs", '[');
-    for (const struct run *run = c->runs; run < c->runs + c->run_count; run++) {
+    for (size_t i = 0; i < c->run_count; i++) {
         json_open(json, NULL, '{');
-        json_number(json, "first", run->first);
-        json_number(json, "last", run->last);
-        json_verdict(json, c, run);
+        json_number(json, "first", c->runs[i].first);
+        json_number(json, "last", c->runs[i].last);
+        json_verdict(json, c, &c->runs[i]);
         json_close(json, '}');
     }
     json_close(json, ']');
