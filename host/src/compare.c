@@ -19,6 +19,14 @@ struct finding {
     struct harptimber_compared verdict;
 };
 
+static bool refuse(struct comparison *c, uint32_t answer, uint32_t side)
+{
+    c->refused = true;
+    c->refusal = answer;
+    c->side = side;
+    return false;
+}
+
 /* Returns false, with the reason in the comparison, if a card doesn't open. */
 static bool find(struct comparison *c, uint32_t index, struct finding *found)
 {
@@ -28,9 +36,7 @@ static bool find(struct comparison *c, uint32_t index, struct finding *found)
     uint32_t answer = found->pulled.answer;
     if (answer >= HARPTIMBER_OUT_OF_SHAPE && answer <= HARPTIMBER_UNREADABLE) {
         bool bad_name = answer == HARPTIMBER_OUT_OF_SHAPE && length_is_in_shape(&c->kept);
-        c->refused = answer;
-        c->side = bad_name ? NO_SIDE : KEPT_SIDE;
-        return false;
+        return refuse(c, answer, bad_name ? NO_SIDE : KEPT_SIDE);
     }
     found->verdict = harptimber_compare(c->kept.bytes, c->kept.len, c->new.bytes, c->new.len, lists->nodes,
                                         sizeof lists->nodes, found->pulled.node_count, lists->blocks,
@@ -38,9 +44,7 @@ static bool find(struct comparison *c, uint32_t index, struct finding *found)
     answer = found->verdict.answer;
     if (answer == HARPTIMBER_SAME || answer == HARPTIMBER_CHANGED)
         return true;
-    c->refused = answer;
-    c->side = NEW_SIDE; /* the kept card has just been read */
-    return false;
+    return refuse(c, answer, NEW_SIDE); /* the kept card has just been read */
 }
 
 /* Which of the listed nodes the kept card has in the block that differs. */
@@ -90,8 +94,8 @@ static bool compare_block(struct comparison *c, uint32_t index)
 uint32_t compare_answer(const struct comparison *c)
 {
     bool behind_last = c->whole && c->last_answer == HARPTIMBER_PAST_END;
-    if (c->refused != 0)
-        return c->refused;
+    if (c->refused)
+        return c->refusal;
     if (c->changed != 0 || is_changed(&c->end))
         return HARPTIMBER_CHANGED;
     return is_block(c->last_answer) || behind_last ? HARPTIMBER_SAME : c->last_answer;

@@ -15,7 +15,8 @@ struct comparison {
     const char *name;
     bool whole; /* every block was asked for */
     struct card kept, new;
-    uint32_t refused, side; /* 4 to 8 where a card doesn't open, and which; else 0 */
+    bool refused;           /* a card doesn't open, or the name is bad: */
+    uint32_t refusal, side; /* the answer, 4 to 8, and whose it is */
     struct run *runs;
     size_t run_count, run_room;
     uint32_t same, changed; /* how many blocks */
