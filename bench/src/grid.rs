@@ -66,13 +66,13 @@ impl Grid {
     /// In each column but the first, what a side takes more than in the first, as a part of what another
     /// takes more.
     pub fn added(&self, of: usize, to: usize) -> Vec<f64> {
-        let first = &self.times[0];
-        let added = |sides: &Vec<Vec<f64>>, side: usize| {
-            median(sides[side].clone()) - median(first[side].clone())
+        let more = |column: usize, side: usize| {
+            let times = self.times[column][side].iter().zip(&self.times[0][side]);
+            median(times.map(|(later, first)| later - first).collect())
         };
-        let later = self.times.iter().skip(1);
+        let later = 1..self.times.len();
         later
-            .map(|sides| added(sides, of) / added(sides, to))
+            .map(|column| more(column, of) / more(column, to))
             .collect()
     }
 }

@@ -35,12 +35,14 @@ fn print_head() {
 Every number in the tables is a ratio of two times of this run. No time is claimed.
 
   archive     libharptimber.a, called from this process; the checksum's own archive in table 6
-  reference/  a second implementation of the same rules in safe Rust; both are built for release
+  reference/  a second program for the same rules, in safe Rust, meant to be plain and not to be fast;
+              both are built for release
   GRUB        its F2FS reader, by {}
   cards       written by mkfs.f2fs {OPTIONS} and sload.f2fs, sparse files, mapped for reading
   buffers     warm: each card is in the page cache, mapped and read before; what is lent to a pull is
               lent again to the next one, and not cleared in between
-  ratios      medians over rounds that time everything in a table's row in turn ({} rounds; whole files {})
+  ratios      medians over rounds, each of which times all sides and columns of a row in turn;
+              {} rounds, for whole files {}
 
 Before it is timed, every side has given the same bytes and answers.",
         grub.trim(),
@@ -112,7 +114,7 @@ fn growth_with_levels() {
     table.print(
         "4. Growth with the root directory, by its depth (levels); a pull whose name comes last
    both blocks of its bucket in every level are full, and the name is in the last slot of the last;
-   lower is better. A depth of 10 is a root of some 400,000 short names, 29 the most that is read",
+   lower is better. 10 levels take some 400,000 short names; behind 29 no level has blocks",
     );
 }
 
@@ -131,7 +133,7 @@ fn whole_files(columns: &[Whole], promises: &mut Promises) {
     table.print(
         "5. Whole files beside GRUB's reader, by MB of the file/MB of the card
    time as a part of `grub-fstest CARD cat '(loop0)/NAME'`; lower is better, below 1 is faster.
-   GRUB's number and each but the third are processes from start to end, with output to /dev/null",
+   GRUB's time is a process from start to end with output to /dev/null, and so is each but the third",
     );
     let harptimber = grid.parts(whole::HARPTIMBER, whole::GRUB);
     promises.at_most(1.0, "harptimber cat to GRUB's reader", &harptimber);
