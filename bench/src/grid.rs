@@ -1,8 +1,9 @@
 //! Times of contenders: in each column the same sides, say the library and the reference, on a card of
-//! another size. Only ratios come out.
+//! another size. They are the processor's times, so that other load on the machine isn't in them, and only
+//! ratios come out.
 
+use crate::system::processor_time;
 use std::hint::black_box;
-use std::time::Instant;
 
 /// What is timed.
 pub type Contender<'a> = Box<dyn FnMut() + 'a>;
@@ -78,12 +79,12 @@ impl Grid {
 }
 
 fn time(calls: usize, contender: &mut Contender) -> f64 {
-    let start = Instant::now();
+    let start = processor_time();
     for _ in 0..calls {
         contender();
     }
     // A clock that hasn't moved must not divide by zero.
-    start.elapsed().as_secs_f64().max(1e-9)
+    (processor_time() - start).max(1e-6)
 }
 
 fn median_part(of: &[f64], to: &[f64]) -> f64 {

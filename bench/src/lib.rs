@@ -5,6 +5,6 @@
 //! in here may link the library.
 
 pub mod grid;
-pub mod mapped;
 pub mod pulls;
+pub mod system;
 pub mod table;

@@ -1,25 +1,28 @@
 //! Pulls of the library and of the reference under one type.
 
 use crate::grid::{contender, Contender};
+pub use reference::bytes::BLOCK_SIZE;
 pub use reference::pull::Pulled;
 use std::hint::black_box;
 use std::ops::Range;
 
-const BLOCK_SIZE: usize = 4096;
+/// How many numbers the lists have that are long enough for any pull.
+pub const NODES: u32 = 179;
+pub const BLOCKS: u32 = 238;
 
-/// What is lent to a pull: a block, and lists of the least lengths.
+/// What is lent to a pull: a block and the two lists.
 pub struct Lent {
     pub block: [u8; BLOCK_SIZE],
-    pub nodes: [u8; 179 * 4],
-    pub blocks: [u8; 238 * 4],
+    pub nodes: [u8; NODES as usize * 4],
+    pub blocks: [u8; BLOCKS as usize * 4],
 }
 
 impl Default for Lent {
     fn default() -> Lent {
         Lent {
             block: [0; BLOCK_SIZE],
-            nodes: [0; 179 * 4],
-            blocks: [0; 238 * 4],
+            nodes: [0; NODES as usize * 4],
+            blocks: [0; BLOCKS as usize * 4],
         }
     }
 }

@@ -1,8 +1,8 @@
 //! Writes a file of a card to standard output, as `harptimber cat IMAGE NAME` does, by the reference's
 //! pulls.
 
-use harptimber_bench::mapped::mapped;
 use harptimber_bench::pulls;
+use harptimber_bench::system::mapped;
 use std::io::{stdout, BufWriter, Write};
 use std::os::unix::ffi::OsStrExt;
 use std::process::ExitCode;

@@ -2,14 +2,14 @@
 
 use crate::cards::*;
 use harptimber_bench::grid::{contender, Contender, Grid, Often};
-use harptimber_bench::pulls::{pulling, Lent};
+use harptimber_bench::pulls::{pulling, Lent, BLOCKS, BLOCK_SIZE, NODES};
 use reference::compare::compare as reference_compare;
 use reference::lookup::node_lookup as reference_lookup;
 use std::collections::BTreeSet;
 use std::hint::black_box;
 use std::ops::Range;
 
-/// Short rounds, most of which nothing else on the machine gets into.
+/// All rounds together pull every block of the file once.
 pub const OFTEN: Often = Often {
     rounds: 64,
     calls: ROAD_BLOCKS as usize / 64,
@@ -20,10 +20,6 @@ pub const LONGER: Often = Often { calls: 16, ..OFTEN };
 /// Sides beyond the archive and the reference.
 pub const SAME_BLOCK: usize = 2;
 pub const MEMCMP: usize = 2;
-
-/// A full list.
-const NODES: u32 = 179;
-const BLOCKS: u32 = 238;
 
 /// The calls on every card.
 pub struct Calls {
@@ -152,7 +148,7 @@ fn stored(numbers: Vec<u32>) -> Vec<u8> {
 fn memcmp(kept: &[u8], fresh: &[u8], blocks: &[u32]) -> bool {
     let opened = [kept, fresh].map(|image| harptimber_tests::node_lookup(image, 0).answer);
     let same = blocks.iter().all(|&number| {
-        let place = number as usize * 4096..(number as usize + 1) * 4096;
+        let place = number as usize * BLOCK_SIZE..(number as usize + 1) * BLOCK_SIZE;
         black_box(&kept[place.clone()]) == black_box(&fresh[place])
     });
     opened == [9, 9] && same

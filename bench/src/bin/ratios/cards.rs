@@ -1,7 +1,7 @@
 //! Cards of three sizes that the published tools write.
 
-use harptimber_bench::mapped::mapped;
-use harptimber_bench::pulls::{self, Lent, Pull, Pulled};
+use harptimber_bench::pulls::{self, Lent, Pull, Pulled, BLOCK_SIZE};
+use harptimber_bench::system::mapped;
 use harptimber_tests::published::{file_with, File, Scratch};
 use harptimber_tests::trial::Random;
 use std::process::Command;
@@ -74,7 +74,7 @@ impl Card {
 pub fn files() -> [File; 2] {
     let mut random = Random::new(1);
     [(ROAD, ROAD_BLOCKS), (SURVEY, SURVEY_BLOCKS)].map(|(name, blocks)| {
-        let bytes = random.bytes(blocks as usize * 4096);
+        let bytes = random.bytes(blocks as usize * BLOCK_SIZE);
         (name.as_bytes().to_vec(), bytes)
     })
 }
