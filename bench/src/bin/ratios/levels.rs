@@ -19,11 +19,11 @@ const NAME: &str = "road.bin";
 pub fn levels() -> Grid {
     let images = DEPTHS.map(card);
     let column = |image| {
-        let mut lent = Lent::default();
-        for pull in PULLS {
-            let pulled = pull(image, NAME.as_bytes(), 0, &mut lent);
-            assert_eq!((pulled.answer, pulled.byte_count), (0, 4096));
-        }
+        let [archive, reference] = PULLS.map(|pull| {
+            let mut lent = Lent::default();
+            (pull(image, NAME.as_bytes(), 0, &mut lent), lent.block)
+        });
+        assert_eq!((archive.0.answer, archive), (0, reference));
         let sides = PULLS.map(|pull| pulling(pull, image, NAME, 0..1));
         sides.into()
     };

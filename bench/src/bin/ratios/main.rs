@@ -41,7 +41,7 @@ Every number in the tables is a ratio of two times of this run. No time is claim
   cards       written by mkfs.f2fs {OPTIONS} and sload.f2fs, sparse files, mapped for reading
   buffers     warm: each card is in the page cache, mapped and read before; what is lent to a pull is
               lent again to the next one, and not cleared in between
-  times       the processor's, user and system, children included: other load is left out
+  times       the processor's, user and system, children included: other load isn't counted
   ratios      medians over rounds, each of which times all sides and columns of a row in turn;
               {} rounds, for whole files {}
 
