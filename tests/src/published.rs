@@ -16,8 +16,8 @@ const MEGABYTE: usize = 1 << 20;
 /// A file's name and bytes.
 pub type File = (Vec<u8>, Vec<u8>);
 
-/// A folder of a test's own, which goes with it.
-struct Scratch(PathBuf);
+/// A folder of a test's own, with an image file and what was put into it. It goes with the test.
+pub struct Scratch(PathBuf);
 
 impl Scratch {
     fn new() -> Scratch {
@@ -29,8 +29,17 @@ impl Scratch {
         Scratch(folder)
     }
 
-    fn image_path(&self) -> PathBuf {
+    pub fn image_path(&self) -> PathBuf {
         self.0.join("image")
+    }
+
+    fn files(&self) -> PathBuf {
+        self.0.join("files")
+    }
+
+    /// Where a file is that the image was filled with.
+    pub fn file_path(&self, name: &[u8]) -> PathBuf {
+        self.files().join(OsStr::from_bytes(name))
     }
 
     /// Writes a sparse image.
@@ -45,10 +54,10 @@ impl Scratch {
 
     /// Puts files into the root directory. With a date, nothing on the card has another one.
     fn fill(&self, date: Option<u32>, files: &[File]) {
-        let folder = self.0.join("files");
+        let folder = self.files();
         fs::create_dir(&folder).expect("a folder for files");
         for (name, bytes) in files {
-            let path = folder.join(OsStr::from_bytes(name));
+            let path = self.file_path(name);
             fs::write(&path, bytes).expect("a file");
             date.inspect(|&date| put_date(&path, date));
         }
@@ -103,11 +112,17 @@ pub fn formatted(megabytes: usize, options: &str) -> Image {
     scratch.image(format!("mkfs.f2fs {options} of {megabytes} MB"))
 }
 
-/// An image with these files in its root directory.
-pub fn filled_with(megabytes: usize, options: &str, files: &[File]) -> Image {
+/// An image file with these files in its root directory.
+pub fn file_with(megabytes: usize, options: &str, files: &[File]) -> Scratch {
     let scratch = Scratch::new();
     scratch.format(megabytes, options);
     scratch.fill(None, files);
+    scratch
+}
+
+/// The same in memory.
+pub fn filled_with(megabytes: usize, options: &str, files: &[File]) -> Image {
+    let scratch = file_with(megabytes, options, files);
     scratch.image(format!(
         "sload.f2fs over mkfs.f2fs {options} of {megabytes} MB"
     ))

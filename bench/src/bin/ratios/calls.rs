@@ -1,0 +1,155 @@
+//! The archive's calls on cards of three sizes, beside the reference's.
+
+use crate::cards::*;
+use harptimber_bench::grid::{contender, Contender, Grid, Often};
+use harptimber_bench::pulls::{pulling, Lent, BLOCKS, BLOCK_SIZE, NODES};
+use reference::compare::compare as reference_compare;
+use reference::lookup::node_lookup as reference_lookup;
+use std::collections::BTreeSet;
+use std::hint::black_box;
+use std::ops::Range;
+
+/// All rounds together pull every block of the file once.
+pub const OFTEN: Often = Often {
+    rounds: 64,
+    calls: ROAD_BLOCKS as usize / 64,
+};
+/// For calls that take longer.
+pub const LONGER: Often = Often { calls: 16, ..OFTEN };
+
+/// Sides beyond the archive and the reference.
+pub const SAME_BLOCK: usize = 2;
+pub const MEMCMP: usize = 2;
+
+/// The calls on every card.
+pub struct Calls {
+    pub single: Grid,
+    pub in_order: Grid,
+    /// On the cards that have a file so long.
+    pub indirect: Grid,
+    pub lookup: Grid,
+    pub compare: Grid,
+}
+
+impl Calls {
+    pub fn on(cards: &[Card]) -> Calls {
+        Calls {
+            single: single(cards),
+            in_order: in_order(cards),
+            indirect: indirect(&cards[WITHOUT_SURVEY..]),
+            lookup: lookup(cards),
+            compare: compare(cards),
+        }
+    }
+
+    pub fn on_all_cards(&self) -> [(&str, &Grid); 4] {
+        [
+            ("single pull, block in the inode", &self.single),
+            ("pulls of a whole file, in order", &self.in_order),
+            ("node lookup", &self.lookup),
+            ("compare, full list, all the same", &self.compare),
+        ]
+    }
+}
+
+fn by_card<'a>(
+    often: Often,
+    cards: &'a [Card],
+    sides: impl Fn(&'a Card) -> Vec<Contender<'a>>,
+) -> Grid {
+    Grid::of(often, cards.iter().map(sides).collect())
+}
+
+/// Both sides pull these blocks of a file.
+fn pulls<'a>(card: &'a Card, name: &'a str, indexes: Range<u32>) -> Vec<Contender<'a>> {
+    let side = |pull| pulling(pull, card.image, name, indexes.clone());
+    PULLS.map(side).into()
+}
+
+/// A pull of a block that stands in the inode.
+fn single(cards: &[Card]) -> Grid {
+    by_card(OFTEN, cards, |card| pulls(card, ROAD, 0..1))
+}
+
+/// Pulls of every block of a file; then, by the archive, as many pulls of its first block.
+fn in_order(cards: &[Card]) -> Grid {
+    by_card(OFTEN, cards, |card| {
+        let mut sides = pulls(card, ROAD, 0..ROAD_BLOCKS);
+        sides.push(pulls(card, ROAD, 0..1).swap_remove(ARCHIVE));
+        sides
+    })
+}
+
+/// Pulls of blocks behind an indirect node.
+fn indirect(cards: &[Card]) -> Grid {
+    by_card(OFTEN, cards, |card| {
+        pulls(card, SURVEY, FIRST_INDIRECT..SURVEY_BLOCKS)
+    })
+}
+
+/// A lookup of a file's inode.
+fn lookup(cards: &[Card]) -> Grid {
+    by_card(OFTEN, cards, |card| {
+        let [nodes, _] = rested_on(card);
+        let (image, inode) = (card.image, *nodes.last().expect("an inode"));
+        let archive = move || harptimber_tests::node_lookup(black_box(image), inode);
+        let reference = move || reference_lookup(black_box(image), inode);
+        let found = archive();
+        assert_eq!(found.answer, 0);
+        assert_eq!(reference(), Ok((found.inode, found.address)));
+        vec![contender(archive), contender(reference)]
+    })
+}
+
+/// A compare of a full list, all the same; then memcmp over the same blocks beside two openings.
+fn compare(cards: &[Card]) -> Grid {
+    by_card(LONGER, cards, |card| {
+        let (kept, fresh) = (card.image, card.copy);
+        let listed: Vec<u32> = rested_on(card)[1].iter().copied().collect();
+        let [nodes, blocks] = [(1..=NODES).collect(), listed.clone()].map(stored);
+        let (nodes2, blocks2) = (nodes.clone(), blocks.clone());
+        let archive = move || {
+            let (kept, fresh) = (black_box(kept), black_box(fresh));
+            harptimber_tests::compare(kept, fresh, &nodes, NODES, &blocks, BLOCKS).answer
+        };
+        let reference = move || {
+            let (kept, fresh) = (black_box(kept), black_box(fresh));
+            reference_compare(kept, fresh, &nodes2, NODES, &blocks2, BLOCKS).answer
+        };
+        let memcmp = move || memcmp(kept, fresh, &listed);
+        assert_eq!((archive(), reference(), memcmp()), (15, 15, true));
+        vec![contender(archive), contender(reference), contender(memcmp)]
+    })
+}
+
+/// Nodes and blocks that pulls of a file rest on, as many blocks as a full list has.
+fn rested_on(card: &Card) -> [BTreeSet<u32>; 2] {
+    let (mut lent, mut nodes, mut blocks) = (Lent::default(), BTreeSet::new(), BTreeSet::new());
+    let mut indexes = 0..ROAD_BLOCKS;
+    while blocks.len() < BLOCKS as usize {
+        let index = indexes.next().expect("blocks for a full list");
+        let pulled = PULLS[ARCHIVE](card.image, ROAD.as_bytes(), index, &mut lent);
+        nodes.extend(numbers(&lent.nodes, pulled.node_count));
+        blocks.extend(numbers(&lent.blocks, pulled.block_count));
+    }
+    [nodes, blocks]
+}
+
+fn numbers(list: &[u8], count: u32) -> impl Iterator<Item = u32> + '_ {
+    let number = |stored: &[u8]| u32::from_le_bytes(stored.try_into().expect("four bytes"));
+    list.chunks_exact(4).map(number).take(count as usize)
+}
+
+fn stored(numbers: Vec<u32>) -> Vec<u8> {
+    numbers.into_iter().flat_map(u32::to_le_bytes).collect()
+}
+
+/// Whether the listed blocks are equal. An opening is a lookup of number 0, which opens and answers 9.
+fn memcmp(kept: &[u8], fresh: &[u8], blocks: &[u32]) -> bool {
+    let opened = [kept, fresh].map(|image| harptimber_tests::node_lookup(image, 0).answer);
+    let same = blocks.iter().all(|&number| {
+        let place = number as usize * BLOCK_SIZE..(number as usize + 1) * BLOCK_SIZE;
+        black_box(&kept[place.clone()]) == black_box(&fresh[place])
+    });
+    opened == [9, 9] && same
+}

@@ -1,0 +1,90 @@
+//! Cards of three sizes that the published tools write.
+
+use harptimber_bench::pulls::{self, Lent, Pull, Pulled, BLOCK_SIZE};
+use harptimber_bench::system::mapped;
+use harptimber_tests::published::{file_with, File, Scratch};
+use harptimber_tests::trial::Random;
+use std::process::Command;
+
+/// By itself mkfs.f2fs holds back so much of 64 MB that sload.f2fs gets no file of some MB onto it.
+pub const OPTIONS: &str = "-o 70";
+const MEGABYTES: [usize; 3] = [64, 300, 1024];
+
+/// A file that every card has: blocks in its inode and behind both of its direct nodes.
+pub const ROAD: &str = "road.bin";
+pub const ROAD_BLOCKS: u32 = 1920;
+/// One that reaches an indirect node too. It is on the larger cards, which are all but the first.
+pub const SURVEY: &str = "survey.bin";
+pub const SURVEY_BLOCKS: u32 = 8192;
+pub const WITHOUT_SURVEY: usize = 1;
+/// The survey's first block behind its indirect node.
+pub const FIRST_INDIRECT: u32 = 873 + 2 * 1018;
+
+/// Both sides of a measure, in the order of the table.
+pub const ARCHIVE: usize = 0;
+pub const REFERENCE: usize = 1;
+pub const PULLS: [Pull; 2] = [archive, pulls::reference];
+
+fn archive(image: &[u8], name: &[u8], index: u32, lent: &mut Lent) -> Pulled {
+    let (block, nodes, blocks) = (&mut lent.block, &mut lent.nodes, &mut lent.blocks);
+    let pulled = harptimber_tests::pull(image, name, index, block, nodes, blocks);
+    Pulled {
+        answer: pulled.answer,
+        byte_count: pulled.byte_count,
+        node_count: pulled.node_count,
+        block_count: pulled.block_count,
+    }
+}
+
+pub struct Card {
+    pub megabytes: usize,
+    /// The image file, and the files that it was filled with.
+    pub scratch: Scratch,
+    pub image: &'static [u8],
+    /// A second file with the same bytes, as the new card of a compare.
+    pub copy: &'static [u8],
+}
+
+impl Card {
+    fn new(megabytes: usize, files: &[File]) -> Card {
+        let scratch = file_with(megabytes, OPTIONS, files);
+        let path = scratch.image_path();
+        let copy = path.with_file_name("copy");
+        let mut command = Command::new("cp");
+        command.arg("--sparse=always").args([&path, &copy]);
+        assert!(command.status().is_ok_and(|status| status.success()));
+        Card {
+            megabytes,
+            scratch,
+            image: mapped(&path),
+            copy: mapped(&copy),
+        }
+    }
+
+    /// Both sides have to give a file's very bytes.
+    fn check(&self, (name, bytes): &File) {
+        for pull in PULLS {
+            let mut pulled: Vec<u8> = Vec::with_capacity(bytes.len());
+            let ended = pulls::whole(pull, self.image, name, |part| pulled.extend(part));
+            assert!(ended == 3 && pulled == *bytes, "{} MB", self.megabytes);
+        }
+    }
+}
+
+pub fn files() -> [File; 2] {
+    let mut random = Random::new(1);
+    [(ROAD, ROAD_BLOCKS), (SURVEY, SURVEY_BLOCKS)].map(|(name, blocks)| {
+        let bytes = random.bytes(blocks as usize * BLOCK_SIZE);
+        (name.as_bytes().to_vec(), bytes)
+    })
+}
+
+pub fn cards(files: &[File; 2]) -> Vec<Card> {
+    let card = |(n, megabytes)| {
+        let files = &files[..if n < WITHOUT_SURVEY { 1 } else { 2 }];
+        let card = Card::new(megabytes, files);
+        files.iter().for_each(|file| card.check(file));
+        card
+    };
+    MEGABYTES.into_iter().enumerate().map(card).collect()
+}

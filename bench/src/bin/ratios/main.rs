@@ -1,0 +1,157 @@
+//! Prints tables of ratios, and whether they are as promised. `bench/run` builds what it needs.
+
+mod calls;
+mod cards;
+mod levels;
+mod whole;
+
+use calls::{Calls, MEMCMP, SAME_BLOCK};
+use cards::{Card, ARCHIVE, OPTIONS, REFERENCE, WITHOUT_SURVEY};
+use harptimber_bench::table::{Promises, Table};
+use std::process::{Command, ExitCode};
+use whole::Whole;
+
+fn main() -> ExitCode {
+    print_head();
+    let mut promises = Promises::default();
+    let files = cards::files();
+    let cards = cards::cards(&files);
+    let calls = Calls::on(&cards);
+    beside_reference(&cards, &calls, &mut promises);
+    beside_itself(&cards, &calls, &mut promises);
+    growth_with_card(&cards, &calls, &mut promises);
+    growth_with_levels();
+    whole_files(&whole::columns(&cards, &files), &mut promises);
+    checksum(&mut promises);
+    promises.finish()
+}
+
+fn print_head() {
+    let grub = Command::new("grub-fstest").arg("--version").output();
+    let grub = grub.expect("grub-fstest, which Debian's grub-common has");
+    let grub = String::from_utf8_lossy(&grub.stdout);
+    println!(
+        "\
+Every number in the tables is a ratio of two times of this run. No time is claimed.
+
+  archive     libharptimber.a, called from this process; the checksum's own archive in table 6
+  reference/  a second program for the same rules, in safe Rust, meant to be plain and not to be fast;
+              both are built for release
+  GRUB        its F2FS reader, by {}
+  cards       written by mkfs.f2fs {OPTIONS} and sload.f2fs, sparse files, mapped for reading
+  buffers     warm: each card is in the page cache, mapped and read before; what is lent to a pull is
+              lent again to the next one, and not cleared in between
+  times       the processor's, user and system, children included: other load isn't counted
+  ratios      medians over rounds, each of which times all sides and columns of a row in turn;
+              {} rounds, for whole files {}
+
+Before it is timed, every side has given the same bytes and answers.",
+        grub.trim(),
+        calls::OFTEN.rounds,
+        whole::OFTEN.rounds,
+    );
+}
+
+fn card_table(cards: &[Card]) -> Table {
+    Table::new(cards.iter().map(|card| format!("{} MB", card.megabytes)))
+}
+
+fn beside_reference(cards: &[Card], calls: &Calls, promises: &mut Promises) {
+    let mut table = card_table(cards);
+    for (label, grid) in calls.on_all_cards() {
+        table.row(label, &grid.parts(ARCHIVE, REFERENCE));
+    }
+    let behind = calls.indirect.parts(ARCHIVE, REFERENCE);
+    table.late_row("pulls behind an indirect node", WITHOUT_SURVEY, &behind);
+    table.print(
+        "1. The archive beside reference/, by size of the card
+   its time as a part of reference/'s; lower is better, below 1 is faster",
+    );
+    let single = calls.single.parts(ARCHIVE, REFERENCE);
+    promises.at_most(0.5, "single pull to reference/'s", &single);
+    let in_order = calls.in_order.parts(ARCHIVE, REFERENCE);
+    promises.at_most(1.0, "pulls of a whole file to reference/'s", &in_order);
+}
+
+fn beside_itself(cards: &[Card], calls: &Calls, promises: &mut Promises) {
+    let mut table = card_table(cards);
+    let compare = calls.compare.parts(ARCHIVE, MEMCMP);
+    table.row("compare to memcmp and two openings", &compare);
+    let in_order = calls.in_order.parts(ARCHIVE, SAME_BLOCK);
+    table.row("pull in file order to single pull", &in_order);
+    table.print(
+        "2. The archive beside the least that such a call needs, by size of the card
+   its time as a multiple; lower is better. A compare opens both cards and reads each listed block of
+   both. A pull keeps nothing for the next one, so the next block of a file costs a pull of its own",
+    );
+    promises.at_most(2.0, "compare to memcmp and two openings", &compare);
+}
+
+fn growth_with_card(cards: &[Card], calls: &Calls, promises: &mut Promises) {
+    let mut table = card_table(cards);
+    let mut on_largest = Vec::new();
+    for (label, grid) in calls.on_all_cards() {
+        let archive = grid.growth(ARCHIVE);
+        on_largest.extend(archive.last());
+        table.row(&format!("{label}, archive"), &archive);
+        table.row(&format!("{label}, reference/"), &grid.growth(REFERENCE));
+    }
+    table.print(
+        "3. Growth with the card
+   time on a card as a multiple of the same side's on the first; 1 is no growth, lower is better",
+    );
+    let what = "each call on the largest card to the same on the smallest";
+    promises.at_most(1.5, what, &on_largest);
+}
+
+fn growth_with_levels() {
+    let grid = levels::levels();
+    let mut table = Table::new(levels::DEPTHS.iter().map(u32::to_string));
+    table.row("archive to its depth 1", &grid.growth(ARCHIVE));
+    table.row("reference/ to its depth 1", &grid.growth(REFERENCE));
+    table.row("archive to reference/", &grid.parts(ARCHIVE, REFERENCE));
+    let added = grid.added(ARCHIVE, REFERENCE);
+    table.late_row("the same, of what is added to depth 1", 1, &added);
+    table.print(
+        "4. Growth with the root directory, by its depth (levels); a pull whose name comes last
+   both blocks of its bucket in every level are full, and the name is in the last slot of the last;
+   lower is better. 10 levels take some 400,000 short names; behind 29 no level has blocks",
+    );
+}
+
+fn whole_files(columns: &[Whole], promises: &mut Promises) {
+    let grid = whole::whole(columns);
+    let mut table = Table::new(columns.iter().map(Whole::head));
+    let rows = [
+        ("harptimber cat", whole::HARPTIMBER),
+        ("reference/'s pulls, as a program", whole::REFERENCE_CAT),
+        ("the archive's pulls, in this process", whole::PULLS_ALONE),
+        ("cat of the same bytes in a plain file", whole::CAT),
+    ];
+    for (label, side) in rows {
+        table.row(label, &grid.parts(side, whole::GRUB));
+    }
+    table.print(
+        "5. Whole files beside GRUB's reader, by MB of the file/MB of the card
+   time as a part of `grub-fstest CARD cat '(loop0)/NAME'`; lower is better, below 1 is faster.
+   GRUB's time is a process from start to end with output to /dev/null, and so is each but the third",
+    );
+    let harptimber = grid.parts(whole::HARPTIMBER, whole::GRUB);
+    promises.at_most(1.0, "harptimber cat to GRUB's reader", &harptimber);
+}
+
+/// A program of its own, whose archive can't be linked with the library's.
+fn checksum(promises: &mut Promises) {
+    let output = Command::new(whole::beside_this("checksum")).output();
+    let output = output.expect("the program `checksum`").stdout;
+    let ratio = String::from_utf8_lossy(&output).trim().parse();
+    let ratio: f64 = ratio.expect("a ratio from the program `checksum`");
+    let mut table = Table::new(["4,092 bytes".to_string()]);
+    table.row("checksum, bit by bit to archive", &[ratio]);
+    table.print(
+        "6. The checksum of a checkpoint block, which is most of an opening
+   time of a loop over bits as a multiple of the archive's; higher is better. The compiler may turn
+   that loop into one over a table, and is left to it",
+    );
+    promises.at_least(3.0, "checksum, bit by bit to archive", ratio);
+}
