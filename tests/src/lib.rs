@@ -12,6 +12,7 @@ pub mod layout;
 pub mod lent;
 pub mod lookups;
 pub mod names;
+pub mod outside;
 pub mod published;
 pub mod pulls;
 pub mod random_card;

@@ -10,17 +10,28 @@ use std::sync::atomic::{AtomicU32, Ordering};
 use std::time::{Duration, UNIX_EPOCH};
 
 use crate::image::Image;
+use crate::trial::Random;
 
 const MEGABYTE: usize = 1 << 20;
+
+/// Files up to this size stand in their inode, which is a kind that isn't read.
+pub const LONGEST_INLINE: usize = 3344;
 
 /// A file's name and bytes.
 pub type File = (Vec<u8>, Vec<u8>);
 
+/// A file's bytes, at each place others.
+pub fn contents(random: &mut Random, size: usize) -> Vec<u8> {
+    let seed = random.number();
+    let eight = (0..size.div_ceil(8) as u64).flat_map(|n| (seed ^ (n * n)).to_le_bytes());
+    eight.take(size).collect()
+}
+
 /// A folder of a test's own, which goes with it.
-struct Scratch(PathBuf);
+pub struct Scratch(PathBuf);
 
 impl Scratch {
-    fn new() -> Scratch {
+    pub fn new() -> Scratch {
         static MADE: AtomicU32 = AtomicU32::new(0);
         let made = MADE.fetch_add(1, Ordering::Relaxed);
         let folder = Path::new(env!("CARGO_MANIFEST_DIR")).join("target/tmp");
@@ -29,8 +40,12 @@ impl Scratch {
         Scratch(folder)
     }
 
+    pub fn path(&self, name: &str) -> PathBuf {
+        self.0.join(name)
+    }
+
     fn image_path(&self) -> PathBuf {
-        self.0.join("image")
+        self.path("image")
     }
 
     /// Writes a sparse image.
@@ -43,12 +58,15 @@ impl Scratch {
             .arg(self.image_path()));
     }
 
-    /// Puts files into the root directory. With a date, nothing on the card has another one.
+    /// Puts files into the root directory, or into one below it if the name has a slash. With a date,
+    /// no file on the card has another one.
     fn fill(&self, date: Option<u32>, files: &[File]) {
-        let folder = self.0.join("files");
+        let folder = self.path("files");
         fs::create_dir(&folder).expect("a folder for files");
         for (name, bytes) in files {
             let path = folder.join(OsStr::from_bytes(name));
+            let around = path.parent().expect("a folder around a file");
+            fs::create_dir_all(around).expect("a folder for files");
             fs::write(&path, bytes).expect("a file");
             date.inspect(|&date| put_date(&path, date));
         }
@@ -57,7 +75,8 @@ impl Scratch {
         run(Command::new("sload.f2fs")
             .args(option)
             .arg("-f")
-            .args([folder, self.image_path()]));
+            .args([&folder, &self.image_path()]));
+        fs::remove_dir_all(folder).expect("a folder to remove");
     }
 
     /// Reads the image. Zeros aren't written to memory, which for them isn't really there.
@@ -89,12 +108,15 @@ fn put_date(path: &Path, date: u32) {
     file.set_modified(time).expect("the date of a file");
 }
 
-fn run(command: &mut Command) {
-    let output = command
-        .output()
-        .unwrap_or_else(|error| panic!("{command:?}: {error}; Debian's f2fs-tools has it"));
-    let log = String::from_utf8_lossy(&output.stdout);
+/// Runs a program, which has to end well, and returns what it wrote to standard output.
+pub fn run(command: &mut Command) -> Vec<u8> {
+    let output = command.output().unwrap_or_else(|error| {
+        panic!("{command:?}: {error}; Debian has it in f2fs-tools, grub-common, make or valgrind")
+    });
+    let log = [&output.stdout, &output.stderr].map(|bytes| String::from_utf8_lossy(bytes));
+    let log = log.join("\n");
     assert!(output.status.success(), "{command:?} failed:\n{log}");
+    output.stdout
 }
 
 pub fn formatted(megabytes: usize, options: &str) -> Image {
@@ -105,9 +127,16 @@ pub fn formatted(megabytes: usize, options: &str) -> Image {
 
 /// An image with these files in its root directory.
 pub fn filled_with(megabytes: usize, options: &str, files: &[File]) -> Image {
+    filled_in_turn(megabytes, options, &[files])
+}
+
+/// The same, with files that come later over those that are there.
+pub fn filled_in_turn(megabytes: usize, options: &str, turns: &[&[File]]) -> Image {
     let scratch = Scratch::new();
     scratch.format(megabytes, options);
-    scratch.fill(None, files);
+    for files in turns {
+        scratch.fill(None, files);
+    }
     scratch.image(format!(
         "sload.f2fs over mkfs.f2fs {options} of {megabytes} MB"
     ))
