@@ -1,0 +1,156 @@
+#include "card.h"
+
+#include <errno.h>
+#include <fcntl.h>
+#include <signal.h>
+#include <stdio.h>
+#include <stdlib.h>
+#include <string.h>
+#include <sys/mman.h>
+#include <unistd.h>
+
+#include "request.h"
+#include "text.h"
+
+/* The cards that are mapped now; compare has two. */
+static const struct card *mapped[2];
+
+enum { MOST_CARDS = sizeof mapped / sizeof *mapped };
+
+/*
+ * Bytes of a mapping that the file no longer has, or that the medium fails to give, arrive as SIGBUS in
+ * the middle of a library call. There is no way back from there but to say so and to end.
+ */
+static void on_bus_error(int number, siginfo_t *info, void *context)
+{
+    (void)number;
+    (void)context;
+    const char *message = "harptimber: memory can't be read\n";
+    for (int i = 0; i < MOST_CARDS; i++)
+        if (mapped[i] != NULL && (uintptr_t)info->si_addr - (uintptr_t)mapped[i]->bytes < mapped[i]->len)
+            message = mapped[i]->lost;
+    ssize_t written = write(STDERR_FILENO, message, strlen(message));
+    (void)written;
+    _exit(REFUSED);
+}
+
+static void watch_bus_errors(void)
+{
+    struct sigaction action = {.sa_sigaction = on_bus_error, .sa_flags = SA_SIGINFO};
+    sigemptyset(&action.sa_mask);
+    sigaction(SIGBUS, &action, NULL);
+}
+
+/* The message is made beforehand: a signal handler may neither allocate nor print. */
+static char *message_if_lost(const char *path)
+{
+    char *message = NULL;
+    size_t len;
+    FILE *out = open_memstream(&message, &len);
+    if (out == NULL)
+        return NULL;
+    fputs("harptimber: ", out);
+    show(out, path);
+    fputs(": can't be read any more: it was cut short, or its medium fails\n", out);
+    return fclose(out) == 0 ? message : NULL;
+}
+
+/* How many bytes to map; 0, and why in `why`, if the file can't be a card. */
+static size_t size_to_map(int file, const struct stat *info, const char **why)
+{
+    off_t size = 0;
+    if (S_ISREG(info->st_mode))
+        size = info->st_size;
+    else if (S_ISBLK(info->st_mode))
+        size = lseek(file, 0, SEEK_END);
+    else
+        *why = S_ISDIR(info->st_mode) ? "is a directory" : "is neither a file nor a block device";
+    if (size < 0)
+        *why = strerror(errno);
+    else if (size == 0 && *why == NULL)
+        *why = "is empty";
+    else if ((uintmax_t)size > SIZE_MAX)
+        *why = "is too big to map";
+    return *why == NULL ? (size_t)size : 0;
+}
+
+/*
+ * Maps what was opened, or returns why not. A private mapping is enough, since nothing is written. Neither kind
+ * would hold the bytes still while another program writes the file: card_is_settled asks for that.
+ */
+static const char *map(struct card *card)
+{
+    const char *why = NULL;
+    if (fstat(card->file, &card->info) != 0)
+        return strerror(errno);
+    card->len = size_to_map(card->file, &card->info, &why);
+    if (why != NULL)
+        return why;
+    void *bytes = mmap(NULL, card->len, PROT_READ, MAP_PRIVATE, card->file, 0);
+    if (bytes == MAP_FAILED)
+        return errno == ENOMEM ? "is too big to map" : strerror(errno);
+    card->bytes = bytes;
+    return NULL;
+}
+
+/* Without O_NONBLOCK, opening a FIFO would wait for a writer. */
+bool card_open(struct card *card, const char *path)
+{
+    *card = (struct card){.path = path};
+    card->file = open(path, O_RDONLY | O_NONBLOCK | O_NOCTTY | O_CLOEXEC);
+    const char *why = card->file < 0 ? strerror(errno) : map(card);
+    if (why == NULL && (card->lost = message_if_lost(path)) == NULL)
+        why = strerror(ENOMEM);
+    if (why != NULL) {
+        complain(path, "%s", why);
+        card_close(card);
+        return false;
+    }
+    mapped[mapped[0] != NULL] = card;
+    watch_bus_errors();
+    return true;
+}
+
+void card_close(struct card *card)
+{
+    for (int i = 0; i < MOST_CARDS; i++)
+        if (mapped[i] == card)
+            mapped[i] = NULL;
+    if (card->bytes != NULL)
+        munmap((void *)(uintptr_t)card->bytes, card->len);
+    if (card->file >= 0)
+        close(card->file);
+    free(card->lost);
+}
+
+bool card_is_settled(const struct card *card)
+{
+    struct stat now;
+    const struct stat *then = &card->info;
+    if (fstat(card->file, &now) == 0 && now.st_size == then->st_size &&
+        now.st_mtim.tv_sec == then->st_mtim.tv_sec && now.st_mtim.tv_nsec == then->st_mtim.tv_nsec)
+        return true;
+    complain(card->path, "was written while it was read");
+    return false;
+}
+
+bool card_is(const struct card *card, const struct stat *info)
+{
+    if (S_ISBLK(card->info.st_mode) && S_ISBLK(info->st_mode))
+        return card->info.st_rdev == info->st_rdev;
+    return card->info.st_dev == info->st_dev && card->info.st_ino == info->st_ino;
+}
+
+struct harptimber_pulled card_pull(const struct card *card, const char *name, uint32_t index,
+                                   uint8_t *block, struct lists *lists)
+{
+    return harptimber_pull(card->bytes, card->len, (const uint8_t *)name, strlen(name), index, block,
+                           BLOCK_SIZE, lists->nodes, sizeof lists->nodes, lists->blocks,
+                           sizeof lists->blocks);
+}
+
+uint32_t list_number(const uint8_t *list, uint32_t i)
+{
+    const uint8_t *bytes = list + 4 * (size_t)i;
+    return (uint32_t)bytes[0] | (uint32_t)bytes[1] << 8 | (uint32_t)bytes[2] << 16 | (uint32_t)bytes[3] << 24;
+}

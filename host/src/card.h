@@ -1,0 +1,50 @@
+/* A card image, mapped to be read, and the library's pull on it. */
+#ifndef CARD_H
+#define CARD_H
+
+#include <stdbool.h>
+#include <stddef.h>
+#include <stdint.h>
+#include <sys/stat.h>
+
+#include "harptimber.h"
+
+enum { BLOCK_SIZE = 4096 };
+
+struct card {
+    const char *path;
+    const uint8_t *bytes;
+    size_t len;
+    int file;         /* stays open, for card_is_settled */
+    struct stat info; /* as it was when the card was mapped */
+    char *lost;       /* what to say if its bytes can't be read any more */
+};
+
+/* What a pull rested on: numbers of four bytes, the lowest byte first. There is always room for all. */
+struct lists {
+    uint8_t nodes[179 * 4];
+    uint8_t blocks[238 * 4];
+};
+
+/* Maps a regular file or a block device. If that fails, says why and returns false. */
+bool card_open(struct card *card, const char *path);
+
+void card_close(struct card *card);
+
+/*
+ * Whether an answer still stands: the library's promises hold for bytes that nobody writes meanwhile.
+ * Says so if the image was written since it was mapped. On a block device that can't be seen.
+ */
+bool card_is_settled(const struct card *card);
+
+/* Whether a file is the card itself. */
+bool card_is(const struct card *card, const struct stat *info);
+
+/* Block `index` of the file `name`, into 4,096 bytes at `block`. */
+struct harptimber_pulled card_pull(const struct card *card, const char *name, uint32_t index,
+                                   uint8_t *block, struct lists *lists);
+
+/* Number `i` of a list. */
+uint32_t list_number(const uint8_t *list, uint32_t i);
+
+#endif

@@ -1,0 +1,158 @@
+/* cat: a whole file. */
+#include <inttypes.h>
+#include <stdlib.h>
+#include <unistd.h>
+
+#include "json.h"
+#include "output.h"
+#include "progress.h"
+#include "request.h"
+#include "text.h"
+#include "words.h"
+
+/* Bytes are written in pieces of this many blocks. */
+enum { PIECE = 64 * BLOCK_SIZE };
+
+/* Progress is shown for files with more blocks than these. */
+enum { FEW_BLOCKS = 1024 };
+
+struct cat {
+    const struct request *request;
+    const char *name;
+    struct card card;
+    struct output output;
+    bool output_is_open;
+    struct progress progress;
+    uint64_t bytes;         /* written and waiting ones */
+    uint32_t blocks, holes; /* and in how many blocks */
+    uint32_t answer;        /* of the last pull */
+    struct lists lists;
+    size_t waiting;
+    uint8_t piece[PIECE];
+};
+
+/* Whether the file has a block `index`, sound or not: past the end is judged by the index and the size alone. */
+static bool has_block(struct cat *cat, uint32_t index)
+{
+    uint8_t block[BLOCK_SIZE];
+    return card_pull(&cat->card, cat->name, index, block, &cat->lists).answer != HARPTIMBER_PAST_END;
+}
+
+/* How many blocks a file of more than FEW_BLOCKS has; 0 for others. By bisection, since no call says it. */
+static uint32_t count_blocks(struct cat *cat)
+{
+    uint32_t there = FEW_BLOCKS, past = UINT32_MAX;
+    if (!has_block(cat, there) || has_block(cat, past))
+        return 0;
+    while (past - there > 1) {
+        uint32_t middle = there + (past - there) / 2;
+        if (has_block(cat, middle))
+            there = middle;
+        else
+            past = middle;
+    }
+    return past;
+}
+
+/* Opens the output, once it is known that there is something to write. */
+static bool open_output(struct cat *cat)
+{
+    if (!output_open(&cat->output, cat->request->output, &cat->card))
+        return false;
+    cat->output_is_open = true;
+    if (isatty(STDERR_FILENO) && !isatty(cat->output.file))
+        cat->progress = (struct progress){.name = cat->name, .total = count_blocks(cat)};
+    return true;
+}
+
+static bool write_piece(struct cat *cat)
+{
+    size_t len = cat->waiting;
+    cat->waiting = 0;
+    return (cat->output_is_open || open_output(cat)) && output_write(&cat->output, cat->piece, len);
+}
+
+/*
+ * Pulls block after block, each straight to its place in the piece, until the end or a refusal. Returns
+ * false if something couldn't be written.
+ */
+static bool copy(struct cat *cat)
+{
+    for (;;) {
+        struct harptimber_pulled pulled =
+            card_pull(&cat->card, cat->name, cat->blocks, cat->piece + cat->waiting, &cat->lists);
+        cat->answer = pulled.answer;
+        if (pulled.answer != HARPTIMBER_DATA && pulled.answer != HARPTIMBER_HOLE)
+            break;
+        cat->blocks++;
+        cat->holes += pulled.answer == HARPTIMBER_HOLE;
+        cat->bytes += pulled.byte_count;
+        cat->waiting += pulled.byte_count;
+        if (cat->waiting > PIECE - BLOCK_SIZE) {
+            if (!write_piece(cat))
+                return false;
+            progress_show(&cat->progress, cat->blocks);
+        }
+    }
+    /* An empty file that was read is written too: it empties the output. */
+    bool nothing = cat->blocks == 0 && cat->answer != HARPTIMBER_PAST_END;
+    return nothing || write_piece(cat);
+}
+
+static void show_words(const struct cat *cat)
+{
+    if (cat->answer == HARPTIMBER_PAST_END)
+        return;
+    fputs("harptimber: ", stderr);
+    show(stderr, cat->card.path);
+    fputs(": ", stderr);
+    show(stderr, cat->name);
+    fprintf(stderr, ", block %" PRIu32 ": ", cat->blocks);
+    show_answer(stderr, cat->answer, meaning_of(cat->answer), &cat->card, cat->name);
+    fprintf(stderr, "; %" PRIu64 " bytes were written\n", cat->bytes);
+}
+
+static void show_json(const struct cat *cat)
+{
+    bool whole = cat->answer == HARPTIMBER_PAST_END;
+    uint32_t answer = whole ? HARPTIMBER_DATA : cat->answer;
+    FILE *out = output_is_standard(cat->request->output) ? stderr : stdout;
+    struct json json = json_begin(out, "cat", answer, meaning_of(answer));
+    json_string(&json, "image", cat->card.path);
+    json_name(&json, cat->name);
+    json_string(&json, "output", cat->request->output);
+    json_number(&json, "bytes", cat->bytes);
+    json_number(&json, "blocks", cat->blocks);
+    json_number(&json, "holes", cat->holes);
+    if (!whole)
+        json_number(&json, "index", cat->blocks);
+    json_end(&json);
+}
+
+static enum status cat_and_tell(struct cat *cat)
+{
+    bool written = copy(cat);
+    progress_end(&cat->progress);
+    if (cat->output_is_open)
+        written = output_close(&cat->output) && written;
+    if (!written || !card_is_settled(&cat->card))
+        return REFUSED;
+    (cat->request->json ? show_json : show_words)(cat);
+    return cat->answer == HARPTIMBER_PAST_END ? DONE : REFUSED;
+}
+
+enum status run_cat(const struct request *request)
+{
+    if (request->json && request->output == NULL) {
+        complain("cat", "--json needs -o FILE");
+        return misused();
+    }
+    static struct cat cat; /* too large for a stack */
+    cat.request = request;
+    cat.name = request->words[1];
+    if (!card_open(&cat.card, request->words[0]))
+        return REFUSED;
+    enum status status = cat_and_tell(&cat);
+    card_close(&cat.card);
+    return status;
+}

@@ -1,0 +1,170 @@
+/* What a comparison found, in words and as JSON. */
+#include <inttypes.h>
+
+#include "compare.h"
+#include "json.h"
+#include "text.h"
+#include "words.h"
+
+static void show_node_difference(FILE *out, const struct comparison *c, uint32_t node)
+{
+    fprintf(out, "node %" PRIu32 " has another table entry (", node);
+    show_entry(out, harptimber_node_lookup(c->kept.bytes, c->kept.len, node));
+    fputs(" before; ", out);
+    show_entry(out, harptimber_node_lookup(c->new.bytes, c->new.len, node));
+    fputs(" now)", out);
+}
+
+/* The main areas are alike where a block differs, so that it lies in both images. */
+static void show_block_difference(FILE *out, const struct comparison *c, const struct run *run)
+{
+    const uint8_t *before = c->kept.bytes + (size_t)run->verdict.number * BLOCK_SIZE;
+    const uint8_t *now = c->new.bytes + (size_t)run->verdict.number * BLOCK_SIZE;
+    fprintf(out, "block %" PRIu32, run->verdict.number);
+    if (run->node != 0)
+        fprintf(out, " (node %" PRIu32 ")", run->node);
+    size_t at = 0;
+    while (at < BLOCK_SIZE - 1 && before[at] == now[at])
+        at++;
+    fprintf(out, " has other bytes, first at byte %zu (0x%02x before, 0x%02x now)", at, (unsigned)before[at],
+            (unsigned)now[at]);
+}
+
+/* The first difference, in plain text. */
+static void show_difference(FILE *out, const struct comparison *c, const struct run *run)
+{
+    if (run->verdict.kind == KIND_NODE)
+        show_node_difference(out, c, run->verdict.number);
+    else if (run->verdict.kind == KIND_BLOCK)
+        show_block_difference(out, c, run);
+    else
+        fputs("the main area lies elsewhere", out);
+}
+
+/* The end of a line: same, or what changed. */
+static void words_verdict(const struct comparison *c, const struct run *run)
+{
+    printf("%s", meaning_of(run->verdict.answer));
+    if (is_changed(run)) {
+        printf(": ");
+        show_difference(stdout, c, run);
+    }
+    printf("\n");
+}
+
+/* Where the kept card has no block. */
+static void words_end(const struct comparison *c)
+{
+    show_answer(stdout, c->last_answer, meaning_of(c->last_answer), &c->kept, c->name);
+    printf("; ");
+    words_verdict(c, &c->end);
+}
+
+/* A card that doesn't open, or a bad name. */
+static void words_refusal(const struct comparison *c)
+{
+    const struct card *card = c->side == NEW_SIDE ? &c->new : &c->kept;
+    show(stdout, c->side == NO_SIDE ? c->name : card->path);
+    printf(": ");
+    show_answer(stdout, c->refused, meaning_of(c->refused), card, c->name);
+    printf("\n");
+}
+
+static void words_one(const struct comparison *c)
+{
+    if (is_block(c->last_answer)) {
+        printf(", block %" PRIu32 ": ", c->runs[0].first);
+        words_verdict(c, &c->runs[0]);
+    } else {
+        printf(", block %" PRIu32 ": ", c->end.first);
+        words_end(c);
+    }
+}
+
+static void words_runs(const struct comparison *c)
+{
+    for (const struct run *run = c->runs; run < c->runs + c->run_count; run++) {
+        if (run->first == run->last)
+            printf("block %" PRIu32 ": ", run->first);
+        else
+            printf("blocks %" PRIu32 " to %" PRIu32 ": ", run->first, run->last);
+        words_verdict(c, run);
+    }
+}
+
+/* How many blocks are good, and if that isn't all, which. */
+static void words_whole(const struct comparison *c)
+{
+    uint32_t total = c->same + c->changed;
+    bool to_the_end = c->last_answer == HARPTIMBER_PAST_END;
+    if (total == 0) {
+        printf(to_the_end ? ": an empty file: " : ": ");
+        words_end(c);
+    } else if (to_the_end && c->changed == 0) {
+        printf(total == 1 ? ": the only block is still good\n" : ": all %" PRIu32 " blocks are still good\n", total);
+    } else {
+        printf(": %" PRIu32 " of %" PRIu32 " blocks are still good\n", c->same, total);
+        words_runs(c);
+    }
+    if (total != 0 && !to_the_end) {
+        printf("block %" PRIu32 ": ", c->end.first);
+        words_end(c);
+    }
+}
+
+void compare_words(const struct comparison *c)
+{
+    if (c->refused != 0) {
+        words_refusal(c);
+        return;
+    }
+    show(stdout, c->name);
+    (c->whole ? words_whole : words_one)(c);
+}
+
+static void json_verdict(struct json *json, const struct comparison *c, const struct run *run)
+{
+    json_answer(json, run->verdict.answer, meaning_of(run->verdict.answer));
+    if (!is_changed(run))
+        return;
+    json_number(json, "kind", run->verdict.kind);
+    json_number(json, "number", run->verdict.number);
+    json_open(json, "difference", '"');
+    show_difference(json->out, c, run);
+    json_close(json, '"');
+}
+
+static void json_runs(struct json *json, const struct comparison *c)
+{
+    json_open(json, "runs", '[');
+    for (const struct run *run = c->runs; run < c->runs + c->run_count; run++) {
+        json_open(json, NULL, '{');
+        json_number(json, "first", run->first);
+        json_number(json, "last", run->last);
+        json_verdict(json, c, run);
+        json_close(json, '}');
+    }
+    json_close(json, ']');
+}
+
+void compare_json(const struct comparison *c)
+{
+    uint32_t answer = compare_answer(c);
+    struct json json = json_begin(stdout, "compare", answer, meaning_of(answer));
+    json_string(&json, "kept", c->kept.path);
+    json_string(&json, "new", c->new.path);
+    json_name(&json, c->name);
+    json_number(&json, "same", c->same);
+    json_number(&json, "changed", c->changed);
+    json_runs(&json, c);
+    if (c->refused != 0) {
+        json_number(&json, "side", c->side);
+    } else if (!is_block(c->last_answer)) {
+        json_open(&json, "end", '{');
+        json_number(&json, "index", c->end.first);
+        json_number(&json, "kept", c->last_answer);
+        json_verdict(&json, c, &c->end);
+        json_close(&json, '}');
+    }
+    json_end(&json);
+}

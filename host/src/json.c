@@ -1,0 +1,90 @@
+#include "json.h"
+
+#include <inttypes.h>
+
+#include "text.h"
+
+/* The comma that is due, and the key. */
+static void lead(struct json *json, const char *key)
+{
+    if (json->follows)
+        fputc(',', json->out);
+    if (key != NULL)
+        fprintf(json->out, "\"%s\":", key);
+    json->follows = true;
+}
+
+struct json json_begin(FILE *out, const char *command, uint32_t answer, const char *meaning)
+{
+    struct json json = {.out = out};
+    json_open(&json, NULL, '{');
+    json_string(&json, "command", command);
+    json_answer(&json, answer, meaning);
+    return json;
+}
+
+void json_end(struct json *json)
+{
+    json_close(json, '}');
+    fputc('\n', json->out);
+}
+
+void json_open(struct json *json, const char *key, char bracket)
+{
+    lead(json, key);
+    fputc(bracket, json->out);
+    json->follows = false;
+}
+
+void json_close(struct json *json, char bracket)
+{
+    fputc(bracket, json->out);
+    json->follows = true;
+}
+
+void json_number(struct json *json, const char *key, uint64_t number)
+{
+    lead(json, key);
+    fprintf(json->out, "%" PRIu64, number);
+}
+
+/* Prints a text's first character, in UTF-8 whatever its bytes are, and returns how many it has. */
+static size_t put_character(FILE *out, const char *text)
+{
+    uint32_t character;
+    size_t len = utf8_read(text, &character);
+    if (len == 0) {
+        fputs("\xEF\xBF\xBD", out);
+        return 1;
+    }
+    if (is_control(character))
+        fprintf(out, "\\u%04" PRIx32, character);
+    else if (character == '"' || character == '\\')
+        fprintf(out, "\\%c", *text);
+    else
+        fwrite(text, 1, len, out);
+    return len;
+}
+
+void json_string(struct json *json, const char *key, const char *text)
+{
+    json_open(json, key, '"');
+    while (*text != '\0')
+        text += put_character(json->out, text);
+    json_close(json, '"');
+}
+
+void json_answer(struct json *json, uint32_t answer, const char *meaning)
+{
+    json_number(json, "answer", answer);
+    json_string(json, "meaning", meaning);
+}
+
+void json_name(struct json *json, const char *name)
+{
+    json_string(json, "name", name);
+    json_open(json, "name_hex", '"');
+    for (; *name != '\0'; name++)
+        fprintf(json->out, "%02x", (unsigned)(uint8_t)*name);
+    json_close(json, '"');
+}

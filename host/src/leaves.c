@@ -1,0 +1,139 @@
+/* node, place and hash: the library's small lookups. */
+#include <inttypes.h>
+#include <string.h>
+
+#include "json.h"
+#include "request.h"
+#include "text.h"
+#include "words.h"
+
+static void show_lookup(uint32_t answer, const struct card *card, const char *name)
+{
+    show_answer(stdout, answer, lookup_meaning_of(answer), card, name);
+}
+
+static struct json begin(const char *command, uint32_t answer)
+{
+    return json_begin(stdout, command, answer, lookup_meaning_of(answer));
+}
+
+static enum status status_of(uint32_t answer)
+{
+    return answer == HARPTIMBER_DATA ? DONE : REFUSED;
+}
+
+static void node_words(const struct card *card, uint32_t number, struct harptimber_entry entry)
+{
+    printf("node %" PRIu32 ": ", number);
+    show_lookup(entry.answer, card, NULL);
+    if (entry.answer == HARPTIMBER_DATA) {
+        printf(": ");
+        show_entry(stdout, entry);
+    }
+    printf("\n");
+}
+
+static void node_json(const struct card *card, uint32_t number, struct harptimber_entry entry)
+{
+    struct json json = begin("node", entry.answer);
+    json_string(&json, "image", card->path);
+    json_number(&json, "number", number);
+    json_number(&json, "inode", entry.inode);
+    json_number(&json, "address", entry.address);
+    json_end(&json);
+}
+
+enum status run_node(const struct request *request)
+{
+    struct card card;
+    uint32_t number;
+    if (!read_number(request->words[1], "NUMBER", &number))
+        return MISUSED;
+    if (!card_open(&card, request->words[0]))
+        return REFUSED;
+    struct harptimber_entry entry = harptimber_node_lookup(card.bytes, card.len, number);
+    enum status status = REFUSED;
+    if (card_is_settled(&card)) {
+        (request->json ? node_json : node_words)(&card, number, entry);
+        status = status_of(entry.answer);
+    }
+    card_close(&card);
+    return status;
+}
+
+/* A node on the way to a block's address. */
+struct step {
+    uint32_t place, slot;
+};
+
+enum { MOST_STEPS = 4 };
+
+static void place_words(uint32_t addresses, uint32_t index, uint32_t answer, const struct step *way, uint32_t steps)
+{
+    static const char *const kinds[] = {"direct node", "indirect node", "double indirect node"};
+    printf("A %" PRIu32 ", block %" PRIu32 ": ", addresses, index);
+    show_lookup(answer, NULL, NULL);
+    printf("\n");
+    for (uint32_t i = 0; i < steps; i++)
+        printf("place %" PRIu32 ", slot %" PRIu32 " (%s)\n", way[i].place, way[i].slot,
+               i == 0 ? "inode" : kinds[steps - 1 - i]);
+}
+
+static void place_json(uint32_t addresses, uint32_t index, uint32_t answer, const struct step *way, uint32_t steps)
+{
+    struct json json = begin("place", answer);
+    json_number(&json, "addresses", addresses);
+    json_number(&json, "index", index);
+    json_open(&json, "way", '[');
+    for (uint32_t i = 0; i < steps; i++) {
+        json_open(&json, NULL, '{');
+        json_number(&json, "place", way[i].place);
+        json_number(&json, "slot", way[i].slot);
+        json_close(&json, '}');
+    }
+    json_close(&json, ']');
+    json_end(&json);
+}
+
+enum status run_place(const struct request *request)
+{
+    uint32_t addresses, index;
+    if (!read_number(request->words[0], "A", &addresses) || !read_number(request->words[1], "INDEX", &index))
+        return MISUSED;
+    struct harptimber_place place = harptimber_file_place(addresses, index);
+    const struct step way[MOST_STEPS] = {{place.place0, place.slot0},
+                                         {place.place1, place.slot1},
+                                         {place.place2, place.slot2},
+                                         {place.place3, place.slot3}};
+    (request->json ? place_json : place_words)(addresses, index, place.answer, way, place.steps);
+    return status_of(place.answer);
+}
+
+static void hash_words(const char *name, struct harptimber_hashed hashed)
+{
+    show(stdout, name);
+    printf(": ");
+    show_lookup(hashed.answer, NULL, name);
+    if (hashed.answer == HARPTIMBER_DATA)
+        printf(": hash %08" PRIx32, hashed.hash);
+    printf("\n");
+}
+
+static void hash_json(const char *name, struct harptimber_hashed hashed)
+{
+    char hex[9];
+    snprintf(hex, sizeof hex, "%08" PRIx32, hashed.hash);
+    struct json json = begin("hash", hashed.answer);
+    json_name(&json, name);
+    json_number(&json, "hash", hashed.hash);
+    json_string(&json, "hash_hex", hex);
+    json_end(&json);
+}
+
+enum status run_hash(const struct request *request)
+{
+    const char *name = request->words[0];
+    struct harptimber_hashed hashed = harptimber_name_hash((const uint8_t *)name, strlen(name));
+    (request->json ? hash_json : hash_words)(name, hashed);
+    return status_of(hashed.answer);
+}

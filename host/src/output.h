@@ -1,0 +1,24 @@
+/* Where a file's bytes go: to -o's FILE or to standard output. */
+#ifndef OUTPUT_H
+#define OUTPUT_H
+
+#include <stdbool.h>
+#include <stddef.h>
+#include <stdint.h>
+
+#include "card.h"
+
+struct output {
+    const char *path;
+    int file;
+};
+
+/* Whether -o's word, null without one, means standard output. */
+bool output_is_standard(const char *word);
+
+/* These three say what went wrong, and return false. The card itself isn't opened to be written. */
+bool output_open(struct output *output, const char *word, const struct card *card);
+bool output_write(const struct output *output, const uint8_t *bytes, size_t len);
+bool output_close(const struct output *output);
+
+#endif

@@ -1,0 +1,119 @@
+/* pull: one block of a file. */
+#include <inttypes.h>
+#include <unistd.h>
+
+#include "hex.h"
+#include "json.h"
+#include "output.h"
+#include "request.h"
+#include "text.h"
+#include "words.h"
+
+/* A pull with all that it gave. */
+struct pull {
+    const struct card *card;
+    const char *name;
+    uint32_t index;
+    struct harptimber_pulled pulled;
+    struct lists lists;
+    uint8_t block[BLOCK_SIZE];
+};
+
+static bool was_read(const struct pull *pull)
+{
+    return pull->pulled.answer == HARPTIMBER_DATA || pull->pulled.answer == HARPTIMBER_HOLE;
+}
+
+static bool write_block(const struct pull *pull, const char *word)
+{
+    struct output output;
+    if (!output_open(&output, word, pull->card))
+        return false;
+    bool written = output_write(&output, pull->block, pull->pulled.byte_count);
+    return output_close(&output) && written;
+}
+
+static void show_list(FILE *out, const char *what, const uint8_t *list, uint32_t count)
+{
+    fprintf(out, "%s:", what);
+    for (uint32_t i = 0; i < count; i++)
+        fprintf(out, " %" PRIu32, list_number(list, i));
+    fputc('\n', out);
+}
+
+static void show_words(FILE *out, const struct pull *pull, bool lists)
+{
+    const struct harptimber_pulled *pulled = &pull->pulled;
+    show(out, pull->name);
+    fprintf(out, ", block %" PRIu32 ": ", pull->index);
+    show_answer(out, pulled->answer, meaning_of(pulled->answer), pull->card, pull->name);
+    if (was_read(pull)) {
+        fputs(", ", out);
+        show_count(out, pulled->byte_count, "byte");
+    }
+    fputc('\n', out);
+    if (pulled->node_count == 0) /* refused before the walk */
+        return;
+    fputs("rests on ", out);
+    show_count(out, pulled->node_count, "node");
+    fputs(" and ", out);
+    show_count(out, pulled->block_count, "block");
+    fputc('\n', out);
+    if (lists) {
+        show_list(out, "nodes", pull->lists.nodes, pulled->node_count);
+        show_list(out, "blocks", pull->lists.blocks, pulled->block_count);
+    }
+}
+
+static void json_list(struct json *json, const char *key, const uint8_t *list, uint32_t count)
+{
+    json_open(json, key, '[');
+    for (uint32_t i = 0; i < count; i++)
+        json_number(json, NULL, list_number(list, i));
+    json_close(json, ']');
+}
+
+static void show_json(FILE *out, const struct pull *pull)
+{
+    const struct harptimber_pulled *pulled = &pull->pulled;
+    struct json json = json_begin(out, "pull", pulled->answer, meaning_of(pulled->answer));
+    json_string(&json, "image", pull->card->path);
+    json_name(&json, pull->name);
+    json_number(&json, "index", pull->index);
+    json_number(&json, "byte_count", pulled->byte_count);
+    json_list(&json, "nodes", pull->lists.nodes, pulled->node_count);
+    json_list(&json, "blocks", pull->lists.blocks, pulled->block_count);
+    json_end(&json);
+}
+
+/* The words come last: nothing is said of bytes that couldn't be written. */
+static enum status pull_and_tell(const struct request *request, struct pull *pull)
+{
+    pull->pulled = card_pull(pull->card, pull->name, pull->index, pull->block, &pull->lists);
+    if (!card_is_settled(pull->card))
+        return REFUSED;
+    bool to_file = request->output != NULL;
+    if (to_file && was_read(pull) && !write_block(pull, request->output))
+        return REFUSED;
+    FILE *out = to_file && output_is_standard(request->output) ? stderr : stdout;
+    if (request->json)
+        show_json(out, pull);
+    else
+        show_words(out, pull, request->lists);
+    if (pull->pulled.answer == HARPTIMBER_DATA && !to_file && !request->json && isatty(STDOUT_FILENO))
+        show_hex(out, pull->block, pull->pulled.byte_count);
+    return was_read(pull) ? DONE : REFUSED;
+}
+
+enum status run_pull(const struct request *request)
+{
+    struct card card;
+    struct pull pull = {.card = &card, .name = request->words[1]};
+    if (!read_number(request->words[2], "INDEX", &pull.index))
+        return MISUSED;
+    if (!card_open(&card, request->words[0]))
+        return REFUSED;
+    enum status status = pull_and_tell(request, &pull);
+    card_close(&card);
+    return status;
+}

@@ -1,0 +1,35 @@
+/* What the command line asks for. */
+#ifndef REQUEST_H
+#define REQUEST_H
+
+#include <stdbool.h>
+#include <stdint.h>
+
+/* What the program ends with; the man page promises these. */
+enum status { DONE = 0, CHANGED = 1, REFUSED = 2, MISUSED = 3 };
+
+enum { MOST_WORDS = 4 };
+
+struct request {
+    const char *command;
+    const char *words[MOST_WORDS]; /* behind the command, options left out */
+    int word_count;
+    const char *output; /* -o's FILE, or null */
+    bool lists, json;
+};
+
+/* Each runs a command and says what to end with. */
+enum status run_pull(const struct request *request);
+enum status run_cat(const struct request *request);
+enum status run_compare(const struct request *request);
+enum status run_node(const struct request *request);
+enum status run_place(const struct request *request);
+enum status run_hash(const struct request *request);
+
+/* Reads a word as a number: decimal digits, at most 32 bits. If it isn't one, says so and returns false. */
+bool read_number(const char *word, const char *what, uint32_t *number);
+
+/* Ends a message about usage with a hint. */
+enum status misused(void);
+
+#endif

@@ -1,0 +1,65 @@
+#include "text.h"
+
+#include <inttypes.h>
+#include <stdarg.h>
+
+size_t utf8_read(const char *text, uint32_t *character)
+{
+    /* For each number of bytes: how the first one looks, and the lowest character that needs so many. */
+    static const struct {
+        uint8_t mask, bits;
+        uint32_t lowest;
+    } forms[] = {{0x80, 0x00, 0}, {0xE0, 0xC0, 0x80}, {0xF0, 0xE0, 0x800}, {0xF8, 0xF0, 0x10000}};
+    uint8_t lead = (uint8_t)text[0];
+    size_t len = 1;
+    while (len <= 4 && (lead & forms[len - 1].mask) != forms[len - 1].bits)
+        len++;
+    if (len > 4)
+        return 0;
+    uint32_t value = lead & (uint8_t)~forms[len - 1].mask;
+    for (size_t i = 1; i < len; i++) {
+        uint8_t next = (uint8_t)text[i];
+        if ((next & 0xC0) != 0x80) /* the 0 at the text's end too */
+            return 0;
+        value = value << 6 | (next & 0x3F);
+    }
+    if (value < forms[len - 1].lowest || value > 0x10FFFF || (value >= 0xD800 && value <= 0xDFFF))
+        return 0;
+    *character = value;
+    return len;
+}
+
+bool is_control(uint32_t character)
+{
+    return character < 0x20 || (character >= 0x7F && character <= 0x9F);
+}
+
+int show(FILE *out, const char *text)
+{
+    int printed = *text == '\0' ? fprintf(out, "''") : 0;
+    while (*text != '\0') {
+        uint32_t character;
+        size_t len = utf8_read(text, &character);
+        bool plain = len != 0 && !is_control(character);
+        for (len = len == 0 ? 1 : len; len != 0; len--, text++)
+            printed += plain ? fprintf(out, "%c", *text) : fprintf(out, "\\x%02X", (unsigned)(uint8_t)*text);
+    }
+    return printed;
+}
+
+void show_count(FILE *out, uint64_t count, const char *thing)
+{
+    fprintf(out, "%" PRIu64 " %s%s", count, thing, count == 1 ? "" : "s");
+}
+
+void complain(const char *subject, const char *format, ...)
+{
+    va_list arguments;
+    va_start(arguments, format);
+    fputs("harptimber: ", stderr);
+    show(stderr, subject);
+    fputs(": ", stderr);
+    vfprintf(stderr, format, arguments);
+    fputc('\n', stderr);
+    va_end(arguments);
+}

@@ -1,0 +1,28 @@
+/* Text for people: names and paths that may hold any byte, and messages. */
+#ifndef TEXT_H
+#define TEXT_H
+
+#include <stdbool.h>
+#include <stddef.h>
+#include <stdint.h>
+#include <stdio.h>
+
+/* Reads the first character of a text that isn't empty. Returns how many bytes it has, 0 if they aren't UTF-8. */
+size_t utf8_read(const char *text, uint32_t *character);
+
+/* Whether a terminal would act on a character instead of showing it. */
+bool is_control(uint32_t character);
+
+/*
+ * Prints a name or path: control characters, and bytes that aren't UTF-8, as \xNN; no bytes as ''.
+ * Returns how many bytes were printed.
+ */
+int show(FILE *out, const char *text);
+
+/* Prints a number of things: '1 block', '2 blocks'. */
+void show_count(FILE *out, uint64_t count, const char *thing);
+
+/* Prints 'harptimber: SUBJECT: ' and the message on standard error, as a line. */
+void complain(const char *subject, const char *format, ...) __attribute__((format(printf, 2, 3)));
+
+#endif

@@ -1,0 +1,82 @@
+#include "words.h"
+
+#include <inttypes.h>
+#include <string.h>
+
+#include "text.h"
+
+enum { FEWEST_CARD_BLOCKS = 2, MOST_CARD_BLOCKS = 262144, MOST_NAME_BYTES = 255 };
+
+const char *meaning_of(uint32_t answer)
+{
+    static const char *const meanings[] = {
+        [HARPTIMBER_DATA] = "data",
+        [HARPTIMBER_HOLE] = "hole: zeros",
+        [HARPTIMBER_NO_NAME] = "no such name in the root directory",
+        [HARPTIMBER_PAST_END] = "past the end of the file",
+        [HARPTIMBER_OUT_OF_SHAPE] = "out of shape: the image's length, the name or A",
+        [HARPTIMBER_NO_SUPERBLOCK] = "neither copy of the superblock passes",
+        [HARPTIMBER_FEATURES] = "the card has features or a payload, which aren't read",
+        [HARPTIMBER_NO_CHECKPOINT] = "neither checkpoint pack passes",
+        [HARPTIMBER_UNREADABLE] = "the checkpoint pack in use has its maps or journal out of place",
+        [HARPTIMBER_NO_NODE] = "a node number is out of range, or not in use",
+        [HARPTIMBER_NODE_OUTSIDE] = "a node's address lies outside the main area",
+        [HARPTIMBER_FOREIGN_NODE] = "a node block belongs elsewhere",
+        [HARPTIMBER_KIND_NOT_READ] = "an inode of a kind that isn't read: no regular file, or inline",
+        [HARPTIMBER_DATA_OUTSIDE] = "a data address lies outside the main area",
+        [HARPTIMBER_MALFORMED_SLOT] = "a directory entry doesn't fit its block",
+        [HARPTIMBER_SAME] = "same",
+        [HARPTIMBER_CHANGED] = "changed",
+    };
+    return answer < sizeof meanings / sizeof *meanings ? meanings[answer] : "unknown";
+}
+
+const char *lookup_meaning_of(uint32_t answer)
+{
+    return answer == HARPTIMBER_DATA ? "found" : meaning_of(answer);
+}
+
+bool length_is_in_shape(const struct card *card)
+{
+    size_t blocks = card->len / BLOCK_SIZE;
+    return card->len % BLOCK_SIZE == 0 && blocks >= FEWEST_CARD_BLOCKS && blocks <= MOST_CARD_BLOCKS;
+}
+
+/* Why a call is out of shape. With neither card nor name it is place's, which has nothing else to refuse. */
+static void show_out_of_shape(FILE *out, const struct card *card, const char *name)
+{
+    if (card != NULL && !length_is_in_shape(card))
+        fprintf(out, "the image has %zu bytes; a card has 2 to 262,144 whole blocks of 4,096", card->len);
+    else if (name == NULL)
+        fputs("A has to be 873 or 923", out);
+    else if (*name == '\0')
+        fputs("the name is empty", out);
+    else if (strlen(name) > MOST_NAME_BYTES)
+        fprintf(out, "the name has %zu bytes; at most 255 are possible", strlen(name));
+    else
+        fputs("the name has a slash; only files in the root directory are read", out);
+}
+
+void show_answer(FILE *out, uint32_t answer, const char *meaning, const struct card *card, const char *name)
+{
+    if (answer == HARPTIMBER_OUT_OF_SHAPE) {
+        fprintf(out, "out of shape (answer %" PRIu32 "): ", answer);
+        show_out_of_shape(out, card, name);
+        return;
+    }
+    fprintf(out, "%s (answer %" PRIu32 ")", meaning, answer);
+    if (answer == HARPTIMBER_KIND_NOT_READ)
+        fputs("; files of up to some 3,400 bytes are usually inline", out);
+}
+
+void show_entry(FILE *out, struct harptimber_entry entry)
+{
+    if (entry.answer != HARPTIMBER_DATA)
+        fputs("out of range", out);
+    else if (entry.address != 0)
+        fprintf(out, "inode %" PRIu32 ", block %" PRIu32, entry.inode, entry.address);
+    else if (entry.inode != 0)
+        fprintf(out, "inode %" PRIu32 ", not in use", entry.inode);
+    else
+        fputs("not in use", out);
+}

@@ -1,0 +1,23 @@
+/* Answers in words. */
+#ifndef WORDS_H
+#define WORDS_H
+
+#include <stdint.h>
+#include <stdio.h>
+
+#include "card.h"
+
+/* What an answer number means; and for node, place and hash, where 0 isn't data. */
+const char *meaning_of(uint32_t answer);
+const char *lookup_meaning_of(uint32_t answer);
+
+/* Prints 'MEANING (answer N)' and, where it helps, why. The call was made with a card and a name; either may be null. */
+void show_answer(FILE *out, uint32_t answer, const char *meaning, const struct card *card, const char *name);
+
+/* Prints what the node address table says of a number. */
+void show_entry(FILE *out, struct harptimber_entry entry);
+
+/* Whether an image has as many bytes as a card may have. */
+bool length_is_in_shape(const struct card *card);
+
+#endif
