@@ -134,6 +134,13 @@ impl Image {
         }
     }
 
+    /// The bytes that the patches wrote, each with their place in the image.
+    pub fn written(&self) -> impl Iterator<Item = (usize, &[u8])> {
+        let start = |patch: &Patch| place(patch.block, patch.at, 0).start;
+        let patches = self.patches.iter();
+        patches.map(move |patch| (start(patch), patch.after.as_slice()))
+    }
+
     /// For `undo`: how many patches there are by now.
     pub fn mark(&self) -> usize {
         self.patches.len()

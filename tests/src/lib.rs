@@ -6,6 +6,7 @@ pub mod card;
 pub mod compares;
 pub mod damage;
 pub mod directory;
+pub mod guard_script;
 pub mod image;
 pub mod knobs;
 pub mod layout;

@@ -103,33 +103,11 @@ impl CardFile<'_> {
     /// What a reader gives for a file in the root directory.
     fn read(&self, reader: Reader, name: &[u8]) -> Vec<u8> {
         match reader {
-            Reader::Harptimber => self.pulled(name),
+            Reader::Harptimber => run(&mut self.program("cat", &[name])),
             Reader::GrubCat => run(&mut self.grub("cat", name)),
             Reader::GrubCp => self.grub_cp(name),
             Reader::Dump => self.dump(name),
         }
-    }
-
-    /// Block after block, from the library.
-    fn pulled(&self, name: &[u8]) -> Vec<u8> {
-        let mut all = Vec::new();
-        let (mut block, mut nodes, mut blocks) = ([0; 4096], [0; 716], [0; 952]);
-        for index in 0.. {
-            let p = crate::pull(
-                self.image.bytes(),
-                name,
-                index,
-                &mut block,
-                &mut nodes,
-                &mut blocks,
-            );
-            match p.answer {
-                0 | 1 => all.extend(&block[..p.byte_count as usize]),
-                3 => break,
-                a => panic!("{a}"),
-            }
-        }
-        all
     }
 
     /// A command of the project's own program, with this image and these words.
