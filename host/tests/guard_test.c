@@ -160,7 +160,7 @@ static void expect_pull(struct call *c, const struct lens *lens, uint32_t answer
         seal(&c->nodes);
         seal(&c->blocks);
     }
-    c->pulled = (struct harptimber_pulled){0};
+    c->pulled = (struct harptimber_pulled){.answer = ANY}; /* if it ends in a fault */
     if (!stays_inside("pull", make_pull, c))
         return;
     expect("pull", c, c->pulled.answer, answer);
@@ -359,18 +359,11 @@ static struct patch {
 } patches[MOST_PATCHES];
 static size_t patch_count;
 
-static void put(size_t at, const uint8_t *bytes, size_t len)
-{
-    unseal(&damaged);
-    memcpy(damaged.bytes + at, bytes, len);
-    seal(&damaged);
-}
-
 static void run_put(size_t at, const struct slice *bytes)
 {
     if (patch_count == MOST_PATCHES || at + bytes->len > damaged.len)
         give_up("a patch is out of place, or one too many");
-    put(at, bytes->bytes, bytes->len);
+    put(&damaged, at, bytes->bytes, bytes->len);
     patches[patch_count++] = (struct patch){at, bytes->len};
 }
 
@@ -378,7 +371,7 @@ static void run_undo(void)
 {
     while (patch_count > 0) {
         struct patch *p = &patches[--patch_count];
-        put(p->at, sound.bytes + p->at, p->len);
+        put(&damaged, p->at, sound.bytes + p->at, p->len);
     }
 }
 

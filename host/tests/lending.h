@@ -11,6 +11,7 @@
 #include <stdint.h>
 #include <stdio.h>
 #include <stdlib.h>
+#include <string.h>
 #include <sys/mman.h>
 #include <unistd.h>
 
@@ -60,24 +61,28 @@ static inline void give_back(struct slice *s)
     *s = (struct slice){0};
 }
 
-static inline void protect(const struct slice *s, int protection)
+/* Protects the pages that have some bytes of a slice. On the heap nothing is enforced. */
+static inline void protect(const struct slice *s, size_t at, size_t len, int protection)
 {
-    size_t page = (size_t)sysconf(_SC_PAGESIZE);
-    if (s->mapping == NULL)
-        return;
-    if (mprotect(s->mapping + page, s->mapping_len - 2 * page, protection) != 0)
+    uintptr_t page = (uintptr_t)sysconf(_SC_PAGESIZE);
+    uintptr_t start = (uintptr_t)(s->bytes + at) / page * page;
+    uintptr_t end = (uintptr_t)(s->bytes + at + len);
+    if (s->mapping != NULL && mprotect((void *)start, end - start, protection) != 0)
         give_up("pages can't be protected");
 }
 
-/* Whether it may be written. It isn't enforced on the heap. */
+/* From now on it can only be read. */
 static inline void seal(const struct slice *s)
 {
-    protect(s, PROT_READ);
+    protect(s, 0, s->len, PROT_READ);
 }
 
-static inline void unseal(const struct slice *s)
+/* Writes bytes of a sealed slice. */
+static inline void put(const struct slice *s, size_t at, const uint8_t *bytes, size_t len)
 {
-    protect(s, PROT_READ | PROT_WRITE);
+    protect(s, at, len, PROT_READ | PROT_WRITE);
+    memcpy(s->bytes + at, bytes, len);
+    protect(s, at, len, PROT_READ);
 }
 
 static sigjmp_buf escape;

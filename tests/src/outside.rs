@@ -103,19 +103,28 @@ impl CardFile<'_> {
     /// What a reader gives for a file in the root directory.
     fn read(&self, reader: Reader, name: &[u8]) -> Vec<u8> {
         match reader {
-            Reader::Harptimber => run(&mut self.program("cat", &[name])),
+            Reader::Harptimber => run(&mut self.cat(name)),
             Reader::GrubCat => run(&mut self.grub("cat", name)),
             Reader::GrubCp => self.grub_cp(name),
             Reader::Dump => self.dump(name),
         }
     }
 
-    /// A command of the project's own program, with this image and these words.
-    pub fn program(&self, command: &str, words: &[&[u8]]) -> Command {
-        let mut program = Command::new(built("harptimber"));
-        program.arg(command).arg("--").arg(self.path());
-        program.args(words.iter().map(|word| OsStr::from_bytes(word)));
-        program
+    /// `harptimber pull` of a file's first block: how it ends, and what it prints.
+    pub fn pull_json(&self, name: &[u8]) -> (Option<i32>, String) {
+        let mut pull = Command::new(built("harptimber"));
+        pull.args(["pull", "--json", "--"]).arg(self.path());
+        let output = pull.arg(OsStr::from_bytes(name)).arg("0").output();
+        let output = output.expect("the program runs");
+        let json = String::from_utf8_lossy(&output.stdout);
+        (output.status.code(), json.into_owned())
+    }
+
+    fn cat(&self, name: &[u8]) -> Command {
+        let mut cat = Command::new(built("harptimber"));
+        cat.args(["cat", "--"]).arg(self.path());
+        cat.arg(OsStr::from_bytes(name));
+        cat
     }
 
     fn grub(&self, command: &str, name: &[u8]) -> Command {

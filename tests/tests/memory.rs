@@ -1,6 +1,7 @@
 //! The archive touches nothing outside what it is lent: in a C host with guard pages around every slice,
 //! and under valgrind's memcheck, on sound and on damaged cards.
 
+use std::ffi::OsStr;
 use std::process::Command;
 
 use harptimber_tests::card::{Card, ROOT};
@@ -9,9 +10,10 @@ use harptimber_tests::directory::{in_slot, Dentry};
 use harptimber_tests::guard_script::Script;
 use harptimber_tests::knobs::Knobs;
 use harptimber_tests::layout::dentry::{NAME_LEN, NR_DENTRY_IN_BLOCK};
-use harptimber_tests::layout::inode::ADDRESSES;
+use harptimber_tests::layout::inode::{ADDRESSES, I_MODE};
 use harptimber_tests::layout::BLOCK_SIZE;
-use harptimber_tests::outside::built;
+use harptimber_tests::node_lookup;
+use harptimber_tests::outside::{built, CardFile};
 use harptimber_tests::published::{contents, filled_with, File};
 use harptimber_tests::pulls::{lists, Call};
 use harptimber_tests::random_card::pick;
@@ -259,5 +261,43 @@ fn valgrind_on_plants() {
             .output()
             .expect("valgrind");
         assert_eq!(output.status.code(), Some(9), "{slice} is seen");
+    }
+}
+
+/// Runs the program under memcheck, which has to end with this status.
+fn expect_status(status: i32, words: &[&OsStr]) -> Vec<u8> {
+    let mut command = memcheck();
+    let output = command.arg(built("harptimber")).args(words).output();
+    let output = output.expect("valgrind runs");
+    let said = String::from_utf8_lossy(&output.stderr);
+    assert_eq!(output.status.code(), Some(status), "{words:?}: {said}");
+    output.stdout
+}
+
+/// The program too, on a card by the published tools and on one with a damaged root.
+#[test]
+fn valgrind_on_program() {
+    let random = &mut Random::new(3);
+    let long = (b"long".to_vec(), contents(random, 880 * BLOCK_SIZE));
+    let short = contents(random, 60_000);
+    let kept = filled_with(100, "", &[long, (b"short".to_vec(), short.clone())]);
+    let mut fresh = kept.clone();
+    fresh.set(node_lookup(kept.bytes(), ROOT).address, I_MODE, 0);
+    let [kept, fresh] = [&kept, &fresh].map(CardFile::of);
+    let [kept, fresh] = [kept.path(), fresh.path()];
+    let [kept, fresh] = [kept.as_os_str(), fresh.as_os_str()];
+    let word = OsStr::new;
+    let read = expect_status(0, &[word("cat"), kept, word("short")]);
+    assert!(read == short, "bytes of the file");
+    expect_status(2, &[word("cat"), fresh, word("short")]);
+    for (status, image) in [(0, kept), (2, fresh)] {
+        let options = [word("pull"), word("--lists")];
+        expect_status(
+            status,
+            &[&options[..], &[image, word("long"), word("873")]].concat(),
+        );
+    }
+    for (status, new) in [(0, kept), (1, fresh)] {
+        expect_status(status, &[word("compare"), kept, new, word("short")]);
     }
 }

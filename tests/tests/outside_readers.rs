@@ -117,25 +117,26 @@ fn cards() {
     opinions.finish(&least(&ALL, 4 * 4));
 }
 
+/// What isn't read, by the library and by the program.
+fn expect_not_read(pulls: &mut Pulls, card: &CardFile, image: &Image, name: &[u8]) {
+    pulls.expect(image, name, 0, 12);
+    let (status, json) = card.pull_json(name);
+    assert_eq!(status, Some(2), "{}: {json}", name.escape_ascii());
+    assert!(json.contains("\"answer\":12,"), "{json}");
+}
+
 /// A card that was filled twice. What isn't read stands beside what is: it is refused with 12.
 #[test]
 fn others_beside() {
     let mut random = Random::new(4);
     let mut files = |names: [&str; 6]| {
-        let sizes = [5_000, 3_345, 70_000, 3_344, 0, 5_000];
-        let mut sizes = sizes.into_iter();
+        let mut sizes = [5_000, 3_345, 70_000, 3_344, 0, 5_000].into_iter();
         names.map(|name| file(&mut random, name, sizes.next().expect("a size")))
     };
     let first = files(["a", "b", "c", "inline", "empty", "folder/below"]);
-    let second = files([
-        "d",
-        "e",
-        "f",
-        "inline too",
-        "empty too",
-        "another folder/below",
-    ]);
+    let second = files(["d", "e", "f", "inline 2", "empty 2", "folder 2/below"]);
     let image = filled_in_turn(100, "", &[&first, &second]);
+    let card = CardFile::of(&image);
     let mut opinions = Opinions::new("outside readers, a card filled twice");
     let mut pulls = Pulls::new("what isn't read, beside what outside readers read");
     for files in [first, second] {
@@ -143,7 +144,7 @@ fn others_beside() {
         expect_files(&mut opinions, &ALL, &image, read);
         for (name, _) in not_read {
             let name = name.split(|&byte| byte == b'/').next().expect("a name");
-            pulls.expect(&image, name, 0, 12);
+            expect_not_read(&mut pulls, &card, &image, name);
         }
     }
     opinions.finish(&least(&ALL, 2 * 3));
