@@ -36,6 +36,7 @@ struct call {
     struct harptimber_compared compared;
     struct harptimber_entry entry;
     struct harptimber_hashed hashed;
+    struct harptimber_place place;
 };
 
 static size_t line_number; /* of the script; 0 outside */
@@ -66,6 +67,12 @@ static void make_hash(void *with)
 {
     struct call *c = with;
     c->hashed = harptimber_name_hash(c->name.bytes, c->name.len);
+}
+
+static void make_place(void *with)
+{
+    struct call *c = with;
+    c->place = harptimber_file_place(c->name.len % 2 == 0 ? 873 : 923, c->index);
 }
 
 /* Says where a call went wrong, and which slice was left if one was. */
@@ -253,6 +260,7 @@ static void run_pull(struct slice name, uint32_t index, uint32_t answer, uint32_
 {
     struct call c = {.image = damaged, .name = name, .index = index};
     stays_inside("name hash", make_hash, &c);
+    stays_inside("file place", make_place, &c);
     expect_pull(&c, &least, answer);
     expect_compare(&c, sound, &nothing, as_kept);
     expect_odd_compare(&c, sound, as_kept);

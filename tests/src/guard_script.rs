@@ -41,7 +41,8 @@ impl Script {
     }
 
     /// A pull from the card with the damage that this image has, and compares with the sound one.
-    pub fn pull(&mut self, sound: &Image, image: &Image, name: &[u8], index: u32) {
+    /// Returns the pull's answer.
+    pub fn pull(&mut self, sound: &Image, image: &Image, name: &[u8], index: u32) -> u32 {
         for (at, bytes) in image.written() {
             self.line(format!("put {at} {}", hex(bytes)));
         }
@@ -54,6 +55,7 @@ impl Script {
         self.line(format!("pull {name} {index} {answer} {as_kept} {as_fresh}"));
         self.line("undo".to_string());
         self.answers.note(answer);
+        answer
     }
 
     /// A pull from the first bytes of the card.
@@ -96,7 +98,7 @@ impl Script {
         let output = run(self.given_to(command));
         let output = String::from_utf8_lossy(&output);
         let last = output.lines().last().unwrap_or_default();
-        println!("{last}");
+        println!("guard_test: {last}");
         let passed = last.strip_suffix(" passed, 0 failed");
         let passed: Option<u64> = passed.and_then(|passed| passed.parse().ok());
         assert!(passed >= Some(at_least), "fewer than {at_least}: {output}");
