@@ -49,41 +49,41 @@ static char *message_if_lost(const char *path)
     FILE *out = open_memstream(&message, &len);
     if (out == NULL)
         return NULL;
-    fputs("harptimber: ", out);
-    show(out, path);
-    fputs(": can't be read any more: it was cut short, or its medium fails\n", out);
+    show_subject(out, path);
+    fputs("can't be read any more: it was cut short, or its medium fails\n", out);
     return fclose(out) == 0 ? message : NULL;
 }
 
-/* How many bytes to map; 0, and why in `why`, if the file can't be a card. */
-static size_t size_to_map(int file, const struct stat *info, const char **why)
+/* Finds out how many bytes to map, or returns why there can't be a card. */
+static const char *measure(struct card *card)
 {
-    off_t size = 0;
-    if (S_ISREG(info->st_mode))
-        size = info->st_size;
-    else if (S_ISBLK(info->st_mode))
-        size = lseek(file, 0, SEEK_END);
-    else
-        *why = S_ISDIR(info->st_mode) ? "is a directory" : "is neither a file nor a block device";
+    off_t size = card->info.st_size;
+    if (S_ISDIR(card->info.st_mode))
+        return "is a directory";
+    if (S_ISBLK(card->info.st_mode))
+        size = lseek(card->file, 0, SEEK_END);
+    else if (!S_ISREG(card->info.st_mode))
+        return "is neither a file nor a block device";
     if (size < 0)
-        *why = strerror(errno);
-    else if (size == 0 && *why == NULL)
-        *why = "is empty";
-    else if ((uintmax_t)size > SIZE_MAX)
-        *why = "is too big to map";
-    return *why == NULL ? (size_t)size : 0;
+        return strerror(errno);
+    if (size == 0)
+        return "is empty";
+    if ((uintmax_t)size > SIZE_MAX)
+        return "is too big to map";
+    card->len = (size_t)size;
+    return NULL;
 }
 
 /*
- * Maps what was opened, or returns why not. A private mapping is enough, since nothing is written. Neither kind
- * would hold the bytes still while another program writes the file: card_is_settled asks for that.
+ * Maps what was opened, or returns why not. Neither kind of mapping would hold the bytes still while
+ * another program writes the file; card_is_settled looks for that. A private one is enough to read, and
+ * there are file systems that give no other.
  */
 static const char *map(struct card *card)
 {
-    const char *why = NULL;
     if (fstat(card->file, &card->info) != 0)
         return strerror(errno);
-    card->len = size_to_map(card->file, &card->info, &why);
+    const char *why = measure(card);
     if (why != NULL)
         return why;
     void *bytes = mmap(NULL, card->len, PROT_READ, MAP_PRIVATE, card->file, 0);
@@ -106,7 +106,7 @@ bool card_open(struct card *card, const char *path)
         card_close(card);
         return false;
     }
-    mapped[mapped[0] != NULL] = card;
+    mapped[mapped[0] == NULL ? 0 : 1] = card;
     watch_bus_errors();
     return true;
 }
@@ -147,6 +147,11 @@ struct harptimber_pulled card_pull(const struct card *card, const char *name, ui
     return harptimber_pull(card->bytes, card->len, (const uint8_t *)name, strlen(name), index, block,
                            BLOCK_SIZE, lists->nodes, sizeof lists->nodes, lists->blocks,
                            sizeof lists->blocks);
+}
+
+bool is_block(uint32_t answer)
+{
+    return answer == HARPTIMBER_DATA || answer == HARPTIMBER_HOLE;
 }
 
 uint32_t list_number(const uint8_t *list, uint32_t i)

@@ -44,6 +44,9 @@ bool card_is(const struct card *card, const struct stat *info);
 struct harptimber_pulled card_pull(const struct card *card, const char *name, uint32_t index,
                                    uint8_t *block, struct lists *lists);
 
+/* Whether a pull's answer is a block: data or a hole. */
+bool is_block(uint32_t answer);
+
 /* Number `i` of a list. */
 uint32_t list_number(const uint8_t *list, uint32_t i);
 

@@ -1,6 +1,5 @@
 /* cat: a whole file. */
 #include <inttypes.h>
-#include <stdlib.h>
 #include <unistd.h>
 
 #include "json.h"
@@ -10,7 +9,7 @@
 #include "text.h"
 #include "words.h"
 
-/* Bytes are written in pieces of this many blocks. */
+/* How many bytes are written at once: 64 blocks. */
 enum { PIECE = 64 * BLOCK_SIZE };
 
 /* Progress is shown for files with more blocks than these. */
@@ -26,20 +25,20 @@ struct cat {
     uint64_t bytes;         /* written and waiting ones */
     uint32_t blocks, holes; /* and in how many blocks */
     uint32_t answer;        /* of the last pull */
-    struct lists lists;
     size_t waiting;
     uint8_t piece[PIECE];
 };
 
-/* Whether the file has a block `index`, sound or not: past the end is judged by the index and the size alone. */
-static bool has_block(struct cat *cat, uint32_t index)
+/* Whether the file has a block `index`, sound or not: past the end only depends on the index and the size. */
+static bool has_block(const struct cat *cat, uint32_t index)
 {
     uint8_t block[BLOCK_SIZE];
-    return card_pull(&cat->card, cat->name, index, block, &cat->lists).answer != HARPTIMBER_PAST_END;
+    struct lists lists;
+    return card_pull(&cat->card, cat->name, index, block, &lists).answer != HARPTIMBER_PAST_END;
 }
 
 /* How many blocks a file of more than FEW_BLOCKS has; 0 for others. By bisection, since no call says it. */
-static uint32_t count_blocks(struct cat *cat)
+static uint32_t count_blocks(const struct cat *cat)
 {
     uint32_t there = FEW_BLOCKS, past = UINT32_MAX;
     if (!has_block(cat, there) || has_block(cat, past))
@@ -79,10 +78,11 @@ static bool write_piece(struct cat *cat)
 static bool copy(struct cat *cat)
 {
     for (;;) {
+        struct lists lists;
         struct harptimber_pulled pulled =
-            card_pull(&cat->card, cat->name, cat->blocks, cat->piece + cat->waiting, &cat->lists);
+            card_pull(&cat->card, cat->name, cat->blocks, cat->piece + cat->waiting, &lists);
         cat->answer = pulled.answer;
-        if (pulled.answer != HARPTIMBER_DATA && pulled.answer != HARPTIMBER_HOLE)
+        if (!is_block(pulled.answer))
             break;
         cat->blocks++;
         cat->holes += pulled.answer == HARPTIMBER_HOLE;
@@ -103,9 +103,7 @@ static void show_words(const struct cat *cat)
 {
     if (cat->answer == HARPTIMBER_PAST_END)
         return;
-    fputs("harptimber: ", stderr);
-    show(stderr, cat->card.path);
-    fputs(": ", stderr);
+    show_subject(stderr, cat->card.path);
     show(stderr, cat->name);
     fprintf(stderr, ", block %" PRIu32 ": ", cat->blocks);
     show_answer(stderr, cat->answer, meaning_of(cat->answer), &cat->card, cat->name);
@@ -147,7 +145,7 @@ enum status run_cat(const struct request *request)
         complain("cat", "--json needs -o FILE");
         return misused();
     }
-    static struct cat cat; /* too large for a stack */
+    static struct cat cat; /* large, so not on the stack */
     cat.request = request;
     cat.name = request->words[1];
     if (!card_open(&cat.card, request->words[0]))

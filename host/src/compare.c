@@ -7,22 +7,25 @@
 #include "text.h"
 #include "words.h"
 
-bool is_block(uint32_t answer)
-{
-    return answer == HARPTIMBER_DATA || answer == HARPTIMBER_HOLE;
-}
-
 bool is_changed(const struct run *run)
 {
     return run->verdict.answer == HARPTIMBER_CHANGED;
 }
 
-/* What the library says of one block: the pull on the kept card, and whether that still holds on the new one. */
+/* What the library says of a block: a pull on the kept card, and whether that still holds on the new one. */
 struct finding {
     struct harptimber_pulled pulled;
     struct lists lists;
     struct harptimber_compared verdict;
 };
+
+static bool refuse(struct comparison *c, uint32_t answer, uint32_t side)
+{
+    c->refused = true;
+    c->refusal = answer;
+    c->side = side;
+    return false;
+}
 
 /* Returns false, with the reason in the comparison, if a card doesn't open. */
 static bool find(struct comparison *c, uint32_t index, struct finding *found)
@@ -33,9 +36,7 @@ static bool find(struct comparison *c, uint32_t index, struct finding *found)
     uint32_t answer = found->pulled.answer;
     if (answer >= HARPTIMBER_OUT_OF_SHAPE && answer <= HARPTIMBER_UNREADABLE) {
         bool bad_name = answer == HARPTIMBER_OUT_OF_SHAPE && length_is_in_shape(&c->kept);
-        c->refused = answer;
-        c->side = bad_name ? NO_SIDE : KEPT_SIDE;
-        return false;
+        return refuse(c, answer, bad_name ? NO_SIDE : KEPT_SIDE);
     }
     found->verdict = harptimber_compare(c->kept.bytes, c->kept.len, c->new.bytes, c->new.len, lists->nodes,
                                         sizeof lists->nodes, found->pulled.node_count, lists->blocks,
@@ -43,9 +44,7 @@ static bool find(struct comparison *c, uint32_t index, struct finding *found)
     answer = found->verdict.answer;
     if (answer == HARPTIMBER_SAME || answer == HARPTIMBER_CHANGED)
         return true;
-    c->refused = answer;
-    c->side = NEW_SIDE; /* the kept card has just been read */
-    return false;
+    return refuse(c, answer, NEW_SIDE); /* the kept card has just been read */
 }
 
 /* Which of the listed nodes the kept card has in the block that differs. */
@@ -95,8 +94,8 @@ static bool compare_block(struct comparison *c, uint32_t index)
 uint32_t compare_answer(const struct comparison *c)
 {
     bool behind_last = c->whole && c->last_answer == HARPTIMBER_PAST_END;
-    if (c->refused != 0)
-        return c->refused;
+    if (c->refused)
+        return c->refusal;
     if (c->changed != 0 || is_changed(&c->end))
         return HARPTIMBER_CHANGED;
     return is_block(c->last_answer) || behind_last ? HARPTIMBER_SAME : c->last_answer;
@@ -115,7 +114,7 @@ static enum status compare_and_tell(const struct request *request, struct compar
     return answer == HARPTIMBER_CHANGED ? CHANGED : REFUSED;
 }
 
-/* Both paths may be the same: each is mapped by itself, so that the slices lent to the library don't overlap. */
+/* Both paths may be the same: each is mapped by itself, so that slices lent to the library don't overlap. */
 enum status run_compare(const struct request *request)
 {
     struct comparison c = {.name = request->words[2], .whole = request->word_count == 3};

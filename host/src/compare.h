@@ -15,7 +15,8 @@ struct comparison {
     const char *name;
     bool whole; /* every block was asked for */
     struct card kept, new;
-    uint32_t refused, side; /* 4 to 8 where a card doesn't open, and which; else 0 */
+    bool refused;           /* a card doesn't open, or the name is bad: */
+    uint32_t refusal, side; /* the answer, 4 to 8, and whose it is */
     struct run *runs;
     size_t run_count, run_room;
     uint32_t same, changed; /* how many blocks */
@@ -27,7 +28,6 @@ struct comparison {
 enum { KIND_BOUNDS = 1, KIND_NODE = 2, KIND_BLOCK = 3 };
 enum { NO_SIDE = 0, KEPT_SIDE = 1, NEW_SIDE = 2 };
 
-bool is_block(uint32_t answer);
 bool is_changed(const struct run *run);
 
 /* The answer to the whole question. */

@@ -66,24 +66,24 @@ static void words_refusal(const struct comparison *c)
     const struct card *card = c->side == NEW_SIDE ? &c->new : &c->kept;
     show(stdout, c->side == NO_SIDE ? c->name : card->path);
     printf(": ");
-    show_answer(stdout, c->refused, meaning_of(c->refused), card, c->name);
+    show_answer(stdout, c->refusal, meaning_of(c->refusal), card, c->name);
     printf("\n");
 }
 
 static void words_one(const struct comparison *c)
 {
-    if (is_block(c->last_answer)) {
-        printf(", block %" PRIu32 ": ", c->runs[0].first);
+    bool there = is_block(c->last_answer);
+    printf(", block %" PRIu32 ": ", there ? c->runs[0].first : c->end.first);
+    if (there)
         words_verdict(c, &c->runs[0]);
-    } else {
-        printf(", block %" PRIu32 ": ", c->end.first);
+    else
         words_end(c);
-    }
 }
 
 static void words_runs(const struct comparison *c)
 {
-    for (const struct run *run = c->runs; run < c->runs + c->run_count; run++) {
+    for (size_t i = 0; i < c->run_count; i++) {
+        const struct run *run = &c->runs[i];
         if (run->first == run->last)
             printf("block %" PRIu32 ": ", run->first);
         else
@@ -97,11 +97,17 @@ static void words_whole(const struct comparison *c)
 {
     uint32_t total = c->same + c->changed;
     bool to_the_end = c->last_answer == HARPTIMBER_PAST_END;
-    if (total == 0) {
-        printf(to_the_end ? ": an empty file: " : ": ");
+    bool all_good = compare_answer(c) == HARPTIMBER_SAME;
+    if (total == 0 && to_the_end) {
+        printf(": an empty file; ");
+        words_verdict(c, &c->end);
+    } else if (total == 0) {
+        printf(": ");
         words_end(c);
-    } else if (to_the_end && c->changed == 0) {
-        printf(total == 1 ? ": the only block is still good\n" : ": all %" PRIu32 " blocks are still good\n", total);
+    } else if (all_good && total == 1) {
+        printf(": the only block is still good\n");
+    } else if (all_good) {
+        printf(": all %" PRIu32 " blocks are still good\n", total);
     } else {
         printf(": %" PRIu32 " of %" PRIu32 " blocks are still good\n", c->same, total);
         words_runs(c);
@@ -114,7 +120,7 @@ static void words_whole(const struct comparison *c)
 
 void compare_words(const struct comparison *c)
 {
-    if (c->refused != 0) {
+    if (c->refused) {
         words_refusal(c);
         return;
     }
@@ -137,11 +143,11 @@ static void json_verdict(struct json *json, const struct comparison *c, const st
 static void json_runs(struct json *json, const struct comparison *c)
 {
     json_open(json, "runs", '[');
-    for (const struct run *run = c->runs; run < c->runs + c->run_count; run++) {
+    for (size_t i = 0; i < c->run_count; i++) {
         json_open(json, NULL, '{');
-        json_number(json, "first", run->first);
-        json_number(json, "last", run->last);
-        json_verdict(json, c, run);
+        json_number(json, "first", c->runs[i].first);
+        json_number(json, "last", c->runs[i].last);
+        json_verdict(json, c, &c->runs[i]);
         json_close(json, '}');
     }
     json_close(json, ']');
@@ -157,7 +163,7 @@ void compare_json(const struct comparison *c)
     json_number(&json, "same", c->same);
     json_number(&json, "changed", c->changed);
     json_runs(&json, c);
-    if (c->refused != 0) {
+    if (c->refused) {
         json_number(&json, "side", c->side);
     } else if (!is_block(c->last_answer)) {
         json_open(&json, "end", '{');

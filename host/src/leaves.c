@@ -66,29 +66,39 @@ struct step {
     uint32_t place, slot;
 };
 
-enum { MOST_STEPS = 4 };
+static struct step step_of(const struct harptimber_place *place, uint32_t i)
+{
+    const struct step way[] = {{place->place0, place->slot0},
+                               {place->place1, place->slot1},
+                               {place->place2, place->slot2},
+                               {place->place3, place->slot3}};
+    return way[i];
+}
 
-static void place_words(uint32_t addresses, uint32_t index, uint32_t answer, const struct step *way, uint32_t steps)
+static void place_words(uint32_t addresses, uint32_t index, const struct harptimber_place *place)
 {
     static const char *const kinds[] = {"direct node", "indirect node", "double indirect node"};
     printf("A %" PRIu32 ", block %" PRIu32 ": ", addresses, index);
-    show_lookup(answer, NULL, NULL);
+    show_lookup(place->answer, NULL, NULL);
     printf("\n");
-    for (uint32_t i = 0; i < steps; i++)
-        printf("place %" PRIu32 ", slot %" PRIu32 " (%s)\n", way[i].place, way[i].slot,
-               i == 0 ? "inode" : kinds[steps - 1 - i]);
+    for (uint32_t i = 0; i < place->steps; i++) {
+        struct step step = step_of(place, i);
+        const char *kind = i == 0 ? "inode" : kinds[place->steps - 1 - i];
+        printf("place %" PRIu32 ", slot %" PRIu32 " (%s)\n", step.place, step.slot, kind);
+    }
 }
 
-static void place_json(uint32_t addresses, uint32_t index, uint32_t answer, const struct step *way, uint32_t steps)
+static void place_json(uint32_t addresses, uint32_t index, const struct harptimber_place *place)
 {
-    struct json json = begin("place", answer);
+    struct json json = begin("place", place->answer);
     json_number(&json, "addresses", addresses);
     json_number(&json, "index", index);
     json_open(&json, "way", '[');
-    for (uint32_t i = 0; i < steps; i++) {
+    for (uint32_t i = 0; i < place->steps; i++) {
+        struct step step = step_of(place, i);
         json_open(&json, NULL, '{');
-        json_number(&json, "place", way[i].place);
-        json_number(&json, "slot", way[i].slot);
+        json_number(&json, "place", step.place);
+        json_number(&json, "slot", step.slot);
         json_close(&json, '}');
     }
     json_close(&json, ']');
@@ -101,11 +111,7 @@ enum status run_place(const struct request *request)
     if (!read_number(request->words[0], "A", &addresses) || !read_number(request->words[1], "INDEX", &index))
         return MISUSED;
     struct harptimber_place place = harptimber_file_place(addresses, index);
-    const struct step way[MOST_STEPS] = {{place.place0, place.slot0},
-                                         {place.place1, place.slot1},
-                                         {place.place2, place.slot2},
-                                         {place.place3, place.slot3}};
-    (request->json ? place_json : place_words)(addresses, index, place.answer, way, place.steps);
+    (request->json ? place_json : place_words)(addresses, index, &place);
     return status_of(place.answer);
 }
 

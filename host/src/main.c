@@ -1,4 +1,4 @@
-/* harptimber: what the proved library says of F2FS card images. Options, commands, and how the program ends. */
+/* harptimber: what the proved library says of F2FS card images. Options, commands, and how it all ends. */
 #include <errno.h>
 #include <fcntl.h>
 #include <getopt.h>
@@ -17,13 +17,13 @@ static const char help[] =
     "       harptimber node [--json] IMAGE NUMBER\n"
     "       harptimber place [--json] A INDEX\n"
     "       harptimber hash [--json] NAME\n"
-    "Reads blocks of an F2FS card image, and says whether another image still gives the same.\n"
+    "Read blocks of an F2FS card image, and say whether another still gives the same.\n"
     "\n"
     "  pull     one block of a file in the root directory\n"
     "  cat      a whole file, to standard output\n"
     "  compare  whether a block, or all blocks, read from KEPT are still good on NEW\n"
     "  node     a node's entry in the node address table\n"
-    "  place    the way from an inode with A addresses (873 or 923) to a block's address\n"
+    "  place    the way from an inode with A addresses to the address of a block\n"
     "  hash     the hash of a name in directory entries\n"
     "\n"
     "  -o, --output=FILE  write the bytes to FILE; - is standard output\n"
@@ -32,7 +32,7 @@ static const char help[] =
     "  -h, --help         print this summary\n"
     "      --version      print the version\n"
     "\n"
-    "Ends with 0 if all is read or still good, 1 if changed, 2 if refused, 3 for usage.\n";
+    "Exit status: 0 read or still good, 1 changed, 2 refused, 3 usage.\n";
 
 static const struct command {
     const char *name;
@@ -100,7 +100,7 @@ static enum status misused_option(int got, const char *argument)
     return misused();
 }
 
-/* Reads the command line and runs it. With '-' first, options are found among the words wherever they stand. */
+/* Reads the command line and runs it. The '-' makes getopt_long find options wherever they stand. */
 static enum status run_arguments(int argc, char **argv)
 {
     static const struct option options[] = {
@@ -162,8 +162,8 @@ int main(int argc, char **argv)
     /* Words that couldn't be written are no answer. */
     bool failed = ferror(stdout) != 0;
     if (fclose(stdout) != 0 || failed) {
-        complain("standard output", "%s", strerror(errno));
-        status = REFUSED;
+        complain("standard output", "%s", failed ? "can't be written" : strerror(errno));
+        return REFUSED;
     }
     return (int)status;
 }

@@ -11,7 +11,7 @@ enum { BLOCKS_A_MIB = 256, MOST_SHOWN = 100 };
 /* A longer name is left out, so that the line fits. */
 enum { MOST_NAME_BYTES = 40 };
 
-/* The cursor goes back to the line's start each time, so that a message that comes meanwhile covers the line. */
+/* The cursor goes back to the line's start each time, so that a message that comes meanwhile covers it. */
 void progress_show(struct progress *progress, uint32_t blocks)
 {
     if (progress->total == 0 || blocks < progress->next)
@@ -24,7 +24,8 @@ void progress_show(struct progress *progress, uint32_t blocks)
     }
     progress->width += fprintf(stderr, "%" PRIu32 " of %" PRIu32 " MiB", blocks / BLOCKS_A_MIB, total);
     fputc('\r', stderr);
-    progress->next = blocks + progress->total / MOST_SHOWN + 1;
+    uint32_t step = progress->total / MOST_SHOWN + 1;
+    progress->next = blocks + (step < BLOCKS_A_MIB ? BLOCKS_A_MIB : step);
 }
 
 void progress_end(struct progress *progress)

@@ -19,11 +19,6 @@ struct pull {
     uint8_t block[BLOCK_SIZE];
 };
 
-static bool was_read(const struct pull *pull)
-{
-    return pull->pulled.answer == HARPTIMBER_DATA || pull->pulled.answer == HARPTIMBER_HOLE;
-}
-
 static bool write_block(const struct pull *pull, const char *word)
 {
     struct output output;
@@ -47,7 +42,7 @@ static void show_words(FILE *out, const struct pull *pull, bool lists)
     show(out, pull->name);
     fprintf(out, ", block %" PRIu32 ": ", pull->index);
     show_answer(out, pulled->answer, meaning_of(pulled->answer), pull->card, pull->name);
-    if (was_read(pull)) {
+    if (is_block(pulled->answer)) {
         fputs(", ", out);
         show_count(out, pulled->byte_count, "byte");
     }
@@ -93,7 +88,8 @@ static enum status pull_and_tell(const struct request *request, struct pull *pul
     if (!card_is_settled(pull->card))
         return REFUSED;
     bool to_file = request->output != NULL;
-    if (to_file && was_read(pull) && !write_block(pull, request->output))
+    bool was_read = is_block(pull->pulled.answer);
+    if (to_file && was_read && !write_block(pull, request->output))
         return REFUSED;
     FILE *out = to_file && output_is_standard(request->output) ? stderr : stdout;
     if (request->json)
@@ -102,7 +98,7 @@ static enum status pull_and_tell(const struct request *request, struct pull *pul
         show_words(out, pull, request->lists);
     if (pull->pulled.answer == HARPTIMBER_DATA && !to_file && !request->json && isatty(STDOUT_FILENO))
         show_hex(out, pull->block, pull->pulled.byte_count);
-    return was_read(pull) ? DONE : REFUSED;
+    return was_read ? DONE : REFUSED;
 }
 
 enum status run_pull(const struct request *request)

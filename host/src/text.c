@@ -52,13 +52,18 @@ void show_count(FILE *out, uint64_t count, const char *thing)
     fprintf(out, "%" PRIu64 " %s%s", count, thing, count == 1 ? "" : "s");
 }
 
+void show_subject(FILE *out, const char *subject)
+{
+    fputs("harptimber: ", out);
+    show(out, subject);
+    fputs(": ", out);
+}
+
 void complain(const char *subject, const char *format, ...)
 {
     va_list arguments;
     va_start(arguments, format);
-    fputs("harptimber: ", stderr);
-    show(stderr, subject);
-    fputs(": ", stderr);
+    show_subject(stderr, subject);
     vfprintf(stderr, format, arguments);
     fputc('\n', stderr);
     va_end(arguments);

@@ -7,7 +7,7 @@
 #include <stdint.h>
 #include <stdio.h>
 
-/* Reads the first character of a text that isn't empty. Returns how many bytes it has, 0 if they aren't UTF-8. */
+/* Reads a text's first character. Returns how many bytes it has, 0 if they aren't UTF-8. */
 size_t utf8_read(const char *text, uint32_t *character);
 
 /* Whether a terminal would act on a character instead of showing it. */
@@ -22,7 +22,10 @@ int show(FILE *out, const char *text);
 /* Prints a number of things: '1 block', '2 blocks'. */
 void show_count(FILE *out, uint64_t count, const char *thing);
 
-/* Prints 'harptimber: SUBJECT: ' and the message on standard error, as a line. */
+/* Prints 'harptimber: SUBJECT: ', with which each message begins. */
+void show_subject(FILE *out, const char *subject);
+
+/* Prints a message of one line on standard error. */
 void complain(const char *subject, const char *format, ...) __attribute__((format(printf, 2, 3)));
 
 #endif

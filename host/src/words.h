@@ -11,7 +11,10 @@
 const char *meaning_of(uint32_t answer);
 const char *lookup_meaning_of(uint32_t answer);
 
-/* Prints 'MEANING (answer N)' and, where it helps, why. The call was made with a card and a name; either may be null. */
+/*
+ * Prints 'MEANING (answer N)' and, where it helps, why. The call was made with this card and this name,
+ * which are null if it takes none.
+ */
 void show_answer(FILE *out, uint32_t answer, const char *meaning, const struct card *card, const char *name);
 
 /* Prints what the node address table says of a number. */
