@@ -1,5 +1,5 @@
 /*
- * Makes the library's calls with every lent slice right before, and then right behind, a page that
+ * Makes the library's calls with every lent slice right behind, and then right before, a page that
  * can't be touched, and what is only read on pages that can't be written (lending.h). An access outside
  * is a fault, and counts as failed. A script says on which cards, sound and damaged:
  *
@@ -12,6 +12,7 @@
  *     cut LEN NAME INDEX ANSWER              a pull from the first bytes of the image
  *     plant SLICE NAME INDEX                 a pull of data with that slice shorter than the call is told,
  *                                            which has to end in a fault
+ *     unset                                  a compare with lists that were never written, for valgrind
  *
  * Bytes and names are in hexadecimal behind an x. `guard_test heap SCRIPT` has each slice on the heap
  * instead, for valgrind. Without a script, images are empty or too short.
@@ -28,7 +29,7 @@
 #define LEAST_BLOCKS ((size_t)238 * 4)
 #define COUNT_OF(array) (sizeof(array) / sizeof *(array))
 
-/* What a call is lent and told, and what it returned. A lookup and a hash take some of it. */
+/* What a call is lent and told, and what it returned. Each call takes some of it. */
 struct call {
     struct slice image, fresh, name, block, nodes, blocks;
     uint32_t index, node_count, block_count;
