@@ -242,7 +242,8 @@ impl Card {
     }
 }
 
-fn slot_field(step: &Step, last: bool) -> Field {
+/// The slot that a step takes in its node, which is the way's last or leads on to another.
+pub fn slot_field(step: &Step, last: bool) -> Field {
     let first = match (step.place, last) {
         (0, true) => slots::I_ADDR,
         (0, false) => slots::I_NID,

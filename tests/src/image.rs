@@ -2,7 +2,10 @@
 //! a patch, so the patches are undone afterwards; they also tell what was done to it.
 
 use std::fmt::{Debug, Formatter, Result};
+use std::fs::File;
 use std::ops::Range;
+use std::os::unix::fs::FileExt;
+use std::path::Path;
 
 use crate::knobs::{Areas, Knobs, Pack, MOST_BLOCKS};
 use crate::layout::nat::{NatEntry, ENTRIES_PER_BLOCK, MAP_BYTES_PER_SEGMENT};
@@ -116,6 +119,26 @@ impl Image {
             after: bytes.to_vec(),
         });
         self.bytes[place].copy_from_slice(bytes);
+    }
+
+    /// Writes it to a file, in which blocks of zeros take no room.
+    pub fn save(&self, path: &Path) {
+        let file = File::create(path).expect("an image file");
+        let len = self.bytes.len() as u64;
+        file.set_len(len).expect("room for an image");
+        for (block, bytes) in self.bytes.chunks(BLOCK_SIZE).enumerate() {
+            if bytes.iter().any(|&byte| byte != 0) {
+                let at = (block * BLOCK_SIZE) as u64;
+                file.write_all_at(bytes, at).expect("an image's bytes");
+            }
+        }
+    }
+
+    /// The bytes that the patches wrote, each with their place in the image.
+    pub fn written(&self) -> impl Iterator<Item = (usize, &[u8])> {
+        let start = |patch: &Patch| place(patch.block, patch.at, 0).start;
+        let patches = self.patches.iter();
+        patches.map(move |patch| (start(patch), patch.after.as_slice()))
     }
 
     /// For `undo`: how many patches there are by now.

@@ -202,6 +202,14 @@ pub mod inode {
         I_DIR_LEVEL: 1 at 347,
     }
 
+    /// The file's name as the tools note it here too: its length, and the place of its bytes.
+    pub const I_NAMELEN: super::Field = super::Field {
+        name: "I_NAMELEN",
+        at: 88,
+        size: 4,
+    };
+    pub const I_NAME: usize = 92;
+
     pub const S_IFREG: u64 = 0x8000;
     pub const S_IFDIR: u64 = 0x4000;
 

@@ -10,17 +10,28 @@ use std::sync::atomic::{AtomicU32, Ordering};
 use std::time::{Duration, UNIX_EPOCH};
 
 use crate::image::Image;
+use crate::trial::Random;
 
 const MEGABYTE: usize = 1 << 20;
 
+/// Files up to this size stand in their inode, which is a kind that isn't read.
+pub const LONGEST_INLINE: usize = 3344;
+
 /// A file's name and bytes.
 pub type File = (Vec<u8>, Vec<u8>);
+
+/// A file's bytes, at each place others.
+pub fn contents(random: &mut Random, size: usize) -> Vec<u8> {
+    let seed = random.number();
+    let eight = (0..size.div_ceil(8) as u64).flat_map(|n| (seed ^ (n * n)).to_le_bytes());
+    eight.take(size).collect()
+}
 
 /// A folder of a test's own, with an image file and what was put into it. It goes with the test.
 pub struct Scratch(PathBuf);
 
 impl Scratch {
-    fn new() -> Scratch {
+    pub fn new() -> Scratch {
         static MADE: AtomicU32 = AtomicU32::new(0);
         let made = MADE.fetch_add(1, Ordering::Relaxed);
         let folder = Path::new(env!("CARGO_MANIFEST_DIR")).join("target/tmp");
@@ -29,15 +40,19 @@ impl Scratch {
         Scratch(folder)
     }
 
+    pub fn path(&self, name: &str) -> PathBuf {
+        self.0.join(name)
+    }
+
     pub fn image_path(&self) -> PathBuf {
-        self.0.join("image")
+        self.path("image")
     }
 
     fn files(&self) -> PathBuf {
-        self.0.join("files")
+        self.path("files")
     }
 
-    /// Where a file is that the image was filled with.
+    /// Where a file is that the image was last filled with.
     pub fn file_path(&self, name: &[u8]) -> PathBuf {
         self.files().join(OsStr::from_bytes(name))
     }
@@ -52,12 +67,18 @@ impl Scratch {
             .arg(self.image_path()));
     }
 
-    /// Puts files into the root directory. With a date, nothing on the card has another one.
+    /// Puts files into the root directory, or into one below it if the name has a slash. With a date,
+    /// no file on the card has another one.
     fn fill(&self, date: Option<u32>, files: &[File]) {
         let folder = self.files();
+        if folder.exists() {
+            fs::remove_dir_all(&folder).expect("a folder to remove");
+        }
         fs::create_dir(&folder).expect("a folder for files");
         for (name, bytes) in files {
             let path = self.file_path(name);
+            let around = path.parent().expect("a folder around a file");
+            fs::create_dir_all(around).expect("a folder for files");
             fs::write(&path, bytes).expect("a file");
             date.inspect(|&date| put_date(&path, date));
         }
@@ -98,12 +119,15 @@ fn put_date(path: &Path, date: u32) {
     file.set_modified(time).expect("the date of a file");
 }
 
-fn run(command: &mut Command) {
-    let output = command
-        .output()
-        .unwrap_or_else(|error| panic!("{command:?}: {error}; Debian's f2fs-tools has it"));
-    let log = String::from_utf8_lossy(&output.stdout);
+/// Runs a program, which has to end well, and returns what it wrote to standard output.
+pub fn run(command: &mut Command) -> Vec<u8> {
+    let output = command.output().unwrap_or_else(|error| {
+        panic!("{command:?}: {error}; Debian has it in f2fs-tools, grub-common, make or valgrind")
+    });
+    let log = [&output.stdout, &output.stderr].map(|bytes| String::from_utf8_lossy(bytes));
+    let log = log.join("\n");
     assert!(output.status.success(), "{command:?} failed:\n{log}");
+    output.stdout
 }
 
 pub fn formatted(megabytes: usize, options: &str) -> Image {
@@ -114,15 +138,26 @@ pub fn formatted(megabytes: usize, options: &str) -> Image {
 
 /// An image file with these files in its root directory.
 pub fn file_with(megabytes: usize, options: &str, files: &[File]) -> Scratch {
+    file_in_turn(megabytes, options, &[files])
+}
+
+/// The same, with files that come later over those that are there.
+fn file_in_turn(megabytes: usize, options: &str, turns: &[&[File]]) -> Scratch {
     let scratch = Scratch::new();
     scratch.format(megabytes, options);
-    scratch.fill(None, files);
+    for files in turns {
+        scratch.fill(None, files);
+    }
     scratch
 }
 
-/// The same in memory.
+/// Such an image in memory.
 pub fn filled_with(megabytes: usize, options: &str, files: &[File]) -> Image {
-    let scratch = file_with(megabytes, options, files);
+    filled_in_turn(megabytes, options, &[files])
+}
+
+pub fn filled_in_turn(megabytes: usize, options: &str, turns: &[&[File]]) -> Image {
+    let scratch = file_in_turn(megabytes, options, turns);
     scratch.image(format!(
         "sload.f2fs over mkfs.f2fs {options} of {megabytes} MB"
     ))

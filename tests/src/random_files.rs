@@ -27,6 +27,31 @@ pub struct Target {
     pub entries: Vec<Linked>,
 }
 
+impl Target {
+    /// A name and an index to pull: mostly its own.
+    pub fn any_call(&self, random: &mut Random) -> (Vec<u8>, u32) {
+        let any = random.number() as u32;
+        let beside = self.index.wrapping_add(1);
+        let index = match random.below(16) {
+            0 => pick(random, &[0, any, beside, u32::MAX]),
+            _ => self.index,
+        };
+        let mut name = self.name.clone();
+        match random.below(32) {
+            0 => name.push(b'x'),
+            1 => name = good_name(random, 5),
+            2 => name.clear(),
+            3 => name[0] = pick(random, b"\0/"),
+            _ => {}
+        }
+        (name, index)
+    }
+}
+
+pub fn any_target<'a>(targets: &'a [Target], random: &mut Random) -> &'a Target {
+    &targets[random.below(targets.len() as u64) as usize]
+}
+
 pub struct RandomFiles {
     pub card: Card,
     pub targets: Vec<Target>,

@@ -1,7 +1,7 @@
 //! Random damage to what a pull comes by after opening.
 
 use crate::card::{Card, Passage, ROOT};
-use crate::damage::altered;
+use crate::damage::{altered, Damage};
 use crate::directory::{in_slot, map_byte};
 use crate::image::Image;
 use crate::layout::dentry::{self, FILENAMES, NR_DENTRY_IN_BLOCK, SLOT_LEN};
@@ -29,6 +29,20 @@ pub fn strike_block(image: &mut Image, block: u32, random: &mut Random) {
     image.set(block, field, value);
 }
 
+/// Damages what a card is opened by, once in so many times, or else something on the way of a pull.
+pub fn strike_either(
+    card: &mut Card,
+    opening: (&Damage, u64),
+    target: &Target,
+    random: &mut Random,
+) {
+    let (damage, once_in) = opening;
+    match random.below(once_in) {
+        0 => damage.strike(&mut card.image, random),
+        _ => strike(card, target, random),
+    }
+}
+
 /// A number to damage, and values that it is likely to be taken wrongly with.
 struct Aim {
     block: u32,
@@ -37,7 +51,7 @@ struct Aim {
 }
 
 /// Gives one number on the way of a pull a new value.
-pub fn strike(card: &mut Card, target: &Target, random: &mut Random) {
+fn strike(card: &mut Card, target: &Target, random: &mut Random) {
     let Aim {
         block,
         field,

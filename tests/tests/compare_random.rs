@@ -6,7 +6,7 @@ use harptimber_tests::image::Image;
 use harptimber_tests::random_card::pick;
 use harptimber_tests::random_files::{random_files, RandomFiles, Target};
 use harptimber_tests::trial::Random;
-use harptimber_tests::walk_damage::strike;
+use harptimber_tests::walk_damage::strike_either;
 
 /// One in so many damages is to what a card is opened by.
 const OPENING: u64 = 8;
@@ -37,10 +37,7 @@ impl Twins {
         let random = &mut Random::new(seed);
         let RandomFiles { card, targets } = &mut self.files;
         for _ in 0..strikes {
-            match random.below(OPENING) {
-                0 => self.opening.strike(&mut card.image, random),
-                _ => strike(card, &targets[target], random),
-            }
+            strike_either(card, (&self.opening, OPENING), &targets[target], random);
         }
     }
 

@@ -7,21 +7,11 @@ use harptimber_tests::layout::inode::I_CURRENT_DEPTH;
 use harptimber_tests::layout::BLOCK_SIZE;
 use harptimber_tests::names::good_name;
 use harptimber_tests::node_lookup;
-use harptimber_tests::published::{filled_with, formatted, File};
+use harptimber_tests::published::{contents, filled_with, formatted, File, LONGEST_INLINE};
 use harptimber_tests::pulls::{lists, Call, Pulls};
 use harptimber_tests::random_card::pick;
 use harptimber_tests::trial::Random;
 use harptimber_tests::walk_damage::strike_block;
-
-/// Files up to this size stand in their inode, which is a kind that isn't read.
-const LONGEST_INLINE: usize = 3344;
-
-/// A file's bytes, at each place others.
-fn contents(random: &mut Random, size: usize) -> Vec<u8> {
-    let seed = random.number();
-    let eight = (0..size.div_ceil(8) as u64).flat_map(|n| (seed ^ (n * n)).to_le_bytes());
-    eight.take(size).collect()
-}
 
 fn expect_file(pulls: &mut Pulls, image: &Image, (name, bytes): &File) {
     if bytes.len() <= LONGEST_INLINE {

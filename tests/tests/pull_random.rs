@@ -5,36 +5,11 @@ use std::ops::RangeInclusive;
 use harptimber_tests::damage::Damage;
 use harptimber_tests::names::good_name;
 use harptimber_tests::pulls::Pulls;
-use harptimber_tests::random_card::pick;
-use harptimber_tests::random_files::{random_files, RandomFiles, Target};
-use harptimber_tests::trial::Random;
-use harptimber_tests::walk_damage::strike;
+use harptimber_tests::random_files::{any_target, random_files, RandomFiles};
+use harptimber_tests::walk_damage::strike_either;
 
 /// One in so many damages is to what a card is opened by.
 const OPENING: u64 = 6;
-
-fn any_target<'a>(targets: &'a [Target], random: &mut Random) -> &'a Target {
-    &targets[random.below(targets.len() as u64) as usize]
-}
-
-/// Mostly the target's own name and index.
-fn any_call(target: &Target, random: &mut Random) -> (Vec<u8>, u32) {
-    let any = random.number() as u32;
-    let beside = target.index.wrapping_add(1);
-    let index = match random.below(16) {
-        0 => pick(random, &[0, any, beside, u32::MAX]),
-        _ => target.index,
-    };
-    let mut name = target.name.clone();
-    match random.below(32) {
-        0 => name.push(b'x'),
-        1 => name = good_name(random, 5),
-        2 => name.clear(),
-        3 => name[0] = pick(random, b"\0/"),
-        _ => {}
-    }
-    (name, index)
-}
 
 /// Each target of each card, and names that aren't there.
 #[test]
@@ -65,12 +40,9 @@ fn damaged_cards(name: &'static str, strikes: RangeInclusive<u64>) {
             let target = any_target(&targets, random);
             let more = random.below(strikes.end() - strikes.start() + 1);
             for _ in 0..strikes.start() + more {
-                match random.below(OPENING) {
-                    0 => opening.strike(&mut card.image, random),
-                    _ => strike(&mut card, target, random),
-                }
+                strike_either(&mut card, (&opening, OPENING), target, random);
             }
-            let (name, index) = any_call(target, random);
+            let (name, index) = target.any_call(random);
             pulls.compare(&card.image, &name, index);
             card.image.undo(0);
         }

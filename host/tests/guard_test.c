@@ -1,0 +1,576 @@
+/*
+ * Makes the library's calls with every lent slice right behind, and then right before, a page that
+ * can't be touched, and what is only read on pages that can't be written (lending.h). An access outside
+ * is a fault, and counts as failed. A script says on which cards, sound and damaged:
+ *
+ *     card PATH                              a sound image
+ *     put OFFSET BYTES                       damages it
+ *     undo                                   takes the damage back
+ *     pull NAME INDEX ANSWER KEPT FRESH      a pull's answer, and those of compares with the sound image
+ *                                            that have the damaged one as the kept and as the new one
+ *     node NUMBER ANSWER
+ *     cut LEN NAME INDEX ANSWER              a pull from the first bytes of the image
+ *     plant SLICE NAME INDEX                 a pull of data with that slice shorter than the call is told,
+ *                                            which has to end in a fault
+ *     unset                                  a compare with lists that were never written, for valgrind
+ *
+ * Bytes and names are in hexadecimal behind an x. `guard_test heap SCRIPT` has each slice on the heap
+ * instead, for valgrind. Without a script, images are empty or too short.
+ */
+#include <inttypes.h>
+#include <string.h>
+
+#include "check.h"
+#include "harptimber.h"
+#include "lending.h"
+
+#define BLOCK_SIZE ((size_t)4096)
+#define LEAST_NODES ((size_t)179 * 4)
+#define LEAST_BLOCKS ((size_t)238 * 4)
+#define COUNT_OF(array) (sizeof(array) / sizeof *(array))
+
+/* What a call is lent and told, and what it returned. Each call takes some of it. */
+struct call {
+    struct slice image, fresh, name, block, nodes, blocks;
+    uint32_t index, node_count, block_count;
+    struct harptimber_pulled pulled;
+    struct harptimber_compared compared;
+    struct harptimber_entry entry;
+    struct harptimber_hashed hashed;
+    struct harptimber_place place;
+};
+
+static size_t line_number; /* of the script; 0 outside */
+
+static void make_pull(void *with)
+{
+    struct call *c = with;
+    c->pulled = harptimber_pull(c->image.bytes, c->image.len, c->name.bytes, c->name.len, c->index,
+                                c->block.bytes, c->block.len, c->nodes.bytes, c->nodes.len,
+                                c->blocks.bytes, c->blocks.len);
+}
+
+static void make_compare(void *with)
+{
+    struct call *c = with;
+    c->compared = harptimber_compare(c->image.bytes, c->image.len, c->fresh.bytes, c->fresh.len,
+                                     c->nodes.bytes, c->nodes.len, c->node_count, c->blocks.bytes,
+                                     c->blocks.len, c->block_count);
+}
+
+static void make_lookup(void *with)
+{
+    struct call *c = with;
+    c->entry = harptimber_node_lookup(c->image.bytes, c->image.len, c->index);
+}
+
+static void make_hash(void *with)
+{
+    struct call *c = with;
+    c->hashed = harptimber_name_hash(c->name.bytes, c->name.len);
+}
+
+static void make_place(void *with)
+{
+    struct call *c = with;
+    c->place = harptimber_file_place(c->name.len % 2 == 0 ? 873 : 923, c->index);
+}
+
+/* Says where a call went wrong, and which slice was left if one was. */
+static void say(const char *what, const struct call *c, int faulted)
+{
+    const struct slice *slices[] = {&c->image, &c->fresh, &c->name, &c->block, &c->nodes, &c->blocks};
+    printf("FAILED %s, line %zu of the script, slices %s guard pages", what, line_number,
+           placement == BEHIND_GUARD ? "behind" : "before");
+    for (size_t i = 0; faulted && i < COUNT_OF(slices); i++) {
+        const struct slice *s = slices[i];
+        if (fault_at >= s->mapping && fault_at < s->mapping + s->mapping_len)
+            printf(": byte %td of the %s, which has %zu", fault_at - s->bytes, s->name, s->len);
+    }
+    putchar('\n');
+}
+
+/* Makes a call, which may touch nothing outside. */
+static int stays_inside(const char *what, void (*make)(void *), struct call *c)
+{
+    int faulted = faults(make, c);
+    if (fails(!faulted))
+        say(what, c, 1);
+    return !faulted;
+}
+
+#define ANY UINT32_MAX /* for an answer that isn't foretold */
+
+static void expect(const char *what, const struct call *c, uint32_t got, uint32_t answer)
+{
+    if (fails(got == answer || answer == ANY)) {
+        say(what, c, 0);
+        printf("    answer %" PRIu32 ", expected %" PRIu32 "\n", got, answer);
+    }
+}
+
+/* Decides something by these bytes, so that valgrind sees if one was never written. */
+static void use(const uint8_t *bytes, size_t len)
+{
+    static volatile unsigned used;
+    for (size_t i = 0; i < len; i++)
+        if (bytes[i] == 0xA5)
+            used++;
+}
+
+static struct slice copied(const char *name, const uint8_t *from, size_t len)
+{
+    struct slice s = lend(name, len);
+    memcpy(s.bytes, from, len);
+    seal(&s);
+    return s;
+}
+
+static int refused(uint32_t answer)
+{
+    return answer >= HARPTIMBER_OUT_OF_SHAPE && answer <= HARPTIMBER_UNREADABLE;
+}
+
+/* Lengths of what a pull writes to. */
+struct lens {
+    size_t block, nodes, blocks;
+};
+static const struct lens least = {BLOCK_SIZE, LEAST_NODES, LEAST_BLOCKS};
+
+static int in_shape(const struct lens *lens)
+{
+    return lens->block == BLOCK_SIZE && lens->nodes >= LEAST_NODES && lens->blocks >= LEAST_BLOCKS;
+}
+
+static void lend_room(struct call *c, const struct lens *lens)
+{
+    c->block = lend("block buffer", lens->block);
+    c->nodes = lend("node list", lens->nodes);
+    c->blocks = lend("block list", lens->blocks);
+}
+
+static void give_room_back(struct call *c)
+{
+    give_back(&c->block);
+    give_back(&c->nodes);
+    give_back(&c->blocks);
+}
+
+/* A pull. What its answer leaves untouched can't be written. */
+static void expect_pull(struct call *c, const struct lens *lens, uint32_t answer)
+{
+    if (!in_shape(lens))
+        answer = HARPTIMBER_OUT_OF_SHAPE;
+    lend_room(c, lens);
+    if (answer > HARPTIMBER_HOLE && answer != ANY)
+        seal(&c->block);
+    if (refused(answer)) {
+        seal(&c->nodes);
+        seal(&c->blocks);
+    }
+    c->pulled = (struct harptimber_pulled){.answer = ANY}; /* if it ends in a fault */
+    if (!stays_inside("pull", make_pull, c))
+        return;
+    expect("pull", c, c->pulled.answer, answer);
+    use(c->block.bytes, c->pulled.answer <= HARPTIMBER_HOLE ? c->block.len : 0);
+    use(c->nodes.bytes, 4 * c->pulled.node_count);
+    use(c->blocks.bytes, 4 * c->pulled.block_count);
+}
+
+/* What a compare is lent and told beyond what a pull left. */
+struct beyond {
+    size_t bytes;
+    uint32_t nodes, blocks;
+    int wild; /* the last entries are FFFFFFFF */
+};
+
+static struct slice list(const char *name, const struct slice *pulled, uint32_t count,
+                         const struct beyond *beyond)
+{
+    uint8_t bytes[LEAST_BLOCKS + 3] = {0};
+    size_t len = 4 * (size_t)count;
+    memcpy(bytes, pulled->bytes, len);
+    if (beyond->wild && count > 0)
+        memset(bytes + len - 4, 0xFF, 4);
+    return copied(name, bytes, len + beyond->bytes);
+}
+
+/* A compare with the lists that a pull left, in slices of just their length. */
+static void expect_compare(const struct call *pull, struct slice fresh, const struct beyond *beyond,
+                           uint32_t answer)
+{
+    struct call c = {.image = pull->image, .fresh = fresh};
+    c.node_count = pull->pulled.node_count + beyond->nodes;
+    c.block_count = pull->pulled.block_count + beyond->blocks;
+    c.nodes = list("node list", &pull->nodes, pull->pulled.node_count, beyond);
+    c.blocks = list("block list", &pull->blocks, pull->pulled.block_count, beyond);
+    if (stays_inside("compare", make_compare, &c))
+        expect("compare", &c, c.compared.answer, answer);
+    give_back(&c.nodes);
+    give_back(&c.blocks);
+}
+
+/* The numbers that a pull looked up, and some others. */
+static void look_up_nodes(const struct call *pull)
+{
+    static const uint32_t others[] = {0, 1, 454, 455, 1 << 17, UINT32_MAX};
+    for (uint32_t i = 0; i < pull->pulled.node_count + COUNT_OF(others); i++) {
+        struct call c = {.image = pull->image};
+        if (i < pull->pulled.node_count)
+            memcpy(&c.index, pull->nodes.bytes + 4 * i, 4);
+        else
+            c.index = others[i - pull->pulled.node_count];
+        stays_inside("node lookup", make_lookup, &c);
+    }
+}
+
+static unsigned turn; /* so that pulls take turns in what else is tried with them */
+
+static void expect_odd_room(struct call *c, uint32_t answer)
+{
+    static const struct lens odd[] = {
+        {BLOCK_SIZE, LEAST_NODES + 1, LEAST_BLOCKS + 3}, {BLOCK_SIZE, LEAST_NODES + 2, LEAST_BLOCKS + 2},
+        {BLOCK_SIZE, LEAST_NODES + 3, LEAST_BLOCKS + 1}, {BLOCK_SIZE, LEAST_NODES + 40, LEAST_BLOCKS + 44},
+        {BLOCK_SIZE - 1, LEAST_NODES, LEAST_BLOCKS},     {BLOCK_SIZE + 1, LEAST_NODES, LEAST_BLOCKS},
+        {BLOCK_SIZE, LEAST_NODES - 1, LEAST_BLOCKS},     {BLOCK_SIZE, LEAST_NODES, LEAST_BLOCKS - 1},
+        {BLOCK_SIZE, 3, LEAST_BLOCKS},                   {0, 0, 0},
+    };
+    expect_pull(c, &odd[turn % COUNT_OF(odd)], answer);
+    give_room_back(c);
+}
+
+static void expect_odd_compare(const struct call *pull, struct slice fresh, uint32_t answer)
+{
+    static const struct beyond odd[] = {
+        {0, 1, 0, 0}, {0, 0, 1, 0}, {3, 1, 1, 0}, {0, 1 << 30, 1 << 30, 0}, {2, 0, 0, 0}, {0, 0, 0, 1},
+    };
+    const struct beyond *beyond = &odd[turn % COUNT_OF(odd)];
+    int too_many = beyond->nodes != 0 || beyond->blocks != 0;
+    if (beyond->wild)
+        answer = ANY;
+    else if (too_many && !refused(answer))
+        answer = HARPTIMBER_OUT_OF_SHAPE;
+    expect_compare(pull, fresh, beyond, answer);
+}
+
+static const struct beyond nothing;
+static struct slice sound, damaged;
+
+/* The pull of one line, on the damaged image and on the sound one. */
+static void run_pull(struct slice name, uint32_t index, uint32_t answer, uint32_t as_kept, uint32_t as_fresh)
+{
+    struct call c = {.image = damaged, .name = name, .index = index};
+    stays_inside("name hash", make_hash, &c);
+    stays_inside("file place", make_place, &c);
+    expect_pull(&c, &least, answer);
+    expect_compare(&c, sound, &nothing, as_kept);
+    expect_odd_compare(&c, sound, as_kept);
+    look_up_nodes(&c);
+    give_room_back(&c);
+    expect_odd_room(&c, answer);
+    c.image = sound;
+    expect_pull(&c, &least, ANY);
+    expect_compare(&c, damaged, &nothing, as_fresh);
+    give_room_back(&c);
+    turn++;
+}
+
+/* All that takes an image, with one that has only some first bytes of the damaged one. */
+static void run_cut(size_t len, struct slice name, uint32_t index, uint32_t answer)
+{
+    struct slice cut = copied("image", damaged.bytes, len);
+    struct call c = {.image = cut, .name = name, .index = index};
+    expect_pull(&c, &least, answer);
+    look_up_nodes(&c);
+    expect_compare(&c, damaged, &nothing, ANY);
+    give_room_back(&c);
+    c.image = damaged;
+    expect_pull(&c, &least, ANY);
+    expect_compare(&c, cut, &nothing, ANY);
+    give_room_back(&c);
+    give_back(&cut);
+}
+
+/* A slice for `told` bytes that has fewer, or that starts a byte early, as the placement can notice. */
+static struct slice shorter(const struct slice *whole, size_t len)
+{
+    struct slice s = lend(whole->name, len);
+    memcpy(s.bytes, whole->bytes, len);
+    s.len = whole->len;
+    if (placement == BEHIND_GUARD)
+        s.bytes--;
+    return s;
+}
+
+/* The last block that a pull listed: the image is needed up to there. */
+static size_t last_block(const struct call *c)
+{
+    const uint8_t *last = c->blocks.bytes + 4 * (c->pulled.block_count - 1);
+    return last[0] | last[1] << 8 | last[2] << 16 | (size_t)last[3] << 24;
+}
+
+/* A pull that is told more than there is of one slice, which has to end in a fault. */
+static void run_plant(const char *which, struct slice name, uint32_t index)
+{
+    struct call c = {.image = damaged, .name = name, .index = index};
+    expect_pull(&c, &least, HARPTIMBER_DATA);
+    if (c.pulled.answer != HARPTIMBER_DATA)
+        return;
+    struct {
+        struct slice *slice;
+        const char *name;
+        size_t len;
+    } plants[] = {
+        {&c.name, "name", name.len - 1},
+        {&c.block, "block", BLOCK_SIZE - 1},
+        {&c.nodes, "nodes", 4 * c.pulled.node_count - 1},
+        {&c.blocks, "blocks", 4 * c.pulled.block_count - 1},
+        {&c.image, "image", BLOCK_SIZE * last_block(&c)},
+    };
+    for (size_t i = 0; i < COUNT_OF(plants); i++)
+        if (strcmp(which, plants[i].name) == 0)
+            *plants[i].slice = shorter(plants[i].slice, plants[i].len);
+    int faulted = faults(make_pull, &c);
+    /* On the heap valgrind notices it. The first bytes of an image decide nothing. */
+    int noticed = placement == BEFORE_GUARD || (placement == BEHIND_GUARD && strcmp(which, "image") != 0);
+    if (noticed && fails(faulted))
+        printf("FAILED to notice a pull that leaves the %s\n", which);
+}
+
+/* A compare with lists that were never written, for valgrind to notice. */
+static void run_unset(void)
+{
+    struct call c = {.image = damaged, .fresh = sound, .node_count = 1};
+    lend_room(&c, &least);
+    make_compare(&c);
+    use((uint8_t *)&c.compared.answer, sizeof c.compared.answer);
+    give_room_back(&c);
+}
+
+static struct slice from_file(const char *path)
+{
+    FILE *file = fopen(path, "rb");
+    if (file == NULL || fseek(file, 0, SEEK_END) != 0)
+        give_up("a card can't be read");
+    struct slice s = lend("image", (size_t)ftell(file));
+    rewind(file);
+    if (fread(s.bytes, 1, s.len, file) != s.len)
+        give_up("a card can't be read");
+    fclose(file);
+    seal(&s);
+    return s;
+}
+
+#define MOST_PATCHES 64
+
+static struct patch {
+    size_t at, len;
+} patches[MOST_PATCHES];
+static size_t patch_count;
+
+static void run_put(size_t at, const struct slice *bytes)
+{
+    if (patch_count == MOST_PATCHES || at + bytes->len > damaged.len)
+        give_up("a patch is out of place, or one too many");
+    put(&damaged, at, bytes->bytes, bytes->len);
+    patches[patch_count++] = (struct patch){at, bytes->len};
+}
+
+static void run_undo(void)
+{
+    while (patch_count > 0) {
+        struct patch *p = &patches[--patch_count];
+        put(&damaged, p->at, sound.bytes + p->at, p->len);
+    }
+}
+
+static void run_card(const char *path)
+{
+    patch_count = 0;
+    give_back(&sound);
+    give_back(&damaged);
+    sound = from_file(path);
+    damaged = from_file(path);
+}
+
+#define MOST_WORDS 6
+
+/* A line of the script. */
+struct line {
+    char *words[MOST_WORDS + 1]; /* the last is NULL */
+};
+
+static uint32_t number(const struct line *line, size_t word)
+{
+    if (line->words[word] == NULL)
+        give_up("a line of the script is too short");
+    return (uint32_t)strtoul(line->words[word], NULL, 10);
+}
+
+/* The bytes of a word in hexadecimal. */
+static struct slice bytes(const struct line *line, size_t word)
+{
+    const char *hex = line->words[word];
+    if (hex == NULL || hex[0] != 'x')
+        give_up("a line of the script has no bytes");
+    struct slice s = lend("name", strlen(hex + 1) / 2);
+    for (size_t i = 0; i < s.len; i++) {
+        char digits[3] = {hex[1 + 2 * i], hex[2 + 2 * i], 0};
+        s.bytes[i] = (uint8_t)strtoul(digits, NULL, 16);
+    }
+    seal(&s);
+    return s;
+}
+
+static void run_with_bytes(const struct line *line, const char *command)
+{
+    size_t word = strcmp(command, "pull") == 0 ? 1 : 2;
+    struct slice s = bytes(line, word);
+    if (strcmp(command, "pull") == 0)
+        run_pull(s, number(line, 2), number(line, 3), number(line, 4), number(line, 5));
+    else if (strcmp(command, "put") == 0)
+        run_put(number(line, 1), &s);
+    else if (strcmp(command, "cut") == 0)
+        run_cut(number(line, 1), s, number(line, 3), number(line, 4));
+    else if (strcmp(command, "plant") == 0)
+        run_plant(line->words[1], s, number(line, 3));
+    else
+        give_up("a line of the script has an unknown command");
+    give_back(&s);
+}
+
+static void run_line(char *text)
+{
+    struct line line = {{NULL}};
+    char *rest = text;
+    for (size_t i = 0; i < MOST_WORDS; i++)
+        line.words[i] = strtok_r(rest, " \n", &rest);
+    const char *command = line.words[0] == NULL ? "" : line.words[0];
+    if (strcmp(command, "card") == 0 && line.words[1] != NULL) {
+        run_card(line.words[1]);
+    } else if (strcmp(command, "undo") == 0) {
+        run_undo();
+    } else if (strcmp(command, "unset") == 0) {
+        run_unset();
+    } else if (strcmp(command, "node") == 0) {
+        struct call c = {.image = damaged, .index = number(&line, 1)};
+        if (stays_inside("node lookup", make_lookup, &c))
+            expect("node lookup", &c, c.entry.answer, number(&line, 2));
+    } else {
+        run_with_bytes(&line, command);
+    }
+}
+
+static void run_script(const char *path)
+{
+    FILE *script = fopen(path, "r");
+    char *text = NULL;
+    size_t room = 0;
+    if (script == NULL)
+        give_up("the script can't be read");
+    for (line_number = 1; getline(&text, &room, script) >= 0; line_number++)
+        run_line(text);
+    line_number = 0;
+    free(text);
+    fclose(script);
+}
+
+static void read_byte(void *at)
+{
+    (void)*(volatile uint8_t *)at;
+}
+
+static void write_byte(void *at)
+{
+    *(volatile uint8_t *)at = 1;
+}
+
+static void expect_fault(const char *what, void (*touch)(void *), uint8_t *at, size_t len, int expected)
+{
+    if (fails(faults(touch, at) == expected))
+        printf("FAILED: %s of %zu bytes %s\n", what, len, expected ? "isn't noticed" : "ends in a fault");
+}
+
+/* What this test notices: it would pass on anything otherwise. */
+static void test_guards(void)
+{
+    static const size_t lens[] = {1, 255, 715, 716, 952, 955, 4095, 4096, 4097, 8192};
+    for (size_t i = 0; i < COUNT_OF(lens); i++) {
+        size_t len = lens[i];
+        struct slice s = lend("slice", len);
+        uint8_t *last = s.bytes + len - 1;
+        expect_fault("writing the first byte", write_byte, s.bytes, len, 0);
+        expect_fault("writing the last byte", write_byte, last, len, 0);
+        if (placement == BEFORE_GUARD)
+            expect_fault("reading behind a slice", read_byte, last + 1, len, 1);
+        else
+            expect_fault("reading before a slice", read_byte, s.bytes - 1, len, 1);
+        seal(&s);
+        expect_fault("reading a sealed slice", read_byte, last, len, 0);
+        expect_fault("writing the first byte of a sealed slice", write_byte, s.bytes, len, 1);
+        expect_fault("writing the last byte of a sealed slice", write_byte, last, len, 1);
+        give_back(&s);
+    }
+    struct slice none = lend("slice", 0);
+    expect_fault("reading a slice", read_byte, none.bytes, 0, 1);
+    give_back(&none);
+}
+
+/* Names of any length, also told to be a byte longer than they are. */
+static void test_names(void)
+{
+    for (size_t len = 0; len <= 256; len++) {
+        struct call c = {.name = lend("name", len)};
+        memset(c.name.bytes, 'x', len);
+        seal(&c.name);
+        uint32_t answer = len == 0 || len == 256 ? HARPTIMBER_OUT_OF_SHAPE : HARPTIMBER_DATA;
+        if (stays_inside("name hash", make_hash, &c))
+            expect("name hash", &c, c.hashed.answer, answer);
+        c.name.len++;
+        if (placement == BEFORE_GUARD && len < 255 && fails(faults(make_hash, &c)))
+            printf("FAILED to notice a name hash that leaves a name of %zu bytes\n", len);
+        give_back(&c.name);
+    }
+}
+
+/* Images without a superblock, or too short for one. */
+static void test_zeros(void)
+{
+    static const size_t lens[] = {0, 1, 4095, 4096, 4097, 8191, 8192, 8193, 12288};
+    static const uint8_t zeros[12288];
+    struct slice name = copied("name", (const uint8_t *)"road.bin", 8);
+    for (size_t i = 0; i < COUNT_OF(lens); i++) {
+        size_t len = lens[i];
+        sound = copied("image", zeros, len);
+        damaged = copied("image", zeros, len);
+        int shaped = len % BLOCK_SIZE == 0 && len >= 2 * BLOCK_SIZE;
+        uint32_t answer = shaped ? HARPTIMBER_NO_SUPERBLOCK : HARPTIMBER_OUT_OF_SHAPE;
+        run_pull(name, 0, answer, answer, answer);
+        give_back(&sound);
+        give_back(&damaged);
+    }
+    give_back(&name);
+}
+
+static void run(int count, char **scripts)
+{
+    if (placement != ON_HEAP)
+        test_guards();
+    test_names();
+    test_zeros();
+    for (int i = 0; i < count; i++)
+        run_script(scripts[i]);
+}
+
+int main(int argc, char **argv)
+{
+    int heap = argc > 1 && strcmp(argv[1], "heap") == 0;
+    catch_faults();
+    placement = heap ? ON_HEAP : BEHIND_GUARD;
+    run(argc - 1 - heap, argv + 1 + heap);
+    if (!heap) {
+        placement = BEFORE_GUARD;
+        run(argc - 1, argv + 1);
+    }
+    return finish();
+}

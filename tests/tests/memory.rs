@@ -1,0 +1,306 @@
+//! The archive touches nothing outside what it is lent: in a C host with guard pages around every slice,
+//! and under valgrind's memcheck, on sound and on damaged cards.
+
+use std::ffi::OsStr;
+use std::process::Command;
+
+use harptimber_tests::card::{Card, ROOT};
+use harptimber_tests::damage::Damage;
+use harptimber_tests::directory::{in_slot, Dentry};
+use harptimber_tests::guard_script::Script;
+use harptimber_tests::knobs::Knobs;
+use harptimber_tests::layout::dentry::{NAME_LEN, NR_DENTRY_IN_BLOCK};
+use harptimber_tests::layout::inode::{ADDRESSES, I_MODE};
+use harptimber_tests::layout::BLOCK_SIZE;
+use harptimber_tests::node_lookup;
+use harptimber_tests::outside::{built, CardFile};
+use harptimber_tests::published::{contents, filled_with, File};
+use harptimber_tests::pulls::{lists, Call};
+use harptimber_tests::random_card::pick;
+use harptimber_tests::random_files::{any_target, random_files, RandomFiles};
+use harptimber_tests::trial::Random;
+use harptimber_tests::walk_damage::{strike_block, strike_either};
+
+fn guarded() -> Command {
+    Command::new(built("guard_test"))
+}
+
+/// Ends with 9 if memcheck has anything to say.
+fn memcheck() -> Command {
+    let mut valgrind = Command::new("valgrind");
+    valgrind.args(["--error-exitcode=9", "--quiet", "--leak-check=no"]);
+    valgrind
+}
+
+fn memchecked() -> Command {
+    let mut command = memcheck();
+    command.arg(built("guard_test")).arg("heap");
+    command
+}
+
+/// One in so many damages is to what a card is opened by.
+const OPENING: u64 = 4;
+
+/// Damages a card of random files so many times, after pulls from it as it is.
+fn damage_files(script: &mut Script, random: &mut Random, damages: u64) {
+    let RandomFiles { mut card, targets } = random_files(random);
+    let sound = card.image.clone();
+    let opening = Damage::of(&sound);
+    script.card(&sound);
+    for target in &targets[..4] {
+        script.pull(&sound, &sound, &target.name, target.index);
+    }
+    for _ in 0..damages {
+        let target = any_target(&targets, random);
+        for _ in 0..1 + random.below(3) {
+            strike_either(&mut card, (&opening, OPENING), target, random);
+        }
+        let (name, index) = target.any_call(random);
+        script.pull(&sound, &card.image, &name, index);
+        card.image.undo(0);
+    }
+}
+
+const NAME: &[u8] = b"road.bin";
+
+/// A card that ends with its main area. The file has one block, behind a direct node.
+struct Tight {
+    card: Card,
+    ino: u32,
+}
+
+/// What of a pull is the image's last block.
+#[derive(Clone, Copy, Debug)]
+enum Last {
+    Root,
+    Directory,
+    Inode,
+    Node,
+    Data,
+}
+
+impl Tight {
+    fn new() -> Tight {
+        let mut card = Card::new(Knobs::sound(), Random::new(1));
+        card.add_root(0, 1);
+        let ino = card.add_file(0, (u64::from(ADDRESSES) + 1) * BLOCK_SIZE as u64);
+        card.add_block(ino, ADDRESSES);
+        card.link(0, 0, &Dentry::new(NAME, ino));
+        card.image.settle("one block");
+        Tight { card, ino }
+    }
+
+    fn last_block(&self) -> u32 {
+        self.card.image.areas.main_end - 1
+    }
+
+    /// Copies a block to the image's end, and leads there.
+    fn move_to_end(&mut self, which: Last) {
+        let (ino, last) = (self.ino, self.last_block());
+        let way = self.card.way(ino, ADDRESSES);
+        let node = way[1];
+        let (block, nid, of) = match which {
+            Last::Root => (self.card.inode_block(ROOT), ROOT, ROOT),
+            Last::Inode => (way[0].node.block, ino, ino),
+            Last::Node => (node.node.block, node.node.nid, ino),
+            Last::Directory => (self.card.directory[&0], 0, 0),
+            Last::Data => (self.card.image.get(node.node.block, node.slot) as u32, 0, 0),
+        };
+        let bytes = self.card.image.block(block).to_vec();
+        self.card.image.put("moved block", last, 0, &bytes);
+        match which {
+            Last::Directory => self.card.set_address(ROOT, 0, last),
+            Last::Data => self.card.set_address(ino, ADDRESSES, last),
+            _ => self.card.set_entry(nid, of, last),
+        }
+    }
+
+    /// Pulls with each kind of block at the image's very end.
+    fn pulls(&mut self, script: &mut Script) {
+        let sound = self.card.image.clone();
+        script.card(&sound);
+        for last in [
+            Last::Root,
+            Last::Inode,
+            Last::Node,
+            Last::Directory,
+            Last::Data,
+        ] {
+            self.move_to_end(last);
+            let answer = script.pull(&sound, &self.card.image, NAME, ADDRESSES);
+            assert_eq!(answer, 0, "with the {last:?} at the end");
+            self.card.image.undo(0);
+        }
+    }
+
+    /// Entries in the last slots of a directory block at the image's end, that fit and that don't.
+    fn slots(&mut self, script: &mut Script) {
+        let sound = self.card.image.clone();
+        let long = [b'x'; 255];
+        for (name, len) in [
+            (NAME, 8),
+            (NAME, 9),
+            (NAME, 0),
+            (NAME, 65535),
+            (&long, 255),
+            (&long, 248),
+        ] {
+            for from_end in [1, 2, 31, 32, 33] {
+                self.move_to_end(Last::Directory);
+                let (last, image) = (self.last_block(), &mut self.card.image);
+                image.clear_slots(last);
+                let slot = NR_DENTRY_IN_BLOCK - from_end;
+                image.put_dentry(last, slot, &Dentry::new(name, self.ino));
+                image.set(last, in_slot(NAME_LEN, slot), len);
+                script.pull(&sound, image, name, ADDRESSES);
+                image.undo(0);
+            }
+        }
+    }
+
+    /// Numbers at the ends of the table, and images that end inside each area.
+    fn ends(&self, script: &mut Script) {
+        let image = &self.card.image;
+        let numbers = self.card.node_numbers;
+        for number in [0, 1, 454, 455, numbers - 1, numbers, u32::MAX] {
+            script.node(image, number);
+        }
+        let areas = image.areas;
+        let middles =
+            [areas.cp, areas.sit, areas.nat, areas.ssa, areas.main].map(|start| start + 256);
+        let blocks = [
+            0,
+            1,
+            2,
+            areas.cp,
+            areas.cp + 512,
+            areas.main,
+            areas.main_end - 1,
+        ];
+        for block in blocks.into_iter().chain(middles) {
+            let len = block as usize * BLOCK_SIZE;
+            for len in [len, len + 1, len + BLOCK_SIZE - 1] {
+                script.cut(image, len, NAME, ADDRESSES);
+            }
+        }
+    }
+}
+
+/// The slices of a pull, each of which is once shorter than the call is told.
+const PLANTS: [&str; 5] = ["name", "block", "nodes", "blocks", "image"];
+
+fn tight_card(script: &mut Script) {
+    let mut tight = Tight::new();
+    tight.pulls(script);
+    tight.slots(script);
+    tight.ends(script);
+}
+
+/// A card by the published tools, damaged in what it is opened by and in blocks that a pull reads.
+fn damage_published(script: &mut Script, random: &mut Random, damages: u64) {
+    let file = (b"file".to_vec(), contents(random, 880 * BLOCK_SIZE));
+    let files: [File; 2] = [file, (b"short".to_vec(), contents(random, 5000))];
+    let mut image = filled_with(100, "", &files);
+    let sound = image.clone();
+    let opening = Damage::of(&sound);
+    script.card(&sound);
+    script.pull(&sound, &sound, b"short", 1);
+    for _ in 0..damages {
+        let index = pick(random, &[0, 872, 873, 879, 880]);
+        let (_, blocks) = lists(&Call::new(&image, b"file", index));
+        match random.below(OPENING) {
+            0 => opening.strike(&mut image, random),
+            _ => strike_block(&mut image, pick(random, &blocks), random),
+        }
+        script.pull(&sound, &image, b"file", index);
+        image.undo(0);
+    }
+}
+
+fn every_answer() -> Vec<u32> {
+    (0..=14).collect()
+}
+
+#[test]
+fn guard_pages() {
+    let mut script = Script::new();
+    let mut random = Random::new(1);
+    tight_card(&mut script);
+    for slice in PLANTS {
+        script.plant(slice, NAME, ADDRESSES);
+    }
+    for _ in 0..6 {
+        damage_files(&mut script, &mut random, 150);
+    }
+    damage_published(&mut script, &mut random, 200);
+    script.pass(&mut guarded(), 40_000, &every_answer());
+}
+
+#[test]
+fn valgrind() {
+    let mut script = Script::new();
+    let mut random = Random::new(2);
+    tight_card(&mut script);
+    for _ in 0..3 {
+        damage_files(&mut script, &mut random, 100);
+    }
+    damage_published(&mut script, &mut random, 60);
+    script.pass(&mut memchecked(), 5_000, &every_answer());
+}
+
+/// What is planted is seen.
+#[test]
+fn valgrind_on_plants() {
+    let card = Tight::new().card;
+    for slice in PLANTS.into_iter().chain(["unset"]) {
+        let mut script = Script::new();
+        script.card(&card.image);
+        match slice {
+            "unset" => script.unset(),
+            _ => script.plant(slice, NAME, ADDRESSES),
+        }
+        let output = script
+            .given_to(&mut memchecked())
+            .output()
+            .expect("valgrind");
+        assert_eq!(output.status.code(), Some(9), "{slice} is seen");
+    }
+}
+
+/// Runs the program under memcheck, which has to end with this status.
+fn expect_status(status: i32, words: &[&OsStr]) -> Vec<u8> {
+    let mut command = memcheck();
+    let output = command.arg(built("harptimber")).args(words).output();
+    let output = output.expect("valgrind runs");
+    let said = String::from_utf8_lossy(&output.stderr);
+    assert_eq!(output.status.code(), Some(status), "{words:?}: {said}");
+    output.stdout
+}
+
+/// The program too, on a card by the published tools and on one with a damaged root.
+#[test]
+fn valgrind_on_program() {
+    let random = &mut Random::new(3);
+    let long = (b"long".to_vec(), contents(random, 880 * BLOCK_SIZE));
+    let short = contents(random, 60_000);
+    let kept = filled_with(100, "", &[long, (b"short".to_vec(), short.clone())]);
+    let mut fresh = kept.clone();
+    fresh.set(node_lookup(kept.bytes(), ROOT).address, I_MODE, 0);
+    let [kept, fresh] = [&kept, &fresh].map(CardFile::of);
+    let [kept, fresh] = [kept.path(), fresh.path()];
+    let [kept, fresh] = [kept.as_os_str(), fresh.as_os_str()];
+    let word = OsStr::new;
+    let read = expect_status(0, &[word("cat"), kept, word("short")]);
+    assert!(read == short, "bytes of the file");
+    expect_status(2, &[word("cat"), fresh, word("short")]);
+    for (status, image) in [(0, kept), (2, fresh)] {
+        let options = [word("pull"), word("--lists")];
+        expect_status(
+            status,
+            &[&options[..], &[image, word("long"), word("873")]].concat(),
+        );
+    }
+    for (status, new) in [(0, kept), (1, fresh)] {
+        expect_status(status, &[word("compare"), kept, new, word("short")]);
+    }
+}
