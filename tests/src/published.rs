@@ -17,10 +17,10 @@ const MEGABYTE: usize = 1 << 20;
 pub type File = (Vec<u8>, Vec<u8>);
 
 /// A folder of a test's own, which goes with it.
-struct Scratch(PathBuf);
+pub struct Scratch(pub PathBuf);
 
 impl Scratch {
-    fn new() -> Scratch {
+    pub fn new() -> Scratch {
         static MADE: AtomicU32 = AtomicU32::new(0);
         let made = MADE.fetch_add(1, Ordering::Relaxed);
         let folder = Path::new(env!("CARGO_MANIFEST_DIR")).join("target/tmp");

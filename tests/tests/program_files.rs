@@ -1,0 +1,133 @@
+//! Files that can't be read or written: a message that names the file, and nothing else happens.
+
+use std::fs::{self, File};
+use std::io::Read;
+use std::os::unix::ffi::OsStrExt;
+use std::os::unix::fs::{MetadataExt, PermissionsExt};
+use std::path::Path;
+use std::process::{Command, Stdio};
+use std::sync::Arc;
+
+use harptimber_tests::program::*;
+use harptimber_tests::program_card::{ProgramCard, Shared, LONG, ROAD};
+use harptimber_tests::program_page::shown;
+
+static CARD: Shared<ProgramCard> = Shared::new();
+
+fn card() -> Arc<ProgramCard> {
+    CARD.get(ProgramCard::new)
+}
+
+/// Runs each command on an image that can't be read.
+fn expect_unreadable(bad: &Path, run: impl Fn(Words) -> Ran) {
+    let card = card();
+    let (good, bad) = (card.disk.path(), bad.to_path_buf());
+    let lines: [Words; 7] = [
+        &[&"pull", &bad, &ROAD, &"0"],
+        &[&"pull", &"--json", &bad, &ROAD, &"0"],
+        &[&"cat", &bad, &ROAD],
+        &[&"node", &bad, &"3"],
+        &[&"compare", &good, &bad, &ROAD],
+        &[&"compare", &bad, &good, &ROAD, &"0"],
+        &[&"compare", &"--json", &bad, &bad, &ROAD],
+    ];
+    for line in lines {
+        run(line).expect_message(2, &[bad.to_str().unwrap()]);
+    }
+}
+
+#[test]
+fn missing() {
+    let card = card();
+    expect_unreadable(&card.disk.scratch.0.join("missing.img"), run);
+    expect_unreadable(&card.disk.path().join("below a file"), run);
+    expect_unreadable(Path::new(&"long/".repeat(2000)), run);
+}
+
+#[test]
+fn folder() {
+    expect_unreadable(&card().disk.scratch.0, run);
+}
+
+/// Nobody writes to it: opening it mustn't wait.
+#[test]
+fn fifo() {
+    let fifo = card().disk.scratch.0.join("fifo");
+    let made = Command::new("mkfifo").arg(&fifo).status().expect("mkfifo");
+    assert!(made.success());
+    expect_unreadable(&fifo, run);
+}
+
+#[test]
+fn devices() {
+    for device in ["/dev/null", "/dev/zero", "/dev/full"] {
+        expect_unreadable(Path::new(device), run);
+    }
+}
+
+/// As somebody who may not read what isn't theirs to read, as root may.
+fn run_without_privilege(words: Words) -> Ran {
+    let command = command(words);
+    if fs::metadata("/proc/self").unwrap().uid() != 0 {
+        return run(words);
+    }
+    let mut without = Command::new("setpriv");
+    let none = "-dac_override,-dac_read_search";
+    without.arg(format!("--bounding-set={none}"));
+    without.arg(format!("--inh-caps={none}"));
+    without.arg(command.get_program()).args(command.get_args());
+    ran(&mut without, Stdio::piped())
+}
+
+#[test]
+fn no_permission() {
+    let card = card();
+    let image = card.disk.scratch.0.join("no permission.img");
+    fs::copy(card.disk.path(), &image).unwrap();
+    let allow = |mode| fs::set_permissions(&image, PermissionsExt::from_mode(mode)).unwrap();
+    allow(0o000);
+    expect_unreadable(&image, run_without_privilege);
+    allow(0o400);
+    run_without_privilege(&[&"pull", &image, &ROAD, &"0"]).expect(0);
+    let words: Words = &[&"pull", &"-o", &image, &card.disk.path(), &ROAD, &"0"];
+    run_without_privilege(words).expect_message(2, &[image.to_str().unwrap()]);
+}
+
+/// Paths that JSON can't have as they are.
+#[test]
+fn paths_in_json() {
+    let card = card();
+    let names: [&[u8]; 3] = [b"a \"b\" \\ c\n.img", b"caf\xE9.img", b"-o"];
+    for name in names {
+        let image = card.disk.scratch.0.join(name.word());
+        fs::hard_link(card.disk.path(), &image).unwrap();
+        let json = run(&[&"node", &"--json", &"--", &image, &"3"])
+            .expect(0)
+            .json();
+        assert_eq!(json["image"].text(), shown(image.as_os_str().as_bytes()));
+    }
+}
+
+/// Of a file so long that most of it waits behind a full pipe, the image is cut off.
+#[test]
+fn image_cut_while_it_is_read() {
+    let card = card();
+    let image = card.disk.scratch.0.join("cut.img");
+    fs::copy(card.disk.path(), &image).unwrap();
+    let mut command = command(&[&"cat", &image, &LONG]);
+    let mut child = started(&mut command, Stdio::piped());
+    let mut out = child.stdout.take().unwrap();
+    let err = reading(child.stderr.take().unwrap());
+    out.read_exact(&mut [0]).expect("the first byte");
+    let file = File::options().write(true).open(&image).unwrap();
+    file.set_len(0).expect("an empty image");
+    let rest = reading(out);
+    let rest = in_time(&mut child, rest);
+    let err = in_time(&mut child, err);
+    let ran = ended(&command, child, Vec::new(), err);
+    assert!(
+        rest.len() < card.file(LONG).size as usize - 1,
+        "not cut in time"
+    );
+    ran.expect_message(2, &[image.to_str().unwrap()]);
+}

@@ -1,0 +1,149 @@
+//! Where `harptimber` writes a file's bytes, and what it leaves alone.
+
+use std::fs;
+use std::os::unix::fs::symlink;
+use std::path::PathBuf;
+use std::sync::Arc;
+
+use harptimber_tests::program::{run, run_to, Words};
+use harptimber_tests::program_card::{ProgramCard, Shared, ROAD};
+
+static CARD: Shared<ProgramCard> = Shared::new();
+
+fn card() -> Arc<ProgramCard> {
+    CARD.get(ProgramCard::new)
+}
+
+/// Bytes up to the byte count, whatever the file had before.
+#[test]
+fn pulled_bytes() {
+    let card = card();
+    let road = card.file(ROAD);
+    let output = card.disk.scratch.0.join("pulled_bytes");
+    let option = format!("--output={}", output.display());
+    for index in 0..road.block_count() {
+        let lines: [Words; 3] = [
+            &[&"pull", &"-o", &output, &card.disk.path(), &ROAD, &index],
+            &[&"pull", &card.disk.path(), &ROAD, &index, &"-o", &output],
+            &[&"pull", &card.disk.path(), &ROAD, &option.as_str(), &index],
+        ];
+        for line in lines {
+            fs::write(&output, [0xAA; 5000]).unwrap();
+            run(line).expect(0);
+            let bytes = fs::read(&output).unwrap();
+            assert_eq!(bytes, road.block(&card.card.image, index));
+        }
+    }
+}
+
+/// A refused pull touches no file and makes none.
+#[test]
+fn refused_pulls() {
+    let card = card();
+    let output = card.disk.scratch.0.join("refused_pulls");
+    let refused = card
+        .refused
+        .iter()
+        .map(|(name, index, _)| (name.clone(), *index));
+    for (name, index) in refused.chain([(ROAD.to_vec(), 6)]) {
+        let lines: [Words; 2] = [
+            &[&"pull", &"-o", &output, &card.disk.path(), &name, &index],
+            &[
+                &"pull",
+                &"--json",
+                &"-o",
+                &output,
+                &card.disk.path(),
+                &name,
+                &index,
+            ],
+        ];
+        for line in lines {
+            run(line).expect(2);
+            assert!(!output.exists(), "made by a refused pull");
+            fs::write(&output, "kept").unwrap();
+            run(line).expect(2);
+            assert_eq!(fs::read(&output).unwrap(), b"kept");
+            fs::remove_file(&output).unwrap();
+        }
+    }
+}
+
+/// The image under its own path and under others.
+fn image_paths(card: &ProgramCard) -> Vec<PathBuf> {
+    let (folder, image) = (&card.disk.scratch.0, card.disk.path());
+    let [linked, pointed] = ["linked.img", "pointed.img"].map(|name| folder.join(name));
+    fs::hard_link(&image, &linked).unwrap();
+    symlink("card.img", &pointed).unwrap();
+    vec![
+        image.clone(),
+        folder.join(".").join("card.img"),
+        linked,
+        pointed,
+    ]
+}
+
+/// The image isn't written to, however it is named.
+#[test]
+fn onto_the_image() {
+    let card = ProgramCard::new();
+    let image = card.disk.path();
+    for output in image_paths(&card) {
+        let lines: [Words; 4] = [
+            &[&"pull", &"-o", &output, &image, &ROAD, &"0"],
+            &[&"pull", &"--json", &"-o", &output, &image, &ROAD, &"2"],
+            &[&"cat", &"-o", &output, &image, &ROAD],
+            &[&"cat", &"--json", &"-o", &image, &output, &ROAD],
+        ];
+        for line in lines {
+            run(line).expect_message(2, &["card.img"]);
+            assert!(
+                fs::read(&image).unwrap() == card.card.image.bytes(),
+                "image written to"
+            );
+        }
+    }
+}
+
+/// What can't be written is named.
+#[test]
+fn unwritable() {
+    let card = card();
+    let folder = card.disk.scratch.0.clone();
+    let below = folder.join("missing").join("output");
+    for output in [PathBuf::from("/dev/full"), folder, below] {
+        let lines: [Words; 3] = [
+            &[&"pull", &"-o", &output, &card.disk.path(), &ROAD, &"0"],
+            &[&"cat", &"-o", &output, &card.disk.path(), &ROAD],
+            &[&"cat", &"--json", &"-o", &output, &card.disk.path(), &ROAD],
+        ];
+        for line in lines {
+            run(line).expect_message(2, &[output.to_str().unwrap()]);
+        }
+    }
+}
+
+/// Output that gets lost is a failure, of every command.
+#[test]
+fn full_standard_output() {
+    let card = card();
+    let path = card.disk.path();
+    let lines: [Words; 12] = [
+        &[&"pull", &path, &ROAD, &"0"],
+        &[&"pull", &"--lists", &"--json", &path, &ROAD, &"0"],
+        &[&"cat", &path, &ROAD],
+        &[&"cat", &path, &"one byte"],
+        &[&"compare", &path, &path, &ROAD],
+        &[&"compare", &"--json", &path, &path, &ROAD],
+        &[&"node", &path, &"3"],
+        &[&"place", &"923", &"0"],
+        &[&"hash", &"name"],
+        &[&"hash", &"--json", &"name"],
+        &[&"--help"],
+        &[&"--version"],
+    ];
+    for line in lines {
+        let ran = run_to("/dev/full", line).expect(2);
+        assert!(!ran.err.is_empty(), "no message of {ran:?}");
+    }
+}
