@@ -2,7 +2,7 @@
 
 use std::ffi::{OsStr, OsString};
 use std::fmt::{Debug, Formatter, Result};
-use std::fs::{self, File};
+use std::fs::File;
 use std::io::{Read, Seek, SeekFrom, Write};
 use std::os::unix::ffi::OsStringExt;
 use std::path::{Path, PathBuf};
@@ -105,9 +105,16 @@ pub fn run_on_terminal(words: Words, output: Option<&Path>) -> Ran {
         Command::new("script").args(["-qec", &line, "/dev/null"]),
         Stdio::piped(),
     );
-    // A terminal ends its lines with both.
-    ran.out = ran.words().replace("\r\n", "\n").into_bytes();
+    ran.out = without_returns(&ran.out);
     ran
+}
+
+/// A terminal puts a carriage return before each line feed.
+fn without_returns(out: &[u8]) -> Vec<u8> {
+    let lines: Vec<&[u8]> = out.split(|&byte| byte == b'\n').collect();
+    let last = lines.len() - 1;
+    let ends = lines[..last].iter().map(|line| &line[..line.len() - 1]);
+    ends.chain([lines[last]]).collect::<Vec<_>>().join(&b'\n')
 }
 
 /// What a run left.

@@ -21,6 +21,8 @@ pub const ROAD: &[u8] = b"road.bin";
 pub const EMPTY: &[u8] = b"empty";
 /// Reaches behind its inode, into the first direct node.
 pub const LONG: &[u8] = b"long";
+/// Has lines of 16 bytes that repeat.
+pub const REPEATING: &[u8] = b"repeating";
 /// Its third block has an address outside the main area.
 pub const OUTSIDE: &[u8] = b"outside";
 
@@ -151,6 +153,20 @@ fn put(card: &mut Card, name: &[u8], size: u64, data: &[u32]) -> Put {
     }
 }
 
+/// A block of zeros, and one of zeros and other lines, each of them several times.
+fn put_repeating(card: &mut Card) -> Put {
+    let repeating = put(card, REPEATING, 2 * BLOCK_SIZE as u64 - 5, &[0, 1]);
+    let zeros = [0; BLOCK_SIZE];
+    let mut mixed = zeros;
+    mixed[160..1600].fill(b'|');
+    mixed[1607] = 7;
+    mixed[4000..].fill(b' ');
+    for (index, bytes) in [(0, zeros), (1, mixed)] {
+        card.image.put("bytes", repeating.blocks[&index], 0, &bytes);
+    }
+    repeating
+}
+
 fn readable(card: &mut Card) -> Vec<Put> {
     let block = BLOCK_SIZE as u64;
     let road = put(card, ROAD, 5 * block + 100, &[0, 1, 3, 5]);
@@ -167,6 +183,7 @@ fn readable(card: &mut Card) -> Vec<Put> {
         put(card, LONG, 926 * block - 3, &[0, 1, 922, 923, 925]),
         put(card, &longest, block, &[0]),
     ];
+    files.push(put_repeating(card));
     for name in NAMES {
         card.link(0, 0, &Dentry::new(name, road.ino));
         files.push(Put {

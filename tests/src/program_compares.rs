@@ -1,6 +1,7 @@
 //! What `harptimber compare` has to say, worked out block by block with the reference.
 
 use reference::compare::{compare, Compared};
+use reference::lookup::node_lookup;
 
 use crate::image::Image;
 use crate::json::Json;
@@ -9,41 +10,40 @@ use crate::program_page::meaning;
 use crate::pulls::Outcome;
 
 /// Blocks that follow each other and are all same or all changed, with the first one's difference.
-#[derive(Debug)]
-pub struct Run {
-    pub first: u32,
-    pub last: u32,
-    pub compared: Compared,
+struct Run {
+    first: u32,
+    last: u32,
+    compared: Compared,
 }
 
 /// Where the kept image has no block.
-#[derive(Debug)]
-pub struct End {
-    pub index: u32,
-    pub kept: u32,
-    pub compared: Compared,
+struct End {
+    index: u32,
+    kept: u32,
+    compared: Compared,
 }
 
 /// What a compare comes to if both images open.
-#[derive(Debug)]
-pub struct Expected {
+pub struct Expected<'a> {
+    cards: [&'a Image; 2],
+    /// Without it, every block is compared.
+    index: Option<u32>,
     pub answer: u32,
     pub status: i32,
-    pub runs: Vec<Run>,
-    pub end: Option<End>,
+    runs: Vec<Run>,
+    end: Option<End>,
 }
 
-impl Expected {
-    /// Of a block, or of every block.
-    pub fn of(kept: &Image, fresh: &Image, name: &[u8], index: Option<u32>) -> Expected {
+impl<'a> Expected<'a> {
+    pub fn of(cards: [&'a Image; 2], name: &[u8], index: Option<u32>) -> Expected<'a> {
         let mut runs = Vec::new();
         let mut end = None;
         let indexes = index.map_or(0..=u32::MAX, |index| index..=index);
         for index in indexes {
-            let outcome = pulled(kept, name, index);
-            let compared = compared(kept, fresh, &outcome);
-            if outcome.pulled.answer > 1 {
-                let kept = outcome.pulled.answer;
+            let outcome = pulled(cards[0], name, index);
+            let kept = outcome.pulled.answer;
+            let compared = compared(cards, &outcome);
+            if kept > 1 {
                 end = Some(End {
                     index,
                     kept,
@@ -53,22 +53,17 @@ impl Expected {
             }
             extend(&mut runs, index, compared);
         }
-        Expected::with(runs, end)
-    }
-
-    fn with(runs: Vec<Run>, end: Option<End>) -> Expected {
-        let ends = end.iter().map(|end| end.compared);
-        let mut all = runs.iter().map(|run| run.compared).chain(ends);
-        let changed = all.any(|compared| compared.answer == 16);
-        // Behind the last of some blocks, past the end is no refusal.
+        // A whole file ends with the first block that is past the end: no refusal.
         let refused = end.as_ref().map(|end| end.kept);
-        let refused = refused.filter(|&kept| kept != 3 || runs.is_empty());
-        let (answer, status) = match (changed, refused) {
+        let refused = refused.filter(|&kept| index.is_some() || kept != 3);
+        let (answer, status) = match (any_changed(&runs, &end), refused) {
             (true, _) => (16, 1),
             (false, Some(kept)) => (kept, 2),
             (false, None) => (15, 0),
         };
         Expected {
+            cards,
+            index,
             answer,
             status,
             runs,
@@ -76,68 +71,28 @@ impl Expected {
         }
     }
 
+    /// Whether every block was compared.
+    pub fn whole(&self) -> bool {
+        self.index.is_none()
+    }
+
     /// How many blocks have this answer.
-    pub fn count(&self, answer: u32) -> u64 {
+    fn count(&self, answer: u32) -> u64 {
         let runs = self.runs.iter();
         let of_answer = runs.filter(|run| run.compared.answer == answer);
         of_answer
             .map(|run| u64::from(run.last - run.first + 1))
             .sum()
     }
-
-    pub fn expect(&self, json: &Json) {
-        assert_eq!(json["same"].number(), self.count(15), "same in {json:?}");
-        let changed = json["changed"].number();
-        assert_eq!(changed, self.count(16), "changed in {json:?}");
-        let runs = json["runs"].list();
-        assert_eq!(runs.len(), self.runs.len(), "runs in {json:?}");
-        for (json, run) in runs.iter().zip(&self.runs) {
-            let ends = ["first", "last"].map(|key| json[key].number());
-            assert_eq!(ends, [run.first, run.last].map(u64::from), "{json:?}");
-            expect_difference(json, run.compared, 2);
-        }
-        assert_eq!(json.get("end").is_some(), self.end.is_some());
-        if let Some(end) = &self.end {
-            let json = &json["end"];
-            let numbers = ["index", "kept"].map(|key| json[key].number());
-            assert_eq!(numbers, [end.index, end.kept].map(u64::from), "{json:?}");
-            expect_difference(json, end.compared, 2);
-        }
-    }
 }
 
-/// An answer with its difference, if there is one, in an object that has so many other keys.
-fn expect_difference(json: &Json, compared: Compared, others: usize) {
-    let answer = json["answer"].number();
-    assert_eq!(answer, u64::from(compared.answer), "{json:?}");
-    assert_eq!(json["meaning"].text(), meaning("compare", compared.answer));
-    if compared.answer == 15 {
-        assert_eq!(json.keys().len(), others + 2, "keys of {json:?}");
-        return;
-    }
-    assert_eq!(json.keys().len(), others + 5, "keys of {json:?}");
-    let difference = ["kind", "number"].map(|key| json[key].number());
-    let expected = [compared.kind, compared.number].map(u64::from);
-    assert_eq!(difference, expected, "{json:?}");
-    let words = json["difference"].text();
-    assert!(
-        names_difference(words, compared),
-        "{words} for {compared:?}"
-    );
+fn any_changed(runs: &[Run], end: &Option<End>) -> bool {
+    let ends = end.iter().map(|end| end.compared);
+    let mut all = runs.iter().map(|run| run.compared).chain(ends);
+    all.any(|compared| compared.answer == 16)
 }
 
-/// Whether words name the bounds of the main area, a node's number or a block.
-pub fn names_difference(words: &str, compared: Compared) -> bool {
-    let number = compared.number.to_string();
-    let mut parts = words.split(|letter: char| !letter.is_ascii_digit());
-    match compared.kind {
-        1 => words.contains("main area"),
-        2 => words.contains("node") && parts.any(|part| part == number),
-        _ => words.contains("block") && parts.any(|part| part == number),
-    }
-}
-
-fn compared(kept: &Image, fresh: &Image, outcome: &Outcome) -> Compared {
+fn compared([kept, fresh]: [&Image; 2], outcome: &Outcome) -> Compared {
     compare(
         kept.bytes(),
         fresh.bytes(),
@@ -156,5 +111,138 @@ fn extend(runs: &mut Vec<Run>, index: u32, compared: Compared) {
             last: index,
             compared,
         }),
+    }
+}
+
+/// As JSON.
+impl Expected<'_> {
+    pub fn expect_json(&self, json: &Json) {
+        let counts = ["same", "changed"].map(|key| json[key].number());
+        assert_eq!(
+            counts,
+            [15, 16].map(|answer| self.count(answer)),
+            "{json:?}"
+        );
+        let runs = json["runs"].list();
+        assert_eq!(runs.len(), self.runs.len(), "runs in {json:?}");
+        for (json, run) in runs.iter().zip(&self.runs) {
+            self.expect_object(
+                json,
+                [("first", run.first), ("last", run.last)],
+                run.compared,
+            );
+        }
+        assert_eq!(json.get("end").is_some(), self.end.is_some(), "{json:?}");
+        if let Some(end) = &self.end {
+            let numbers = [("index", end.index), ("kept", end.kept)];
+            self.expect_object(&json["end"], numbers, end.compared);
+        }
+    }
+
+    /// A run or the end: two numbers, then an answer with its difference, if there is one.
+    fn expect_object(&self, json: &Json, numbers: [(&str, u32); 2], compared: Compared) {
+        for (key, number) in numbers.into_iter().chain([("answer", compared.answer)]) {
+            assert_eq!(json[key].number(), u64::from(number), "{key} in {json:?}");
+        }
+        assert_eq!(json["meaning"].text(), meaning("compare", compared.answer));
+        if compared.answer == 15 {
+            assert_eq!(json.keys().len(), 4, "keys of {json:?}");
+            return;
+        }
+        assert_eq!(json.keys().len(), 7, "keys of {json:?}");
+        let difference = ["kind", "number"].map(|key| json[key].number());
+        assert_eq!(difference, [compared.kind, compared.number].map(u64::from));
+        self.expect_difference(json["difference"].text(), compared);
+    }
+
+    /// Words for the bounds of the main area, a node's number or a block, with what is there now.
+    fn expect_difference(&self, words: &str, compared: Compared) {
+        let number = compared.number;
+        let parts = match compared.kind {
+            1 => vec!["main area".to_string()],
+            2 => self.of_table(number),
+            _ => self.of_block(number),
+        };
+        for part in parts {
+            assert!(words.contains(&part), "no '{part}' in '{words}'");
+        }
+    }
+
+    fn of_table(&self, number: u32) -> Vec<String> {
+        let entries = self.cards.map(|card| node_lookup(card.bytes(), number));
+        let [before, now] = entries.map(|entry| {
+            let (inode, block) = entry.expect("an entry");
+            format!("inode {inode}, block {block}")
+        });
+        vec![
+            format!("node {number} "),
+            format!("{before} before"),
+            format!("{now} now"),
+        ]
+    }
+
+    fn of_block(&self, number: u32) -> Vec<String> {
+        let [before, now] = self.cards.map(|card| card.block(number));
+        let mut bytes = before.iter().zip(now).enumerate();
+        let (at, (before, now)) = bytes.find(|(_, (before, now))| before != now).unwrap();
+        vec![
+            format!("block {number} "),
+            format!("byte {at} "),
+            format!("0x{before:02x} before, 0x{now:02x} now"),
+        ]
+    }
+}
+
+/// In words.
+impl Expected<'_> {
+    pub fn expect_words(&self, words: &str) {
+        let mut lines = words.lines();
+        let whole = self.whole() && !self.runs.is_empty();
+        let [same, changed] = [15, 16].map(|answer| self.count(answer));
+        if whole {
+            let first = lines.next().expect("a line");
+            let counts = match (self.answer, same) {
+                (15, 1) => "the only block is".to_string(),
+                (15, _) => format!("all {same} blocks are"),
+                _ => format!("{same} of {} block", same + changed),
+            };
+            assert!(first.contains(&format!(": {counts}")), "in {words}");
+        }
+        let told = if whole && self.answer == 15 {
+            Vec::new()
+        } else {
+            self.told()
+        };
+        assert_eq!(lines.clone().count(), told.len(), "lines of {words}");
+        for (line, (start, compared)) in lines.zip(told) {
+            let verdict = line.split_once(&start).map(|(_, verdict)| verdict);
+            let verdict = verdict.unwrap_or_else(|| panic!("no '{start}' in '{line}'"));
+            match verdict.split_once("changed: ") {
+                Some((_, difference)) if compared.answer == 16 => {
+                    self.expect_difference(difference, compared);
+                }
+                // Why a file is inline may be told in between.
+                _ => {
+                    let same = verdict == "same" || verdict.ends_with("; same");
+                    assert!(same && compared.answer == 15, "{compared:?} in '{line}'");
+                }
+            }
+        }
+    }
+
+    /// What stands before each verdict. The end of a whole file isn't told behind its blocks.
+    fn told(&self) -> Vec<(String, Compared)> {
+        let run = |run: &Run| {
+            let start = if run.first == run.last {
+                format!("block {}: ", run.first)
+            } else {
+                format!("blocks {} to {}: ", run.first, run.last)
+            };
+            (start, run.compared)
+        };
+        let told = |end: &&End| end.kept != 3 || self.runs.is_empty();
+        let end = self.end.iter().filter(told);
+        let end = end.map(|end| (format!("(answer {}); ", end.kept), end.compared));
+        self.runs.iter().map(run).chain(end).collect()
     }
 }

@@ -4,10 +4,10 @@ use std::fs;
 use std::sync::Arc;
 
 use harptimber_tests::layout::BLOCK_SIZE;
-use harptimber_tests::program::{run, run_on_terminal, OnDisk};
+use harptimber_tests::program::{run, run_on_terminal, OnDisk, Words};
 use harptimber_tests::program_card::{ProgramCard, Put, Shared, OUTSIDE};
 use harptimber_tests::program_page::{expect_head, expect_name, meaning, shown};
-use harptimber_tests::published::{filled_on, File, Scratch};
+use harptimber_tests::published::{filled_on, File};
 use harptimber_tests::trial::Random;
 
 static CARD: Shared<ProgramCard> = Shared::new();
@@ -159,20 +159,22 @@ fn refused() {
     }
 }
 
-/// Whether there is something on standard error, which is a terminal or not.
+/// Progress is shown where it can be seen and doesn't disturb: if standard error is a terminal and
+/// standard output isn't.
 #[test]
 fn progress() {
     let card = published();
+    let path = card.disk.path();
+    let output = card.disk.scratch.0.join("progress");
     let (name, bytes) = card.files.last().unwrap();
     let name = std::str::from_utf8(name).unwrap();
-    let output = card.disk.scratch.0.join("progress");
-    let path = card.disk.path();
-    let ran = run_on_terminal(&[&"cat", &path, &name], Some(&output)).expect(0);
+    let words: Words = &[&"cat", &path, &name];
+    let shown = run_on_terminal(words, Some(&output)).expect(0);
     expect_bytes(name.as_bytes(), &fs::read(&output).unwrap(), bytes);
-    assert!(
-        ran.words().contains(|c: char| c.is_ascii_digit()),
-        "{ran:?}"
-    );
-    let ran = run_on_terminal(&[&"cat", &path, &"-o", &output, &"4097"], None).expect(0);
-    assert_eq!(ran.words(), "", "a small file's progress");
+    let digits = |letter: char| letter.is_ascii_digit();
+    assert!(shown.words().contains(digits), "no progress: {shown:?}");
+    let both = run_on_terminal(words, None).expect(0);
+    expect_bytes(name.as_bytes(), &both.out, bytes);
+    let small = run_on_terminal(&[&"cat", &path, &"4097"], Some(&output)).expect(0);
+    assert_eq!(small.words(), "", "a small file's progress");
 }

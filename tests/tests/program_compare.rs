@@ -9,7 +9,7 @@ use harptimber_tests::layout::superblock::SEGMENT_COUNT_MAIN;
 use harptimber_tests::layout::BLOCK_SIZE;
 use harptimber_tests::program::{run, OnDisk, Words};
 use harptimber_tests::program_card::{ProgramCard, EMPTY, LONG, NAMES, OUTSIDE, ROAD};
-use harptimber_tests::program_compares::{names_difference, Expected};
+use harptimber_tests::program_compares::Expected;
 use harptimber_tests::program_page::{expect_head, expect_name, shown};
 
 /// A kept card and a new one, which are the same but for what a test changes.
@@ -65,24 +65,23 @@ impl Cards {
 
     fn expect_at(&self, name: &[u8], index: Option<u32>) -> i32 {
         let images = [&self.kept.disk.image, &self.fresh.image];
-        let expected = Expected::of(images[0], images[1], name, index);
+        let expected = Expected::of(images, name, index);
         let paths = [self.kept.disk.path(), self.fresh.path()];
-        let index = index.map(|index| index.to_string()).unwrap_or_default();
-        let index = index.as_str();
-        let words: Words = &[
-            &"compare", &"--json", &"--", &paths[0], &paths[1], &name, &index,
-        ];
-        let words = if index.is_empty() { &words[..6] } else { words };
-        let ran = run(words).expect(expected.status);
-        assert_eq!(ran.err, "", "of {ran:?}");
-        let json = ran.json();
+        let index = index.unwrap_or(0);
+        let words: Words = &[&"compare", &"--", &paths[0], &paths[1], &name, &index];
+        let words = &words[..words.len() - usize::from(expected.whole())];
+        let in_words = run(words).expect(expected.status);
+        expected.expect_words(in_words.words());
+        let as_json = run(&[&[&"--json" as _], words].concat()).expect(expected.status);
+        let json = as_json.json();
         expect_head(&json, "compare", expected.answer);
         expect_name(&json, name);
         let shown = ["kept", "new"].map(|key| json[key].text().to_string());
         assert_eq!(shown, paths.map(|path| path.to_str().unwrap().to_string()));
         assert!(json.get("side").is_none(), "a side in {json:?}");
-        expected.expect(&json);
-        ran.status
+        expected.expect_json(&json);
+        assert_eq!(in_words.err + &as_json.err, "");
+        expected.status
     }
 }
 
@@ -103,7 +102,7 @@ fn same_path_twice() {
         .json();
     expect_head(&json, "compare", 15);
     let image = &kept.disk.image;
-    Expected::of(image, image, ROAD, None).expect(&json);
+    Expected::of([image, image], ROAD, None).expect_json(&json);
 }
 
 /// One byte in each of some blocks; in the last one behind the file's end, which a pull reads too.
@@ -210,4 +209,5 @@ fn empty_file() {
     assert_eq!(cards.expect(EMPTY), 1, "grown");
     cards.undo();
     assert_eq!(cards.expect_at(EMPTY, Some(0)), 2, "no block 0");
+    assert_eq!(cards.expect_at(EMPTY, None), 0, "still empty");
 }

@@ -45,6 +45,13 @@ fn missing() {
 }
 
 #[test]
+fn empty() {
+    let empty = card().disk.scratch.0.join("empty.img");
+    File::create(&empty).unwrap();
+    expect_unreadable(&empty, run);
+}
+
+#[test]
 fn folder() {
     expect_unreadable(&card().disk.scratch.0, run);
 }

@@ -94,7 +94,6 @@ fn expect_installed(folder: &Path, prefix: &Path, variables: &[String], sysroot:
     assert_eq!(files_below(folder), BTreeSet::new(), "left by uninstall");
 }
 
-#[test]
 fn below_a_prefix() {
     let scratch = Scratch::new();
     let prefix = scratch.0.join("prefix");
@@ -103,7 +102,6 @@ fn below_a_prefix() {
 }
 
 /// As a package is made: installed below a folder that isn't part of the paths.
-#[test]
 fn below_a_destination() {
     let scratch = Scratch::new();
     let variables = [
@@ -112,11 +110,18 @@ fn below_a_destination() {
     ];
     let prefix = scratch.0.join("opt/harptimber");
     expect_installed(&scratch.0, &prefix, &variables, Some(&scratch.0));
-    // Another program that was there stays.
+    // What somebody else has put there stays.
     let other = prefix.join("bin/other");
     fs::create_dir_all(other.parent().unwrap()).unwrap();
     fs::write(&other, "").unwrap();
     make("install", &variables);
     make("uninstall", &variables);
     assert!(other.is_file(), "uninstall took another file away");
+}
+
+/// One after the other: they make the same files in host/target.
+#[test]
+fn installed() {
+    below_a_prefix();
+    below_a_destination();
 }

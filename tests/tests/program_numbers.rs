@@ -8,9 +8,9 @@ use reference::place::file_place;
 
 use harptimber_tests::json::Json;
 use harptimber_tests::names::good_name;
-use harptimber_tests::program::{run, Ran, Words};
-use harptimber_tests::program_card::{ProgramCard, Shared, NAMES, ROAD};
-use harptimber_tests::program_page::{expect_head, expect_name, meaning, status_of};
+use harptimber_tests::program::{run, Words};
+use harptimber_tests::program_card::{ProgramCard, Shared, NAMES};
+use harptimber_tests::program_page::{expect_head, expect_name, status_of};
 use harptimber_tests::tree::{last_index, sample_indexes};
 use harptimber_tests::trial::Random;
 

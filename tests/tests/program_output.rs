@@ -5,6 +5,7 @@ use std::os::unix::fs::symlink;
 use std::path::PathBuf;
 use std::sync::Arc;
 
+use harptimber_tests::json::Json;
 use harptimber_tests::program::{run, run_to, Words};
 use harptimber_tests::program_card::{ProgramCard, Shared, ROAD};
 
@@ -34,6 +35,25 @@ fn pulled_bytes() {
             assert_eq!(bytes, road.block(&card.card.image, index));
         }
     }
+}
+
+/// Standard output by its usual name has the bytes alone; what else there is to say goes beside them.
+#[test]
+fn to_standard_output() {
+    let card = card();
+    let (image, path) = (&card.card.image, card.disk.path());
+    let road = card.file(ROAD);
+    let last = run(&[&"pull", &"-o", &"-", &path, &ROAD, &"5"]).expect(0);
+    assert!(last.out == road.block(image, 5), "bytes of {last:?}");
+    assert!(last.err.contains("(answer 0), 100 bytes"), "{last:?}");
+    let whole = run(&[&"cat", &"--output=-", &path, &ROAD]).expect(0);
+    assert!(whole.out == road.bytes(image), "bytes of {whole:?}");
+    assert_eq!(whole.err, "");
+    let whole = run(&[&"cat", &"--json", &"-o", &"-", &path, &ROAD]).expect(0);
+    assert!(whole.out == road.bytes(image), "bytes of {whole:?}");
+    let json = Json::parse(&whole.err).expect("an object");
+    assert_eq!(json["bytes"].number(), road.size);
+    assert_eq!(json["output"].text(), "-");
 }
 
 /// A refused pull touches no file and makes none.
@@ -96,7 +116,7 @@ fn onto_the_image() {
             &[&"cat", &"--json", &"-o", &image, &output, &ROAD],
         ];
         for line in lines {
-            run(line).expect_message(2, &["card.img"]);
+            run(line).expect_message(2, &[".img"]);
             assert!(
                 fs::read(&image).unwrap() == card.card.image.bytes(),
                 "image written to"

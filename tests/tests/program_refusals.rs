@@ -56,7 +56,6 @@ impl Images {
         let whole = sound().bytes().len() as u64;
         let most = u64::from(MOST_BLOCKS) * block;
         for len in [
-            0,
             1,
             block,
             2 * block - 1,
@@ -150,7 +149,10 @@ fn in_words() {
         for line in lines {
             let ran = run(line).expect(2);
             let text = format!("{}{}", ran.words(), ran.err);
-            for part in [&answer.to_string(), &meaning("pull", *answer)] {
+            // Of all that can be out of shape, only what is.
+            let meaning = meaning("pull", *answer);
+            let meaning = meaning.split(": ").next().unwrap();
+            for part in [&format!("(answer {answer})"), meaning] {
                 assert!(text.contains(part), "no '{part}' in {ran:?}");
             }
         }
@@ -166,6 +168,10 @@ fn expect_side(kept: &PathBuf, new: &PathBuf, answer: u32, side: u64) {
         assert_eq!(json["side"].number(), side, "side in {json:?}");
         assert!(json.get("runs").is_none_or(|runs| runs.list().is_empty()));
         assert!(json.get("end").is_none(), "an end in {json:?}");
+        let ran = run(&[&[&"compare" as _], line].concat()).expect(2);
+        let named = [kept, new].map(|path| ran.words().contains(path.to_str().unwrap()));
+        assert!(named[side as usize - 1], "not named: {ran:?}");
+        assert!(kept == new || named[0] != named[1], "both named: {ran:?}");
     }
 }
 
@@ -181,15 +187,14 @@ fn sides() {
     }
 }
 
-/// Lengths come first, then the kept image, then the new one.
+/// If neither opens, it is the kept one that is named.
 #[test]
-fn order_of_sides() {
+fn both_sides() {
     let images = Images::new();
-    for kept in 5..=8 {
-        let kept_path = images.path_with(kept);
-        expect_side(&kept_path, &images.path_with(4), 4, 2);
+    for kept in 4..=8 {
         for new in 5..=8 {
-            expect_side(&kept_path, &images.path_with(new), kept, 1);
+            let paths = [kept, new].map(|answer| images.path_with(answer));
+            expect_side(&paths[0], &paths[1], kept, 1);
         }
     }
 }
@@ -205,7 +210,8 @@ fn bad_names() {
         let json = refused("pull", &[&path, &name, &"0"], 4);
         expect_name(&json, &name);
         refused("cat", &[&"-o", &output, &path, &name], 4);
-        refused("compare", &[&path, &path, &name], 4);
+        let json = refused("compare", &[&path, &path, &name], 4);
+        assert!(json.get("side").is_none_or(|side| side.number() == 0));
     }
     assert_eq!(fs::read(&output).unwrap(), b"kept");
 }
