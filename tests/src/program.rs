@@ -82,9 +82,23 @@ pub fn run(words: Words) -> Ran {
 }
 
 /// With its standard output going to a file that is there.
-pub fn run_to(path: &str, words: Words) -> Ran {
+pub fn run_to(path: &Path, words: Words) -> Ran {
     let file = File::options().write(true).open(path);
-    ran(&mut command(words), file.expect(path).into())
+    ran(&mut command(words), file.expect("a file").into())
+}
+
+/// With the first byte of its output read, and something done while the rest waits behind a full pipe.
+pub fn run_meanwhile(words: Words, meanwhile: impl FnOnce()) -> Ran {
+    let mut command = command(words);
+    let mut child = started(&mut command, Stdio::piped());
+    let mut pipe = child.stdout.take().unwrap();
+    let err = reading(child.stderr.take().unwrap());
+    let mut first = [0];
+    pipe.read_exact(&mut first).expect("a first byte");
+    meanwhile();
+    let rest = in_time(&mut child, reading(pipe));
+    let err = in_time(&mut child, err);
+    ended(&command, child, [&first[..], &rest].concat(), err)
 }
 
 /// On a terminal, which is both standard output and standard error; with a file, only standard error.
@@ -178,14 +192,14 @@ pub fn ran(command: &mut Command, stdout: Stdio) -> Ran {
     )
 }
 
-pub fn started(command: &mut Command, stdout: Stdio) -> Child {
+fn started(command: &mut Command, stdout: Stdio) -> Child {
     command.stdin(Stdio::null()).stdout(stdout);
     let child = command.stderr(Stdio::piped()).spawn();
     child.unwrap_or_else(|error| panic!("{command:?}: {error}"))
 }
 
 /// What a run left that has closed its output.
-pub fn ended(command: &Command, mut child: Child, out: Vec<u8>, err: Vec<u8>) -> Ran {
+fn ended(command: &Command, mut child: Child, out: Vec<u8>, err: Vec<u8>) -> Ran {
     let status = child.wait().expect("the status of a run");
     let line = format!("{command:?}");
     let code = status.code();
@@ -198,7 +212,7 @@ pub fn ended(command: &Command, mut child: Child, out: Vec<u8>, err: Vec<u8>) ->
 }
 
 /// Reads all of a pipe beside what else goes on.
-pub fn reading(mut pipe: impl Read + Send + 'static) -> Receiver<Vec<u8>> {
+fn reading(mut pipe: impl Read + Send + 'static) -> Receiver<Vec<u8>> {
     let (sender, receiver) = channel();
     thread::spawn(move || {
         let mut bytes = Vec::new();
@@ -210,7 +224,7 @@ pub fn reading(mut pipe: impl Read + Send + 'static) -> Receiver<Vec<u8>> {
 }
 
 /// What was read, if the run ends in time.
-pub fn in_time(child: &mut Child, bytes: Receiver<Vec<u8>>) -> Vec<u8> {
+fn in_time(child: &mut Child, bytes: Receiver<Vec<u8>>) -> Vec<u8> {
     bytes.recv_timeout(LIMIT).unwrap_or_else(|_| {
         child.kill().expect("a run to end");
         panic!("a run took longer than {LIMIT:?}")

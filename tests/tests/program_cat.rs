@@ -63,7 +63,7 @@ fn published_files() {
     for (name, bytes) in &card.files {
         let ran = run(&[&"cat", &card.disk.path(), name]);
         if bytes.len() <= LONGEST_INLINE {
-            ran.expect_message(2, &[&meaning("cat", 12), "12"]);
+            ran.expect_message(2, &[&meaning("cat", 12), "(answer 12)"]);
             continue;
         }
         let ran = ran.expect(0);
@@ -119,7 +119,12 @@ fn refused_on_the_way() {
     let before = &card.outside.bytes(&card.card.image)[..2 * BLOCK_SIZE];
     let ran = run(&[&"cat", &path, &OUTSIDE]).expect(2);
     expect_bytes(OUTSIDE, &ran.out, before);
-    for part in ["block 2", "13", &meaning("cat", 13)] {
+    for part in [
+        "block 2:",
+        "(answer 13)",
+        &meaning("cat", 13),
+        " 8192 bytes",
+    ] {
         assert!(ran.err.contains(part), "no '{part}' in {ran:?}");
     }
     let output = card.disk.scratch.0.join("refused_on_the_way");
@@ -141,8 +146,8 @@ fn refused() {
     for (name, index, answer) in &card.refused {
         let ran = run(&[&"cat", &path, name]).expect(2);
         assert_eq!(ran.out.len(), *index as usize * BLOCK_SIZE, "of {ran:?}");
-        for part in [&format!("{answer}"), &meaning("cat", *answer)] {
-            assert!(ran.err.contains(part.as_str()), "no '{part}' in {ran:?}");
+        for part in [&format!("(answer {answer})"), &meaning("cat", *answer)] {
+            assert!(ran.err.contains(part), "no '{part}' in {ran:?}");
         }
         fs::write(&kept, "kept").unwrap();
         let ran = run(&[&"cat", &"--json", &"-o", &kept, &path, name]).expect(2);
@@ -159,8 +164,7 @@ fn refused() {
     }
 }
 
-/// Progress is shown where it can be seen and doesn't disturb: if standard error is a terminal and
-/// standard output isn't.
+/// Progress is shown if standard error is a terminal and the bytes don't go to one.
 #[test]
 fn progress() {
     let card = published();
@@ -169,10 +173,14 @@ fn progress() {
     let (name, bytes) = card.files.last().unwrap();
     let name = std::str::from_utf8(name).unwrap();
     let words: Words = &[&"cat", &path, &name];
-    let shown = run_on_terminal(words, Some(&output)).expect(0);
-    expect_bytes(name.as_bytes(), &fs::read(&output).unwrap(), bytes);
-    let digits = |letter: char| letter.is_ascii_digit();
-    assert!(shown.words().contains(digits), "no progress: {shown:?}");
+    let to_file: Words = &[&"cat", &"-o", &output, &path, &name];
+    for (words, redirected) in [(words, Some(output.as_path())), (to_file, None)] {
+        let shown = run_on_terminal(words, redirected).expect(0);
+        expect_bytes(name.as_bytes(), &fs::read(&output).unwrap(), bytes);
+        let total = format!("{} MiB", bytes.len().div_ceil(1 << 20));
+        assert!(shown.words().contains(&total), "progress of {shown:?}");
+        fs::remove_file(&output).unwrap();
+    }
     let both = run_on_terminal(words, None).expect(0);
     expect_bytes(name.as_bytes(), &both.out, bytes);
     let small = run_on_terminal(&[&"cat", &path, &"4097"], Some(&output)).expect(0);

@@ -1,12 +1,13 @@
 //! Files that can't be read or written: a message that names the file, and nothing else happens.
 
 use std::fs::{self, File};
-use std::io::Read;
+use std::io::Write;
 use std::os::unix::ffi::OsStrExt;
 use std::os::unix::fs::{MetadataExt, PermissionsExt};
 use std::path::Path;
 use std::process::{Command, Stdio};
 use std::sync::Arc;
+use std::time::SystemTime;
 
 use harptimber_tests::program::*;
 use harptimber_tests::program_card::{ProgramCard, Shared, LONG, ROAD};
@@ -46,20 +47,23 @@ fn missing() {
 
 #[test]
 fn empty() {
-    let empty = card().disk.scratch.0.join("empty.img");
+    let card = card();
+    let empty = card.disk.scratch.0.join("empty.img");
     File::create(&empty).unwrap();
     expect_unreadable(&empty, run);
 }
 
 #[test]
 fn folder() {
-    expect_unreadable(&card().disk.scratch.0, run);
+    let card = card();
+    expect_unreadable(&card.disk.scratch.0, run);
 }
 
 /// Nobody writes to it: opening it mustn't wait.
 #[test]
 fn fifo() {
-    let fifo = card().disk.scratch.0.join("fifo");
+    let card = card();
+    let fifo = card.disk.scratch.0.join("fifo");
     let made = Command::new("mkfifo").arg(&fifo).status().expect("mkfifo");
     assert!(made.success());
     expect_unreadable(&fifo, run);
@@ -115,26 +119,27 @@ fn paths_in_json() {
     }
 }
 
-/// Of a file so long that most of it waits behind a full pipe, the image is cut off.
+/// A copy of the card, long unchanged, and what is expected if something is done to it while a file is
+/// read: so long a file that most of it still waits then.
+fn expect_disturbed(name: &str, disturb: impl FnOnce(&mut File), part: &str) {
+    let card = card();
+    let image = card.disk.scratch.0.join(name);
+    fs::copy(card.disk.path(), &image).unwrap();
+    let mut file = File::options().write(true).open(&image).unwrap();
+    file.set_modified(SystemTime::UNIX_EPOCH).unwrap();
+    let ran = run_meanwhile(&[&"cat", &image, &LONG], || disturb(&mut file)).expect(2);
+    for part in [image.to_str().unwrap(), part] {
+        assert!(ran.err.contains(part), "no '{part}' in {ran:?}");
+    }
+}
+
 #[test]
 fn image_cut_while_it_is_read() {
-    let card = card();
-    let image = card.disk.scratch.0.join("cut.img");
-    fs::copy(card.disk.path(), &image).unwrap();
-    let mut command = command(&[&"cat", &image, &LONG]);
-    let mut child = started(&mut command, Stdio::piped());
-    let mut out = child.stdout.take().unwrap();
-    let err = reading(child.stderr.take().unwrap());
-    out.read_exact(&mut [0]).expect("the first byte");
-    let file = File::options().write(true).open(&image).unwrap();
-    file.set_len(0).expect("an empty image");
-    let rest = reading(out);
-    let rest = in_time(&mut child, rest);
-    let err = in_time(&mut child, err);
-    let ran = ended(&command, child, Vec::new(), err);
-    assert!(
-        rest.len() < card.file(LONG).size as usize - 1,
-        "not cut in time"
-    );
-    ran.expect_message(2, &[image.to_str().unwrap()]);
+    expect_disturbed("cut.img", |file| file.set_len(0).unwrap(), "cut short");
+}
+
+#[test]
+fn image_written_while_it_is_read() {
+    let write = |file: &mut File| file.write_all(b"new").unwrap();
+    expect_disturbed("written.img", write, "was written");
 }

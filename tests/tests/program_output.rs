@@ -2,11 +2,12 @@
 
 use std::fs;
 use std::os::unix::fs::symlink;
-use std::path::PathBuf;
+use std::path::{Path, PathBuf};
+use std::process::{Command, Stdio};
 use std::sync::Arc;
 
 use harptimber_tests::json::Json;
-use harptimber_tests::program::{run, run_to, Words};
+use harptimber_tests::program::{command, ran, run, run_to, Words};
 use harptimber_tests::program_card::{ProgramCard, Shared, ROAD};
 
 static CARD: Shared<ProgramCard> = Shared::new();
@@ -117,11 +118,33 @@ fn onto_the_image() {
         ];
         for line in lines {
             run(line).expect_message(2, &[".img"]);
-            assert!(
-                fs::read(&image).unwrap() == card.card.image.bytes(),
-                "image written to"
-            );
+            expect_untouched(&card);
         }
+    }
+    run_to(&image, &[&"cat", &image, &ROAD]).expect_message(2, &["card image itself"]);
+    expect_untouched(&card);
+}
+
+fn expect_untouched(card: &ProgramCard) {
+    let bytes = fs::read(card.disk.path()).unwrap();
+    assert!(bytes == card.card.image.bytes(), "image written to");
+}
+
+/// With no standard files at all, nothing but the bytes gets into the files that are opened then.
+#[test]
+fn closed_standard_files() {
+    let card = card();
+    let output = card.disk.scratch.0.join("closed_standard_files");
+    let words: Words = &[&"pull", &"-o", &output, &card.disk.path(), &ROAD, &"5"];
+    let pull = command(words);
+    for (closed, status) in [("<&-", 0), (">&-", 2), ("2>&-", 0), ("<&- >&- 2>&-", 2)] {
+        let line = format!("exec \"$@\" {closed}");
+        let mut shell = Command::new("sh");
+        shell.args(["-c", &line, "sh"]).arg(pull.get_program());
+        ran(shell.args(pull.get_args()), Stdio::piped()).expect(status);
+        let bytes = card.file(ROAD).block(&card.card.image, 5);
+        assert_eq!(fs::read(&output).unwrap(), bytes, "with {closed}");
+        expect_untouched(&card);
     }
 }
 
@@ -163,7 +186,7 @@ fn full_standard_output() {
         &[&"--version"],
     ];
     for line in lines {
-        let ran = run_to("/dev/full", line).expect(2);
+        let ran = run_to(Path::new("/dev/full"), line).expect(2);
         assert!(!ran.err.is_empty(), "no message of {ran:?}");
     }
 }

@@ -127,7 +127,8 @@ fn as_json() {
         let json = refused("cat", &[&"-o", &output, path, &NAME], *answer);
         assert_eq!(json["index"].number() + json["bytes"].number(), 0);
         let json = refused("node", &[path, &"3"], *answer);
-        assert_eq!(json["number"].number(), 3);
+        let numbers = ["number", "inode", "address"].map(|key| json[key].number());
+        assert_eq!(numbers, [3, 0, 0]);
         assert_eq!(json["image"].text(), path.to_str().unwrap());
         assert!(!output.exists(), "output of a refused image");
     }
@@ -166,7 +167,8 @@ fn expect_side(kept: &PathBuf, new: &PathBuf, answer: u32, side: u64) {
         let json = refused("compare", line, answer);
         expect_name(&json, NAME);
         assert_eq!(json["side"].number(), side, "side in {json:?}");
-        assert!(json.get("runs").is_none_or(|runs| runs.list().is_empty()));
+        assert_eq!(json["runs"].list().len(), 0, "runs in {json:?}");
+        assert_eq!(json["same"].number() + json["changed"].number(), 0);
         assert!(json.get("end").is_none(), "an end in {json:?}");
         let ran = run(&[&[&"compare" as _], line].concat()).expect(2);
         let named = [kept, new].map(|path| ran.words().contains(path.to_str().unwrap()));
@@ -211,7 +213,7 @@ fn bad_names() {
         expect_name(&json, &name);
         refused("cat", &[&"-o", &output, &path, &name], 4);
         let json = refused("compare", &[&path, &path, &name], 4);
-        assert!(json.get("side").is_none_or(|side| side.number() == 0));
+        assert_eq!(json["side"].number(), 0, "side of a name in {json:?}");
     }
     assert_eq!(fs::read(&output).unwrap(), b"kept");
 }
