@@ -13,6 +13,7 @@ pub mod layout;
 pub mod lent;
 pub mod lookups;
 pub mod names;
+pub mod on_disk;
 pub mod program;
 pub mod program_card;
 pub mod program_compares;

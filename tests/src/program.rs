@@ -3,7 +3,7 @@
 use std::ffi::{OsStr, OsString};
 use std::fmt::{Debug, Formatter, Result};
 use std::fs::File;
-use std::io::{Read, Seek, SeekFrom, Write};
+use std::io::Read;
 use std::os::unix::ffi::OsStringExt;
 use std::path::{Path, PathBuf};
 use std::process::{Child, Command, Stdio};
@@ -11,10 +11,7 @@ use std::sync::mpsc::{channel, Receiver};
 use std::thread;
 use std::time::Duration;
 
-use crate::image::Image;
 use crate::json::Json;
-use crate::layout::BLOCK_SIZE;
-use crate::published::Scratch;
 
 /// So long may a run take.
 const LIMIT: Duration = Duration::from_secs(20);
@@ -115,10 +112,11 @@ pub fn run_on_terminal(words: Words, output: Option<&Path>) -> Ran {
     if let Some(output) = output {
         line = format!("{line} > {}", quoted(output.as_os_str()));
     }
-    let mut ran = ran(
-        Command::new("script").args(["-qec", &line, "/dev/null"]),
-        Stdio::piped(),
-    );
+    let mut script = Command::new("script");
+    script
+        .args(["-qec", &line, "/dev/null"])
+        .env("SHELL", "/bin/sh");
+    let mut ran = ran(&mut script, Stdio::piped());
     ran.out = without_returns(&ran.out);
     ran
 }
@@ -127,7 +125,8 @@ pub fn run_on_terminal(words: Words, output: Option<&Path>) -> Ran {
 fn without_returns(out: &[u8]) -> Vec<u8> {
     let lines: Vec<&[u8]> = out.split(|&byte| byte == b'\n').collect();
     let last = lines.len() - 1;
-    let ends = lines[..last].iter().map(|line| &line[..line.len() - 1]);
+    let ended = lines[..last].iter();
+    let ends = ended.map(|line| line.strip_suffix(b"\r").unwrap_or(line));
     ends.chain([lines[last]]).collect::<Vec<_>>().join(&b'\n')
 }
 
@@ -229,49 +228,4 @@ fn in_time(child: &mut Child, bytes: Receiver<Vec<u8>>) -> Vec<u8> {
         child.kill().expect("a run to end");
         panic!("a run took longer than {LIMIT:?}")
     })
-}
-
-/// An image that is also a file.
-pub struct OnDisk {
-    pub image: Image,
-    pub scratch: Scratch,
-}
-
-impl OnDisk {
-    pub fn new(image: Image) -> OnDisk {
-        let on_disk = OnDisk {
-            image,
-            scratch: Scratch::new(),
-        };
-        write_sparse(&on_disk.path(), on_disk.image.bytes());
-        on_disk
-    }
-
-    pub fn path(&self) -> PathBuf {
-        self.scratch.0.join("card.img")
-    }
-
-    /// Writes the blocks anew that a test has changed in the image.
-    pub fn write_blocks(&self, blocks: &[u32]) {
-        let file = File::options().write(true).open(self.path());
-        let mut file = file.expect("the image");
-        for &block in blocks {
-            let place = u64::from(block) * BLOCK_SIZE as u64;
-            file.seek(SeekFrom::Start(place)).expect("its place");
-            file.write_all(self.image.block(block)).expect("its bytes");
-        }
-    }
-}
-
-/// Writes a file without room for blocks of zeros.
-pub fn write_sparse(path: &Path, bytes: &[u8]) {
-    let mut file = File::create(path).expect("an image file");
-    file.set_len(bytes.len() as u64).expect("its length");
-    for (n, block) in bytes.chunks(BLOCK_SIZE).enumerate() {
-        if block.iter().any(|&byte| byte != 0) {
-            let place = (n * BLOCK_SIZE) as u64;
-            file.seek(SeekFrom::Start(place)).expect("its place");
-            file.write_all(block).expect("its bytes");
-        }
-    }
 }

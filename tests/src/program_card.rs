@@ -2,7 +2,7 @@
 //! pull after opening.
 
 use std::collections::BTreeMap;
-use std::sync::{Arc, Mutex, PoisonError, Weak};
+use std::sync::Arc;
 
 use reference::hash::raw_hash;
 
@@ -12,7 +12,7 @@ use crate::image::Image;
 use crate::layout::inode::{ADDRESSES, INLINE_DATA, I_MODE, S_IFDIR};
 use crate::layout::{footer, BLOCK_SIZE};
 use crate::lent::Lent;
-use crate::program::OnDisk;
+use crate::on_disk::{OnDisk, Shared};
 use crate::pulls::{reference_pull, Call, Outcome};
 use crate::scene::small_knobs;
 use crate::trial::Random;
@@ -83,7 +83,7 @@ pub struct ProgramCard {
 }
 
 impl ProgramCard {
-    pub fn new() -> ProgramCard {
+    pub fn build() -> ProgramCard {
         let mut random = Random::new(11);
         let knobs = small_knobs(&mut random);
         let mut card = Card::new(knobs, random);
@@ -125,10 +125,10 @@ impl ProgramCard {
     }
 }
 
-impl Default for ProgramCard {
-    fn default() -> ProgramCard {
-        ProgramCard::new()
-    }
+/// The card that the tests of a file share.
+pub fn shared_card() -> Arc<ProgramCard> {
+    static CARD: Shared<ProgramCard> = Shared::empty();
+    CARD.get(ProgramCard::build)
 }
 
 /// A pull by the reference.
@@ -246,24 +246,4 @@ fn malformed_level(card: &mut Card) -> [String; 2] {
     let block = card.bucket_block(1, 1, 0);
     card.image.put_dentry(block, 213, &too_long);
     names
-}
-
-/// Something that tests share as long as one of them uses it.
-pub struct Shared<T>(Mutex<Weak<T>>);
-
-impl<T> Shared<T> {
-    #[allow(clippy::new_without_default)]
-    pub const fn new() -> Shared<T> {
-        Shared(Mutex::new(Weak::new()))
-    }
-
-    pub fn get(&self, make: impl FnOnce() -> T) -> Arc<T> {
-        let held = self.0.lock();
-        let mut held = held.unwrap_or_else(PoisonError::into_inner);
-        held.upgrade().unwrap_or_else(|| {
-            let made = Arc::new(make());
-            *held = Arc::downgrade(&made);
-            made
-        })
-    }
 }

@@ -5,6 +5,7 @@ use reference::lookup::node_lookup;
 
 use crate::image::Image;
 use crate::json::Json;
+use crate::layout::footer;
 use crate::program_card::pulled;
 use crate::program_page::meaning;
 use crate::pulls::Outcome;
@@ -181,12 +182,22 @@ impl Expected<'_> {
         ]
     }
 
+    /// Of a block that is a node's, its number too.
+    fn node_in(&self, block: u32) -> String {
+        let kept = self.cards[0];
+        let nid = kept.get(block, footer::NID) as u32;
+        match node_lookup(kept.bytes(), nid) {
+            Ok((_, address)) if address == block => format!(" (node {nid})"),
+            _ => String::new(),
+        }
+    }
+
     fn of_block(&self, number: u32) -> Vec<String> {
         let [before, now] = self.cards.map(|card| card.block(number));
         let mut bytes = before.iter().zip(now).enumerate();
         let (at, (before, now)) = bytes.find(|(_, (before, now))| before != now).unwrap();
         vec![
-            format!("block {number} "),
+            format!("block {number}{} has ", self.node_in(number)),
             format!("byte {at} "),
             format!("0x{before:02x} before, 0x{now:02x} now"),
         ]
@@ -240,9 +251,12 @@ impl Expected<'_> {
             };
             (start, run.compared)
         };
-        let told = |end: &&End| end.kept != 3 || self.runs.is_empty();
-        let end = self.end.iter().filter(told);
-        let end = end.map(|end| (format!("(answer {}); ", end.kept), end.compared));
+        let end = |end: &End| match (end.kept, self.whole(), self.runs.is_empty()) {
+            (3, true, false) => None,
+            (3, true, true) => Some(("empty file; ".to_string(), end.compared)),
+            (kept, ..) => Some((format!("(answer {kept}); "), end.compared)),
+        };
+        let end = self.end.iter().filter_map(end);
         self.runs.iter().map(run).chain(end).collect()
     }
 }

@@ -6,7 +6,7 @@ use crate::json::Json;
 use crate::program::host;
 
 /// The keys that each command's JSON may have beside `command`, `answer` and `meaning`.
-const KEYS: [(&str, &[&str]); 6] = [
+pub const KEYS: [(&str, &[&str]); 6] = [
     (
         "pull",
         &[

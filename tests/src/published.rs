@@ -20,7 +20,7 @@ pub type File = (Vec<u8>, Vec<u8>);
 pub struct Scratch(pub PathBuf);
 
 impl Scratch {
-    pub fn new() -> Scratch {
+    pub fn create() -> Scratch {
         static MADE: AtomicU32 = AtomicU32::new(0);
         let made = MADE.fetch_add(1, Ordering::Relaxed);
         let folder = Path::new(env!("CARGO_MANIFEST_DIR")).join("target/tmp");
@@ -98,14 +98,14 @@ fn run(command: &mut Command) {
 }
 
 pub fn formatted(megabytes: usize, options: &str) -> Image {
-    let scratch = Scratch::new();
+    let scratch = Scratch::create();
     scratch.format(megabytes, options);
     scratch.image(format!("mkfs.f2fs {options} of {megabytes} MB"))
 }
 
 /// An image with these files in its root directory.
 pub fn filled_with(megabytes: usize, options: &str, files: &[File]) -> Image {
-    let scratch = Scratch::new();
+    let scratch = Scratch::create();
     scratch.format(megabytes, options);
     scratch.fill(None, files);
     scratch.image(format!(
@@ -116,7 +116,7 @@ pub fn filled_with(megabytes: usize, options: &str, files: &[File]) -> Image {
 /// The same with one date everywhere and, by -r, without a random version in each node. Two such cards
 /// differ where their files do, and in the volume's name.
 pub fn filled_on(megabytes: usize, date: u32, files: &[File]) -> Image {
-    let scratch = Scratch::new();
+    let scratch = Scratch::create();
     let options = format!("-r -T {date}");
     scratch.format(megabytes, &options);
     scratch.fill(Some(date), files);

@@ -4,17 +4,12 @@ use std::fs;
 use std::sync::Arc;
 
 use harptimber_tests::layout::BLOCK_SIZE;
-use harptimber_tests::program::{run, run_on_terminal, OnDisk, Words};
-use harptimber_tests::program_card::{ProgramCard, Put, Shared, OUTSIDE};
+use harptimber_tests::on_disk::{OnDisk, Shared};
+use harptimber_tests::program::{run, run_on_terminal, Words};
+use harptimber_tests::program_card::{shared_card, Put, OUTSIDE};
 use harptimber_tests::program_page::{expect_head, expect_name, meaning, shown};
 use harptimber_tests::published::{filled_on, File};
 use harptimber_tests::trial::Random;
-
-static CARD: Shared<ProgramCard> = Shared::new();
-
-fn card() -> Arc<ProgramCard> {
-    CARD.get(ProgramCard::new)
-}
 
 /// Files up to this size stand in their inode, which isn't read.
 const LONGEST_INLINE: usize = 3344;
@@ -38,7 +33,7 @@ struct Published {
     files: Vec<File>,
 }
 
-static PUBLISHED: Shared<Published> = Shared::new();
+static PUBLISHED: Shared<Published> = Shared::empty();
 
 fn published() -> Arc<Published> {
     PUBLISHED.get(|| {
@@ -75,7 +70,7 @@ fn published_files() {
 /// Holes, odd names and an empty file.
 #[test]
 fn built_files() {
-    let card = card();
+    let card = shared_card();
     for file in &card.files {
         let ran = run(&[&"cat", &"--", &card.disk.path(), &file.name]).expect(0);
         assert_eq!(ran.err, "", "of {ran:?}");
@@ -90,7 +85,7 @@ fn holes(file: &Put) -> u64 {
 /// To a file that had more bytes before.
 #[test]
 fn json_with_output() {
-    let card = card();
+    let card = shared_card();
     let (image, path) = (&card.card.image, card.disk.path());
     let output = card.disk.scratch.0.join("json_with_output");
     for file in &card.files {
@@ -114,7 +109,7 @@ fn json_with_output() {
 /// What comes before the block that is refused is written, and the message names that block.
 #[test]
 fn refused_on_the_way() {
-    let card = card();
+    let card = shared_card();
     let path = card.disk.path();
     let before = &card.outside.bytes(&card.card.image)[..2 * BLOCK_SIZE];
     let ran = run(&[&"cat", &path, &OUTSIDE]).expect(2);
@@ -140,7 +135,7 @@ fn refused_on_the_way() {
 /// Refused behind many holes, and at the first block. Then no file is written.
 #[test]
 fn refused() {
-    let card = card();
+    let card = shared_card();
     let path = card.disk.path();
     let kept = card.disk.scratch.0.join("refused");
     for (name, index, answer) in &card.refused {

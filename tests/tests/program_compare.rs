@@ -7,10 +7,13 @@ use harptimber_tests::layout::inode::I_SIZE;
 use harptimber_tests::layout::nat::BLOCK_ADDR;
 use harptimber_tests::layout::superblock::SEGMENT_COUNT_MAIN;
 use harptimber_tests::layout::BLOCK_SIZE;
-use harptimber_tests::program::{run, OnDisk, Words};
+use harptimber_tests::on_disk::OnDisk;
+use harptimber_tests::program::{run, Words};
 use harptimber_tests::program_card::{ProgramCard, EMPTY, LONG, NAMES, OUTSIDE, ROAD};
 use harptimber_tests::program_compares::Expected;
 use harptimber_tests::program_page::{expect_head, expect_name, shown};
+use harptimber_tests::published::{filled_on, File};
+use harptimber_tests::trial::Random;
 
 /// A kept card and a new one, which are the same but for what a test changes.
 struct Cards {
@@ -20,7 +23,7 @@ struct Cards {
 
 impl Cards {
     fn new() -> Cards {
-        let kept = ProgramCard::new();
+        let kept = ProgramCard::build();
         let fresh = OnDisk::new(kept.disk.image.clone());
         Cards { kept, fresh }
     }
@@ -95,7 +98,7 @@ fn same() {
 
 #[test]
 fn same_path_twice() {
-    let kept = ProgramCard::new();
+    let kept = ProgramCard::build();
     let path = kept.disk.path();
     let json = run(&[&"compare", &"--json", &path, &path, &ROAD])
         .expect(0)
@@ -103,6 +106,31 @@ fn same_path_twice() {
     expect_head(&json, "compare", 15);
     let image = &kept.disk.image;
     Expected::of([image, image], ROAD, None).expect_json(&json);
+}
+
+/// Cards that the published tools write before and after a change of two bytes.
+#[test]
+fn published_cards() {
+    let mut random = Random::new(7);
+    let mut table = random.bytes(30 * BLOCK_SIZE + 7);
+    let road: File = (b"road".to_vec(), random.bytes(900 * BLOCK_SIZE));
+    let card = |table: &[u8]| {
+        let files = [(b"table".to_vec(), table.to_vec()), road.clone()];
+        OnDisk::new(filled_on(100, 1_700_000_000, &files))
+    };
+    let kept = card(&table);
+    table[3 * BLOCK_SIZE] ^= 1;
+    table[30 * BLOCK_SIZE + 6] ^= 1;
+    let fresh = card(&table);
+    for (name, status) in [("table", 1), ("road", 0)] {
+        let cards = [&kept.image, &fresh.image];
+        let expected = Expected::of(cards, name.as_bytes(), None);
+        assert_eq!(expected.status, status, "of {name}");
+        let words: Words = &[&"compare", &kept.path(), &fresh.path(), &name];
+        expected.expect_words(run(words).expect(status).words());
+        let ran = run(&[words, &[&"--json"]].concat()).expect(status);
+        expected.expect_json(&ran.json());
+    }
 }
 
 /// One byte in each of some blocks; in the last one behind the file's end, which a pull reads too.

@@ -6,22 +6,15 @@ use std::os::unix::ffi::OsStrExt;
 use std::os::unix::fs::{MetadataExt, PermissionsExt};
 use std::path::Path;
 use std::process::{Command, Stdio};
-use std::sync::Arc;
 use std::time::SystemTime;
 
 use harptimber_tests::program::*;
-use harptimber_tests::program_card::{ProgramCard, Shared, LONG, ROAD};
+use harptimber_tests::program_card::{shared_card, LONG, ROAD};
 use harptimber_tests::program_page::shown;
-
-static CARD: Shared<ProgramCard> = Shared::new();
-
-fn card() -> Arc<ProgramCard> {
-    CARD.get(ProgramCard::new)
-}
 
 /// Runs each command on an image that can't be read.
 fn expect_unreadable(bad: &Path, run: impl Fn(Words) -> Ran) {
-    let card = card();
+    let card = shared_card();
     let (good, bad) = (card.disk.path(), bad.to_path_buf());
     let lines: [Words; 7] = [
         &[&"pull", &bad, &ROAD, &"0"],
@@ -39,7 +32,7 @@ fn expect_unreadable(bad: &Path, run: impl Fn(Words) -> Ran) {
 
 #[test]
 fn missing() {
-    let card = card();
+    let card = shared_card();
     expect_unreadable(&card.disk.scratch.0.join("missing.img"), run);
     expect_unreadable(&card.disk.path().join("below a file"), run);
     expect_unreadable(Path::new(&"long/".repeat(2000)), run);
@@ -47,7 +40,7 @@ fn missing() {
 
 #[test]
 fn empty() {
-    let card = card();
+    let card = shared_card();
     let empty = card.disk.scratch.0.join("empty.img");
     File::create(&empty).unwrap();
     expect_unreadable(&empty, run);
@@ -55,14 +48,14 @@ fn empty() {
 
 #[test]
 fn folder() {
-    let card = card();
+    let card = shared_card();
     expect_unreadable(&card.disk.scratch.0, run);
 }
 
 /// Nobody writes to it: opening it mustn't wait.
 #[test]
 fn fifo() {
-    let card = card();
+    let card = shared_card();
     let fifo = card.disk.scratch.0.join("fifo");
     let made = Command::new("mkfifo").arg(&fifo).status().expect("mkfifo");
     assert!(made.success());
@@ -92,7 +85,7 @@ fn run_without_privilege(words: Words) -> Ran {
 
 #[test]
 fn no_permission() {
-    let card = card();
+    let card = shared_card();
     let image = card.disk.scratch.0.join("no permission.img");
     fs::copy(card.disk.path(), &image).unwrap();
     let allow = |mode| fs::set_permissions(&image, PermissionsExt::from_mode(mode)).unwrap();
@@ -107,7 +100,7 @@ fn no_permission() {
 /// Paths that JSON can't have as they are.
 #[test]
 fn paths_in_json() {
-    let card = card();
+    let card = shared_card();
     let names: [&[u8]; 3] = [b"a \"b\" \\ c\n.img", b"caf\xE9.img", b"-o"];
     for name in names {
         let image = card.disk.scratch.0.join(name.word());
@@ -122,7 +115,7 @@ fn paths_in_json() {
 /// A copy of the card, long unchanged, and what is expected if something is done to it while a file is
 /// read: so long a file that most of it still waits then.
 fn expect_disturbed(name: &str, disturb: impl FnOnce(&mut File), part: &str) {
-    let card = card();
+    let card = shared_card();
     let image = card.disk.scratch.0.join(name);
     fs::copy(card.disk.path(), &image).unwrap();
     let mut file = File::options().write(true).open(&image).unwrap();

@@ -88,14 +88,14 @@ fn expect_installed(folder: &Path, prefix: &Path, variables: &[String], sysroot:
     assert!(same, "another program");
     let version = ran(Command::new(&installed[0]).arg("--version"), Stdio::piped());
     version.expect(0);
-    let scratch = Scratch::new();
+    let scratch = Scratch::create();
     expect_library(prefix, sysroot, &scratch.0);
     make("uninstall", variables);
     assert_eq!(files_below(folder), BTreeSet::new(), "left by uninstall");
 }
 
 fn below_a_prefix() {
-    let scratch = Scratch::new();
+    let scratch = Scratch::create();
     let prefix = scratch.0.join("prefix");
     let variables = [format!("PREFIX={}", prefix.display())];
     expect_installed(&scratch.0, &prefix, &variables, None);
@@ -103,7 +103,7 @@ fn below_a_prefix() {
 
 /// As a package is made: installed below a folder that isn't part of the paths.
 fn below_a_destination() {
-    let scratch = Scratch::new();
+    let scratch = Scratch::create();
     let variables = [
         "PREFIX=/opt/harptimber".to_string(),
         format!("DESTDIR={}", scratch.0.display()),

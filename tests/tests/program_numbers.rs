@@ -1,7 +1,5 @@
 //! `harptimber node`, `place` and `hash`, against the reference.
 
-use std::sync::Arc;
-
 use reference::hash::name_hash;
 use reference::lookup::node_lookup;
 use reference::place::file_place;
@@ -9,16 +7,10 @@ use reference::place::file_place;
 use harptimber_tests::json::Json;
 use harptimber_tests::names::good_name;
 use harptimber_tests::program::{run, Words};
-use harptimber_tests::program_card::{ProgramCard, Shared, NAMES};
+use harptimber_tests::program_card::{shared_card, ProgramCard, NAMES};
 use harptimber_tests::program_page::{expect_head, expect_name, status_of};
 use harptimber_tests::tree::{last_index, sample_indexes};
 use harptimber_tests::trial::Random;
-
-static CARD: Shared<ProgramCard> = Shared::new();
-
-fn card() -> Arc<ProgramCard> {
-    CARD.get(ProgramCard::new)
-}
 
 /// Runs a command for its JSON, which has to have this answer.
 fn json_of(command: &'static str, words: Words, answer: u32) -> Json {
@@ -104,7 +96,7 @@ fn node_numbers(card: &ProgramCard) -> Vec<u32> {
 
 #[test]
 fn nodes() {
-    let card = card();
+    let card = shared_card();
     let path = card.disk.path();
     for number in node_numbers(&card) {
         let entry = node_lookup(card.card.image.bytes(), number);

@@ -4,22 +4,15 @@ use std::fs;
 use std::os::unix::fs::symlink;
 use std::path::{Path, PathBuf};
 use std::process::{Command, Stdio};
-use std::sync::Arc;
 
 use harptimber_tests::json::Json;
 use harptimber_tests::program::{command, ran, run, run_to, Words};
-use harptimber_tests::program_card::{ProgramCard, Shared, ROAD};
-
-static CARD: Shared<ProgramCard> = Shared::new();
-
-fn card() -> Arc<ProgramCard> {
-    CARD.get(ProgramCard::new)
-}
+use harptimber_tests::program_card::{shared_card, ProgramCard, ROAD};
 
 /// Bytes up to the byte count, whatever the file had before.
 #[test]
 fn pulled_bytes() {
-    let card = card();
+    let card = shared_card();
     let road = card.file(ROAD);
     let output = card.disk.scratch.0.join("pulled_bytes");
     let option = format!("--output={}", output.display());
@@ -41,7 +34,7 @@ fn pulled_bytes() {
 /// Standard output by its usual name has the bytes alone; what else there is to say goes beside them.
 #[test]
 fn to_standard_output() {
-    let card = card();
+    let card = shared_card();
     let (image, path) = (&card.card.image, card.disk.path());
     let road = card.file(ROAD);
     let last = run(&[&"pull", &"-o", &"-", &path, &ROAD, &"5"]).expect(0);
@@ -60,7 +53,7 @@ fn to_standard_output() {
 /// A refused pull touches no file and makes none.
 #[test]
 fn refused_pulls() {
-    let card = card();
+    let card = shared_card();
     let output = card.disk.scratch.0.join("refused_pulls");
     let refused = card
         .refused
@@ -107,7 +100,7 @@ fn image_paths(card: &ProgramCard) -> Vec<PathBuf> {
 /// The image isn't written to, however it is named.
 #[test]
 fn onto_the_image() {
-    let card = ProgramCard::new();
+    let card = ProgramCard::build();
     let image = card.disk.path();
     for output in image_paths(&card) {
         let lines: [Words; 4] = [
@@ -133,7 +126,7 @@ fn expect_untouched(card: &ProgramCard) {
 /// With no standard files at all, nothing but the bytes gets into the files that are opened then.
 #[test]
 fn closed_standard_files() {
-    let card = card();
+    let card = shared_card();
     let output = card.disk.scratch.0.join("closed_standard_files");
     let words: Words = &[&"pull", &"-o", &output, &card.disk.path(), &ROAD, &"5"];
     let pull = command(words);
@@ -151,7 +144,7 @@ fn closed_standard_files() {
 /// What can't be written is named.
 #[test]
 fn unwritable() {
-    let card = card();
+    let card = shared_card();
     let folder = card.disk.scratch.0.clone();
     let below = folder.join("missing").join("output");
     for output in [PathBuf::from("/dev/full"), folder, below] {
@@ -169,7 +162,7 @@ fn unwritable() {
 /// Output that gets lost is a failure, of every command.
 #[test]
 fn full_standard_output() {
-    let card = card();
+    let card = shared_card();
     let path = card.disk.path();
     let lines: [Words; 12] = [
         &[&"pull", &path, &ROAD, &"0"],

@@ -5,7 +5,8 @@ use std::fs;
 
 use harptimber_tests::image::Image;
 use harptimber_tests::layout::BLOCK_SIZE;
-use harptimber_tests::program::{run, OnDisk};
+use harptimber_tests::on_disk::OnDisk;
+use harptimber_tests::program::run;
 use harptimber_tests::program_card::{pulled, ProgramCard};
 use harptimber_tests::program_page::{expect_head, expect_name, status_of};
 use harptimber_tests::published::{filled_on, File};
@@ -43,7 +44,7 @@ fn expect_json(disk: &OnDisk, image: &Image, name: &[u8], index: u32) -> u32 {
 /// Each answer from 0 to 3 and from 9 to 14, and names that JSON can't have as they are.
 #[test]
 fn every_answer() {
-    let card = ProgramCard::new();
+    let card = ProgramCard::build();
     let calls = card.calls().into_iter();
     let answers: BTreeSet<u32> = calls
         .map(|(name, index)| expect_json(&card.disk, &card.card.image, &name, index))

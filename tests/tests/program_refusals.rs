@@ -10,7 +10,8 @@ use harptimber_tests::layout::checkpoint::{CHECKSUM, CKPT_FLAGS, CP_LARGE_NAT_BI
 use harptimber_tests::layout::journal::N_NATS;
 use harptimber_tests::layout::superblock::{CP_PAYLOAD, FEATURE, MAGIC};
 use harptimber_tests::layout::BLOCK_SIZE;
-use harptimber_tests::program::{run, write_sparse, OnDisk, Words};
+use harptimber_tests::on_disk::{write_sparse, OnDisk};
+use harptimber_tests::program::{run, Words};
 use harptimber_tests::program_page::{expect_head, expect_name, meaning};
 use harptimber_tests::published::{formatted, Scratch};
 
@@ -36,7 +37,7 @@ struct Images {
 impl Images {
     fn new() -> Images {
         let mut images = Images {
-            scratch: Scratch::new(),
+            scratch: Scratch::create(),
             unopened: Vec::new(),
         };
         images.add_lengths();

@@ -1,21 +1,14 @@
 //! What `harptimber` says in words and shows on a terminal.
 
 use std::fs;
-use std::sync::Arc;
 
 use reference::hash::raw_hash;
 use reference::lookup::node_lookup;
 use reference::place::file_place;
 
 use harptimber_tests::program::{run, run_on_terminal, Ran, Words};
-use harptimber_tests::program_card::{ProgramCard, Shared, NAMES, REPEATING, ROAD};
+use harptimber_tests::program_card::{shared_card, NAMES, REPEATING, ROAD};
 use harptimber_tests::program_page::{meaning, status_of};
-
-static CARD: Shared<ProgramCard> = Shared::new();
-
-fn card() -> Arc<ProgramCard> {
-    CARD.get(ProgramCard::new)
-}
 
 /// Runs for words, the first line of which has the answer. A name's control bytes mustn't get through.
 fn words_of(command: &'static str, words: Words, answer: u32) -> Ran {
@@ -41,14 +34,15 @@ fn numbers_of(ran: &Ran, start: &str) -> Option<Vec<u32>> {
 
 #[test]
 fn pulls() {
-    let card = card();
+    let card = shared_card();
     let path = card.disk.path();
     for (name, index) in card.calls() {
         let outcome = card.pulled(&name, index);
         let answer = outcome.pulled.answer;
         let ran = words_of("pull", &[&"--", &path, &name, &index], answer);
-        assert_eq!(numbers_of(&ran, "nodes:"), None, "of {ran:?}");
-        assert_eq!(numbers_of(&ran, "blocks:"), None, "of {ran:?}");
+        for list in ["nodes:", "blocks:"] {
+            assert_eq!(numbers_of(&ran, list), None, "of {ran:?}");
+        }
         assert!(
             hex_view(&ran).is_none(),
             "bytes without a terminal: {ran:?}"
@@ -70,7 +64,7 @@ fn pulls() {
 
 #[test]
 fn lookups() {
-    let card = card();
+    let card = shared_card();
     let path = card.disk.path();
     let end = card.card.node_numbers;
     for number in [0, 1, 3, card.file(ROAD).ino, end - 1, end] {
@@ -110,7 +104,7 @@ fn hashes() {
 /// What is out of shape, instead of all that could be.
 #[test]
 fn out_of_shape() {
-    let card = card();
+    let card = shared_card();
     let long = vec![b'x'; 256];
     let lines: [(Words, &str); 6] = [
         (&[&"hash", &"a/b"], "slash"),
@@ -151,7 +145,7 @@ fn hex_view(ran: &Ran) -> Option<Vec<u8>> {
 
 #[test]
 fn hexadecimal_on_a_terminal() {
-    let card = card();
+    let card = shared_card();
     let path = card.disk.path();
     for name in ["road.bin", "repeating", "one byte", "4095", "4096", "4097"] {
         let file = card.file(name.as_bytes());
@@ -167,7 +161,7 @@ fn hexadecimal_on_a_terminal() {
 /// A hole, a refusal, an object, and bytes that go elsewhere.
 #[test]
 fn nothing_in_hexadecimal() {
-    let card = card();
+    let card = shared_card();
     let path = card.disk.path();
     let output = card.disk.scratch.0.join("nothing_in_hexadecimal");
     let lines: [(Words, i32); 5] = [

@@ -1,0 +1,74 @@
+//! Images as files, for the tests of the program.
+
+use std::fs::File;
+use std::io::{Seek, SeekFrom, Write};
+use std::path::{Path, PathBuf};
+use std::sync::{Arc, Mutex, PoisonError, Weak};
+
+use crate::image::Image;
+use crate::layout::BLOCK_SIZE;
+use crate::published::Scratch;
+
+/// An image that is also a file.
+pub struct OnDisk {
+    pub image: Image,
+    pub scratch: Scratch,
+}
+
+impl OnDisk {
+    pub fn new(image: Image) -> OnDisk {
+        let on_disk = OnDisk {
+            image,
+            scratch: Scratch::create(),
+        };
+        write_sparse(&on_disk.path(), on_disk.image.bytes());
+        on_disk
+    }
+
+    pub fn path(&self) -> PathBuf {
+        self.scratch.0.join("card.img")
+    }
+
+    /// Writes the blocks anew that a test has changed in the image.
+    pub fn write_blocks(&self, blocks: &[u32]) {
+        let file = File::options().write(true).open(self.path());
+        let mut file = file.expect("the image");
+        for &block in blocks {
+            let place = u64::from(block) * BLOCK_SIZE as u64;
+            file.seek(SeekFrom::Start(place)).expect("its place");
+            file.write_all(self.image.block(block)).expect("its bytes");
+        }
+    }
+}
+
+/// Writes a file without room for blocks of zeros.
+pub fn write_sparse(path: &Path, bytes: &[u8]) {
+    let mut file = File::create(path).expect("an image file");
+    file.set_len(bytes.len() as u64).expect("its length");
+    for (n, block) in bytes.chunks(BLOCK_SIZE).enumerate() {
+        if block.iter().any(|&byte| byte != 0) {
+            let place = (n * BLOCK_SIZE) as u64;
+            file.seek(SeekFrom::Start(place)).expect("its place");
+            file.write_all(block).expect("its bytes");
+        }
+    }
+}
+
+/// Something that tests share as long as one of them uses it.
+pub struct Shared<T>(Mutex<Weak<T>>);
+
+impl<T> Shared<T> {
+    pub const fn empty() -> Shared<T> {
+        Shared(Mutex::new(Weak::new()))
+    }
+
+    pub fn get(&self, make: impl FnOnce() -> T) -> Arc<T> {
+        let held = self.0.lock();
+        let mut held = held.unwrap_or_else(PoisonError::into_inner);
+        held.upgrade().unwrap_or_else(|| {
+            let made = Arc::new(make());
+            *held = Arc::downgrade(&made);
+            made
+        })
+    }
+}
