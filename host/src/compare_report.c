@@ -20,7 +20,7 @@ static void show_block_difference(FILE *out, const struct comparison *c, const s
 {
     const uint8_t *before = c->kept.bytes + (size_t)run->verdict.number * BLOCK_SIZE;
     const uint8_t *now = c->new.bytes + (size_t)run->verdict.number * BLOCK_SIZE;
-    fprintf(out, "block %" PRIu32, run->verdict.number);
+    fprintf(out, "the card's block %" PRIu32, run->verdict.number);
     if (run->node != 0)
         fprintf(out, " (node %" PRIu32 ")", run->node);
     size_t at = 0;
@@ -52,12 +52,20 @@ static void words_verdict(const struct comparison *c, const struct run *run)
     printf("\n");
 }
 
-/* Where the kept card has no block. */
+/* The end of a line on what the kept card has no block for. */
+static void words_still(const struct comparison *c)
+{
+    if (is_changed(&c->end))
+        words_verdict(c, &c->end);
+    else
+        printf("the same on the new card\n");
+}
+
 static void words_end(const struct comparison *c)
 {
     show_answer(stdout, c->last_answer, meaning_of(c->last_answer), &c->kept, c->name);
     printf("; ");
-    words_verdict(c, &c->end);
+    words_still(c);
 }
 
 /* A card that doesn't open, or a bad name. */
@@ -100,7 +108,7 @@ static void words_whole(const struct comparison *c)
     bool all_good = compare_answer(c) == HARPTIMBER_SAME;
     if (total == 0 && to_the_end) {
         printf(": an empty file; ");
-        words_verdict(c, &c->end);
+        words_still(c);
     } else if (total == 0) {
         printf(": ");
         words_end(c);

@@ -45,9 +45,11 @@ bool length_is_in_shape(const struct card *card)
 /* Why a call is out of shape. With neither card nor name it is place's, which has nothing else to refuse. */
 static void show_out_of_shape(FILE *out, const struct card *card, const char *name)
 {
-    if (card != NULL && !length_is_in_shape(card))
-        fprintf(out, "the image has %zu bytes; a card has 2 to 262,144 whole blocks of 4,096", card->len);
-    else if (name == NULL)
+    if (card != NULL && !length_is_in_shape(card)) {
+        fputs("the image has ", out);
+        show_count(out, card->len, "byte");
+        fputs("; a card has 2 to 262,144 whole blocks of 4,096", out);
+    } else if (name == NULL)
         fputs("A has to be 873 or 923", out);
     else if (*name == '\0')
         fputs("the name is empty", out);

@@ -1,17 +1,17 @@
 //! Outside opinions on a card's files: GRUB's reader and dump.f2fs. They are asked beside the project's
 //! own program, each about the same image file.
 
-use std::collections::{BTreeMap, BTreeSet};
+use std::collections::BTreeMap;
 use std::ffi::OsStr;
 use std::fs::{self, File};
 use std::os::unix::ffi::OsStrExt;
 use std::path::{Path, PathBuf};
 use std::process::Command;
-use std::sync::Mutex;
 
 use crate::image::Image;
 use crate::layout::footer;
 use crate::layout::inode::{I_NAME, I_NAMELEN};
+use crate::program::program;
 use crate::published::{run, Scratch};
 use crate::pulls::{lists, Call};
 
@@ -112,7 +112,7 @@ impl CardFile<'_> {
 
     /// `harptimber pull` of a file's first block: how it ends, and what it prints.
     pub fn pull_json(&self, name: &[u8]) -> (Option<i32>, String) {
-        let mut pull = Command::new(built("harptimber"));
+        let mut pull = Command::new(program());
         pull.args(["pull", "--json", "--"]).arg(self.path());
         let output = pull.arg(OsStr::from_bytes(name)).arg("0").output();
         let output = output.expect("the program runs");
@@ -121,7 +121,7 @@ impl CardFile<'_> {
     }
 
     fn cat(&self, name: &[u8]) -> Command {
-        let mut cat = Command::new(built("harptimber"));
+        let mut cat = Command::new(program());
         cat.args(["cat", "--"]).arg(self.path());
         cat.arg(OsStr::from_bytes(name));
         cat
@@ -176,17 +176,4 @@ fn taken(path: &Path) -> Vec<u8> {
     let bytes = fs::read(path).unwrap_or_else(|error| panic!("{}: {error}", path.display()));
     fs::remove_file(path).expect("a file to remove");
     bytes
-}
-
-/// The path of a program or test of the rig's side in C, which is built once if need be.
-pub fn built(name: &'static str) -> PathBuf {
-    static BUILT: Mutex<BTreeSet<&str>> = Mutex::new(BTreeSet::new());
-    let host = Path::new(env!("CARGO_MANIFEST_DIR")).join("../host");
-    let target = Path::new("target").join(name);
-    let mut built = BUILT.lock().expect("no failure in another test's build");
-    if !built.contains(name) {
-        run(Command::new("make").arg("-sC").arg(&host).arg(&target));
-        built.insert(name);
-    }
-    host.join(target)
 }

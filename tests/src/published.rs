@@ -40,7 +40,11 @@ impl Scratch {
         Scratch(folder)
     }
 
-    pub fn path(&self, name: &str) -> PathBuf {
+    pub fn folder(&self) -> &Path {
+        &self.0
+    }
+
+    pub fn path(&self, name: impl AsRef<Path>) -> PathBuf {
         self.0.join(name)
     }
 

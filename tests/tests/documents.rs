@@ -10,6 +10,7 @@ use harptimber_tests::card::Card;
 use harptimber_tests::directory::Dentry;
 use harptimber_tests::image::Image;
 use harptimber_tests::knobs::{Knobs, Pack};
+use harptimber_tests::published::Scratch;
 use harptimber_tests::trial::Random;
 
 fn root() -> PathBuf {
@@ -104,36 +105,12 @@ fn snippet_is_of_the_example() {
     assert!(read("host/example.c").contains(&snippet), "{snippet}");
 }
 
-/// A folder of the test's own, which goes with it.
-struct Folder(PathBuf);
-
-impl Folder {
-    fn new() -> Folder {
-        let folder = Path::new(env!("CARGO_MANIFEST_DIR")).join("target/tmp/documents");
-        fs::create_dir_all(&folder).expect("a folder");
-        Folder(folder)
-    }
-
-    fn put(&self, name: &str, image: &Image) -> PathBuf {
-        let path = self.0.join(name);
-        fs::write(&path, image.bytes()).expect("an image file");
-        path
-    }
-}
-
-impl Drop for Folder {
-    fn drop(&mut self) {
-        // What can't be removed is no fault of the library.
-        let _ = fs::remove_dir_all(&self.0);
-    }
-}
-
 /// The README's own command for it, with the program put into the folder.
-fn build_example(folder: &Folder) -> PathBuf {
+fn build_example(folder: &Scratch) -> PathBuf {
     let readme = read("README.md");
     let command = quoted(&readme).find(|words| words.starts_with("cc -I"));
     let mut words = command.expect("a command").split_whitespace();
-    let program = folder.0.join("example");
+    let program = folder.path("example");
     let output = Command::new(words.next().expect("a compiler"))
         .args(words)
         .arg("-o")
@@ -160,10 +137,11 @@ fn card(byte: u8) -> Image {
 
 #[test]
 fn example_runs() {
-    let folder = Folder::new();
+    let folder = Scratch::new();
     let program = build_example(&folder);
-    let kept = folder.put("kept", &card(b'r'));
-    let changed = folder.put("changed", &card(b's'));
+    let [kept, changed] = ["kept", "changed"].map(|name| folder.path(name));
+    card(b'r').save(&kept);
+    card(b's').save(&changed);
     let run = |fresh: &Path| -> Output {
         let mut command = Command::new(&program);
         command.args([&kept, fresh]).output().expect("the example")
@@ -173,5 +151,5 @@ fn example_runs() {
         assert_eq!(output.status.code(), Some(status), "{}", fresh.display());
         assert_eq!(output.stdout, [b'r'; 100], "{}", fresh.display());
     }
-    assert_eq!(run(&folder.0.join("none")).status.code(), Some(2));
+    assert_eq!(run(&folder.path("none")).status.code(), Some(2));
 }

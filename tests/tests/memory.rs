@@ -13,7 +13,8 @@ use harptimber_tests::layout::dentry::{NAME_LEN, NR_DENTRY_IN_BLOCK};
 use harptimber_tests::layout::inode::{ADDRESSES, I_MODE};
 use harptimber_tests::layout::BLOCK_SIZE;
 use harptimber_tests::node_lookup;
-use harptimber_tests::outside::{built, CardFile};
+use harptimber_tests::outside::CardFile;
+use harptimber_tests::program::{built, program};
 use harptimber_tests::published::{contents, filled_with, File};
 use harptimber_tests::pulls::{lists, Call};
 use harptimber_tests::random_card::pick;
@@ -270,7 +271,7 @@ fn valgrind_on_plants() {
 /// Runs the program under memcheck, which has to end with this status.
 fn expect_status(status: i32, words: &[&OsStr]) -> Vec<u8> {
     let mut command = memcheck();
-    let output = command.arg(built("harptimber")).args(words).output();
+    let output = command.arg(program()).args(words).output();
     let output = output.expect("valgrind runs");
     let said = String::from_utf8_lossy(&output.stderr);
     assert_eq!(output.status.code(), Some(status), "{words:?}: {said}");

@@ -1,0 +1,138 @@
+//! Files that can't be read or written: a message that names the file, and nothing else happens.
+
+use std::fs::{self, File};
+use std::io::Write;
+use std::os::unix::ffi::OsStrExt;
+use std::os::unix::fs::{MetadataExt, PermissionsExt};
+use std::path::Path;
+use std::process::{Command, Stdio};
+use std::time::SystemTime;
+
+use harptimber_tests::program::*;
+use harptimber_tests::program_card::{shared_card, LONG, ROAD};
+use harptimber_tests::program_page::shown;
+
+/// Runs each command on an image that can't be read.
+fn expect_unreadable(bad: &Path, run: impl Fn(Words) -> Ran) {
+    let card = shared_card();
+    let (good, bad) = (card.disk.path(), bad.to_path_buf());
+    let lines: [Words; 7] = [
+        &[&"pull", &bad, &ROAD, &"0"],
+        &[&"pull", &"--json", &bad, &ROAD, &"0"],
+        &[&"cat", &bad, &ROAD],
+        &[&"node", &bad, &"3"],
+        &[&"compare", &good, &bad, &ROAD],
+        &[&"compare", &bad, &good, &ROAD, &"0"],
+        &[&"compare", &"--json", &bad, &bad, &ROAD],
+    ];
+    for line in lines {
+        run(line).expect_message(2, &[bad.to_str().unwrap()]);
+    }
+}
+
+#[test]
+fn missing() {
+    let card = shared_card();
+    expect_unreadable(&card.disk.scratch.path("missing.img"), run);
+    expect_unreadable(&card.disk.path().join("below a file"), run);
+    expect_unreadable(Path::new(&"long/".repeat(2000)), run);
+}
+
+#[test]
+fn empty() {
+    let card = shared_card();
+    let empty = card.disk.scratch.path("empty.img");
+    File::create(&empty).unwrap();
+    expect_unreadable(&empty, run);
+}
+
+#[test]
+fn folder() {
+    let card = shared_card();
+    expect_unreadable(card.disk.scratch.folder(), run);
+}
+
+/// Nobody writes to it: opening it mustn't wait.
+#[test]
+fn fifo() {
+    let card = shared_card();
+    let fifo = card.disk.scratch.path("fifo");
+    let made = Command::new("mkfifo").arg(&fifo).status().expect("mkfifo");
+    assert!(made.success());
+    expect_unreadable(&fifo, run);
+}
+
+#[test]
+fn devices() {
+    for device in ["/dev/null", "/dev/zero", "/dev/full"] {
+        expect_unreadable(Path::new(device), run);
+    }
+}
+
+/// As somebody who may not read what isn't theirs to read, as root may.
+fn run_without_privilege(words: Words) -> Ran {
+    let command = command(words);
+    if fs::metadata("/proc/self").unwrap().uid() != 0 {
+        return run(words);
+    }
+    let mut without = Command::new("setpriv");
+    let none = "-dac_override,-dac_read_search";
+    without.arg(format!("--bounding-set={none}"));
+    without.arg(format!("--inh-caps={none}"));
+    without.arg(command.get_program()).args(command.get_args());
+    ran(&mut without, Stdio::piped())
+}
+
+#[test]
+fn no_permission() {
+    let card = shared_card();
+    let image = card.disk.scratch.path("no permission.img");
+    fs::copy(card.disk.path(), &image).unwrap();
+    let allow = |mode| fs::set_permissions(&image, PermissionsExt::from_mode(mode)).unwrap();
+    allow(0o000);
+    expect_unreadable(&image, run_without_privilege);
+    allow(0o400);
+    run_without_privilege(&[&"pull", &image, &ROAD, &"0"]).expect(0);
+    let words: Words = &[&"pull", &"-o", &image, &card.disk.path(), &ROAD, &"0"];
+    run_without_privilege(words).expect_message(2, &[image.to_str().unwrap()]);
+}
+
+/// Paths that JSON can't have as they are.
+#[test]
+fn paths_in_json() {
+    let card = shared_card();
+    let names: [&[u8]; 3] = [b"a \"b\" \\ c\n.img", b"caf\xE9.img", b"-o"];
+    for name in names {
+        let image = card.disk.scratch.path(name.word());
+        fs::hard_link(card.disk.path(), &image).unwrap();
+        let json = run(&[&"node", &"--json", &"--", &image, &"3"])
+            .expect(0)
+            .json();
+        assert_eq!(json["image"].text(), shown(image.as_os_str().as_bytes()));
+    }
+}
+
+/// A copy of the card, long unchanged, and what is expected if something is done to it while a file is
+/// read: so long a file that most of it still waits then.
+fn expect_disturbed(name: &str, disturb: impl FnOnce(&mut File), part: &str) {
+    let card = shared_card();
+    let image = card.disk.scratch.path(name);
+    fs::copy(card.disk.path(), &image).unwrap();
+    let mut file = File::options().write(true).open(&image).unwrap();
+    file.set_modified(SystemTime::UNIX_EPOCH).unwrap();
+    let ran = run_meanwhile(&[&"cat", &image, &LONG], || disturb(&mut file)).expect(2);
+    for part in [image.to_str().unwrap(), part] {
+        assert!(ran.err.contains(part), "no '{part}' in {ran:?}");
+    }
+}
+
+#[test]
+fn image_cut_while_it_is_read() {
+    expect_disturbed("cut.img", |file| file.set_len(0).unwrap(), "cut short");
+}
+
+#[test]
+fn image_written_while_it_is_read() {
+    let write = |file: &mut File| file.write_all(b"new").unwrap();
+    expect_disturbed("written.img", write, "was written");
+}

@@ -1,0 +1,220 @@
+//! Images that don't open, for every command that takes one: answers 4 to 8.
+
+use std::fs::{self, File};
+use std::path::PathBuf;
+
+use harptimber_tests::image::Image;
+use harptimber_tests::json::Json;
+use harptimber_tests::knobs::{Knobs, MOST_BLOCKS};
+use harptimber_tests::layout::checkpoint::{CHECKSUM, CKPT_FLAGS, CP_LARGE_NAT_BITMAP_FLAG};
+use harptimber_tests::layout::journal::N_NATS;
+use harptimber_tests::layout::superblock::{CP_PAYLOAD, FEATURE, MAGIC};
+use harptimber_tests::layout::BLOCK_SIZE;
+use harptimber_tests::on_disk::OnDisk;
+use harptimber_tests::program::{run, Words};
+use harptimber_tests::program_page::{expect_head, expect_name, meaning};
+use harptimber_tests::published::{formatted, Scratch};
+
+const NAME: &[u8] = b"road.bin";
+
+/// An image file, and the answer that each command gives.
+struct Unopened {
+    path: PathBuf,
+    answer: u32,
+}
+
+/// A card that opens.
+fn sound() -> Image {
+    Image::new(&Knobs::sound())
+}
+
+/// Images in a folder, each under a name that tells what is wrong with it.
+struct Images {
+    scratch: Scratch,
+    unopened: Vec<Unopened>,
+}
+
+impl Images {
+    fn new() -> Images {
+        let mut images = Images {
+            scratch: Scratch::new(),
+            unopened: Vec::new(),
+        };
+        images.add_lengths();
+        images.add_damaged();
+        images.add_published();
+        images
+    }
+
+    fn add(&mut self, name: &str, answer: u32, image: &Image) {
+        let path = self.scratch.path(name);
+        image.save(&path);
+        self.unopened.push(Unopened { path, answer });
+    }
+
+    fn add_lengths(&mut self) {
+        let block = BLOCK_SIZE as u64;
+        let whole = sound().bytes().len() as u64;
+        let most = u64::from(MOST_BLOCKS) * block;
+        for len in [
+            1,
+            block,
+            2 * block - 1,
+            whole - 1,
+            whole + 1,
+            most + 1,
+            most + block,
+        ] {
+            self.add(&format!("{len} bytes"), 4, &sound());
+            let path = &self.unopened.last().unwrap().path;
+            let file = File::options().write(true).open(path).unwrap();
+            file.set_len(len).expect("a length");
+        }
+    }
+
+    fn add_damaged(&mut self) {
+        let pack = sound().first_block(0);
+        let flags = sound().get(pack, CKPT_FLAGS) | u64::from(CP_LARGE_NAT_BITMAP_FLAG);
+        let changes = [
+            ("no mark", 5, vec![(0, MAGIC, 0), (1, MAGIC, 0)]),
+            ("a feature", 6, vec![(0, FEATURE, 1)]),
+            ("a payload", 6, vec![(0, CP_PAYLOAD, 1)]),
+            ("no checksum", 7, vec![(pack, CHECKSUM, 1)]),
+            ("39 in the journal", 8, vec![(pack + 1, N_NATS, 39)]),
+        ];
+        for (name, answer, fields) in changes {
+            let mut image = sound();
+            for (block, field, value) in fields {
+                image.set(block, field, value);
+            }
+            self.add(name, answer, &image);
+        }
+        let mut image = sound();
+        image.set_sealed(pack, CKPT_FLAGS, flags);
+        self.add("a large map", 8, &image);
+    }
+
+    fn add_published(&mut self) {
+        for (options, answer) in [("-O extra_attr", 6), ("-i", 7)] {
+            self.add(options, answer, &formatted(64, options));
+        }
+    }
+
+    fn path_with(&self, answer: u32) -> PathBuf {
+        let mut unopened = self.unopened.iter();
+        let found = unopened.find(|unopened| unopened.answer == answer);
+        found.unwrap().path.clone()
+    }
+}
+
+/// Runs for a JSON object with this answer.
+fn refused(command: &'static str, words: Words, answer: u32) -> Json {
+    let ran = run(&[&[&command as _, &"--json" as _], words].concat()).expect(2);
+    assert_eq!(ran.err, "", "of {ran:?}");
+    let json = ran.json();
+    expect_head(&json, command, answer);
+    json
+}
+
+#[test]
+fn as_json() {
+    let images = Images::new();
+    let output = images.scratch.path("output");
+    for Unopened { path, answer } in &images.unopened {
+        let json = refused("pull", &[path, &NAME, &"7"], *answer);
+        assert_eq!(json["byte_count"].number(), 0);
+        assert_eq!(json["nodes"].list().len() + json["blocks"].list().len(), 0);
+        refused("pull", &[&"-o", &output, path, &NAME, &"7"], *answer);
+        let json = refused("cat", &[&"-o", &output, path, &NAME], *answer);
+        assert_eq!(json["index"].number() + json["bytes"].number(), 0);
+        let json = refused("node", &[path, &"3"], *answer);
+        let numbers = ["number", "inode", "address"].map(|key| json[key].number());
+        assert_eq!(numbers, [3, 0, 0]);
+        assert_eq!(json["image"].text(), path.to_str().unwrap());
+        assert!(!output.exists(), "output of a refused image");
+    }
+    let answers: Vec<u32> = images.unopened.iter().map(|image| image.answer).collect();
+    assert!((4..=8).all(|answer| answers.contains(&answer)));
+}
+
+#[test]
+fn in_words() {
+    let images = Images::new();
+    for Unopened { path, answer } in &images.unopened {
+        let lines: [Words; 5] = [
+            &[&"pull", path, &NAME, &"0"],
+            &[&"pull", &"--lists", path, &NAME, &"0"],
+            &[&"node", path, &"3"],
+            &[&"compare", path, path, &NAME],
+            &[&"cat", path, &NAME],
+        ];
+        for line in lines {
+            let ran = run(line).expect(2);
+            let text = format!("{}{}", ran.words(), ran.err);
+            // Of all that can be out of shape, only what is.
+            let meaning = meaning("pull", *answer);
+            let meaning = meaning.split(": ").next().unwrap();
+            for part in [&format!("(answer {answer})"), meaning] {
+                assert!(text.contains(part), "no '{part}' in {ran:?}");
+            }
+        }
+    }
+}
+
+/// With the side, and no runs.
+fn expect_side(kept: &PathBuf, new: &PathBuf, answer: u32, side: u64) {
+    let lines: [Words; 2] = [&[kept, new, &NAME], &[kept, new, &NAME, &"7"]];
+    for line in lines {
+        let json = refused("compare", line, answer);
+        expect_name(&json, NAME);
+        assert_eq!(json["side"].number(), side, "side in {json:?}");
+        assert_eq!(json["runs"].list().len(), 0, "runs in {json:?}");
+        assert_eq!(json["same"].number() + json["changed"].number(), 0);
+        assert!(json.get("end").is_none(), "an end in {json:?}");
+        let ran = run(&[&[&"compare" as _], line].concat()).expect(2);
+        let named = [kept, new].map(|path| ran.words().contains(path.to_str().unwrap()));
+        assert!(named[side as usize - 1], "not named: {ran:?}");
+        assert!(kept == new || named[0] != named[1], "both named: {ran:?}");
+    }
+}
+
+#[test]
+fn sides() {
+    let images = Images::new();
+    let sound = OnDisk::new(sound());
+    let good = sound.path();
+    for Unopened { path, answer } in &images.unopened {
+        expect_side(path, &good, *answer, 1);
+        expect_side(&good, path, *answer, 2);
+        expect_side(path, path, *answer, 1);
+    }
+}
+
+/// If neither opens, it is the kept one that is named.
+#[test]
+fn both_sides() {
+    let images = Images::new();
+    for kept in 4..=8 {
+        for new in 5..=8 {
+            let paths = [kept, new].map(|answer| images.path_with(answer));
+            expect_side(&paths[0], &paths[1], kept, 1);
+        }
+    }
+}
+
+/// A name that is none, on a card that opens.
+#[test]
+fn bad_names() {
+    let good = OnDisk::new(sound());
+    let path = good.path();
+    let output = good.scratch.path("output");
+    fs::write(&output, "kept").unwrap();
+    for name in [vec![], b"a/b".to_vec(), vec![b'x'; 256]] {
+        let json = refused("pull", &[&path, &name, &"0"], 4);
+        expect_name(&json, &name);
+        refused("cat", &[&"-o", &output, &path, &name], 4);
+        let json = refused("compare", &[&path, &path, &name], 4);
+        assert_eq!(json["side"].number(), 0, "side of a name in {json:?}");
+    }
+    assert_eq!(fs::read(&output).unwrap(), b"kept");
+}
