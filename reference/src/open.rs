@@ -71,7 +71,7 @@ pub fn open(image: &[u8]) -> Result<Volume<'_>, u32> {
 
 /// "An image has whole blocks, 2 to 262,144 of them."
 pub fn is_image_length(length: usize) -> bool {
-    length.is_multiple_of(BLOCK_SIZE) && (2..=262_144).contains(&(length / BLOCK_SIZE))
+    length % BLOCK_SIZE == 0 && (2..=262_144).contains(&(length / BLOCK_SIZE))
 }
 
 /// One superblock copy, as stored.
@@ -169,7 +169,7 @@ impl Superblock {
     }
 
     fn counts_pass(&self) -> bool {
-        let even_pair = |segments: u32| segments >= 2 && segments.is_multiple_of(2);
+        let even_pair = |segments: u32| segments >= 2 && segments % 2 == 0;
         // "inodes 3, 1, 2": root, node and meta
         (self.root_inode, self.node_inode, self.meta_inode) == (3, 1, 2)
             // "checkpoint segments 2"

@@ -339,7 +339,7 @@ fn starts_that_wrap() {
     }
     // All areas so high that they end near 0.
     for blocks in [512, 1024, 2048, 4096, 4608] {
-        let by = -built(&knobs, SEGMENT0_BLKADDR).cast_signed() - blocks;
+        let by = -(built(&knobs, SEGMENT0_BLKADDR) as i64) - blocks;
         let changes = STARTS.map(|start| moved(&knobs, start, by)).to_vec();
         cases.push((changes, false));
     }
