@@ -24,6 +24,7 @@ pub mod published;
 pub mod pulls;
 pub mod random_card;
 pub mod random_files;
+pub mod running;
 pub mod scene;
 pub mod tree;
 pub mod trial;

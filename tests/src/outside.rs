@@ -11,8 +11,8 @@ use std::process::Command;
 use crate::image::Image;
 use crate::layout::footer;
 use crate::layout::inode::{I_NAME, I_NAMELEN};
-use crate::program::program;
-use crate::published::{run, Scratch};
+use crate::program::{self, program, Ran};
+use crate::published::{run, run_given, Scratch};
 use crate::pulls::{lists, Call};
 
 /// What reads files from a card.
@@ -110,14 +110,9 @@ impl CardFile<'_> {
         }
     }
 
-    /// `harptimber pull` of a file's first block: how it ends, and what it prints.
-    pub fn pull_json(&self, name: &[u8]) -> (Option<i32>, String) {
-        let mut pull = Command::new(program());
-        pull.args(["pull", "--json", "--"]).arg(self.path());
-        let output = pull.arg(OsStr::from_bytes(name)).arg("0").output();
-        let output = output.expect("the program runs");
-        let json = String::from_utf8_lossy(&output.stdout);
-        (output.status.code(), json.into_owned())
+    /// `harptimber pull` of a file's first block.
+    pub fn pull_json(&self, name: &[u8]) -> Ran {
+        program::run(&[&"pull", &"--json", &"--", &self.path(), &name, &"0"])
     }
 
     fn cat(&self, name: &[u8]) -> Command {
@@ -148,7 +143,8 @@ impl CardFile<'_> {
         dump.arg("-i")
             .arg(format!("{:#x}", inode_number(self.image, name)));
         dump.arg(self.path()).current_dir(self.scratch.path("."));
-        run(dump.stdin(File::open(self.yes()).expect("a file with an answer")));
+        let yes = File::open(self.yes()).expect("a file with an answer");
+        run_given(&mut dump, yes.into());
         taken(
             &self
                 .scratch

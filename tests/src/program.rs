@@ -1,23 +1,16 @@
-//! Runs of the command-line program `harptimber`. Each has to end by itself, in time and by an exit.
+//! Runs of the command-line program `harptimber`.
 
 use std::collections::BTreeSet;
 use std::ffi::{OsStr, OsString};
-use std::fmt::{Debug, Formatter, Result};
 use std::fs::File;
-use std::io::Read;
 use std::os::unix::ffi::OsStringExt;
 use std::path::{Path, PathBuf};
-use std::process::{Child, Command, Stdio};
-use std::sync::mpsc::{channel, Receiver};
+use std::process::{Command, Stdio};
 use std::sync::Mutex;
-use std::thread;
-use std::time::Duration;
 
-use crate::json::Json;
 use crate::published;
-
-/// So long may a run take.
-const LIMIT: Duration = Duration::from_secs(20);
+use crate::running::started;
+pub use crate::running::{ran, Ran};
 
 /// The folder with the program's Makefile and man page.
 pub fn host() -> PathBuf {
@@ -96,16 +89,19 @@ pub fn run_to(path: &Path, words: Words) -> Ran {
 
 /// With the first byte of its output read, and something done while the rest waits behind a full pipe.
 pub fn run_meanwhile(words: Words, meanwhile: impl FnOnce()) -> Ran {
-    let mut command = command(words);
-    let mut child = started(&mut command, Stdio::piped());
-    let mut pipe = child.stdout.take().unwrap();
-    let err = reading(child.stderr.take().unwrap());
-    let mut first = [0];
-    pipe.read_exact(&mut first).expect("a first byte");
+    let mut running = started(&mut command(words), Stdio::piped());
+    running.first_byte();
     meanwhile();
-    let rest = in_time(&mut child, reading(pipe));
-    let err = in_time(&mut child, err);
-    ended(&command, child, [&first[..], &rest].concat(), err)
+    running.end()
+}
+
+/// With its standard files as a shell redirects them.
+pub fn run_redirected(redirection: &str, words: Words) -> Ran {
+    let command = command(words);
+    let mut shell = Command::new("sh");
+    shell.args(["-c", &format!("exec \"$@\" {redirection}"), "sh"]);
+    shell.arg(command.get_program()).args(command.get_args());
+    ran(&mut shell, Stdio::piped())
 }
 
 /// On a terminal, which is both standard output and standard error; with a file, only standard error.
@@ -138,104 +134,4 @@ fn without_returns(out: &[u8]) -> Vec<u8> {
     let ended = lines[..last].iter();
     let ends = ended.map(|line| line.strip_suffix(b"\r").unwrap_or(line));
     ends.chain([lines[last]]).collect::<Vec<_>>().join(&b'\n')
-}
-
-/// What a run left.
-pub struct Ran {
-    pub status: i32,
-    pub out: Vec<u8>,
-    pub err: String,
-    line: String,
-}
-
-impl Ran {
-    /// Standard output as text.
-    pub fn words(&self) -> &str {
-        std::str::from_utf8(&self.out).unwrap_or_else(|error| panic!("{error}: {self:?}"))
-    }
-
-    /// Standard output as one JSON object on whole lines.
-    pub fn json(&self) -> Json {
-        assert!(self.out.ends_with(b"\n"), "no whole line: {self:?}");
-        let json = Json::parse(self.words());
-        json.unwrap_or_else(|error| panic!("{error}: {self:?}"))
-    }
-
-    pub fn expect(self, status: i32) -> Ran {
-        assert_eq!(self.status, status, "status of {self:?}");
-        self
-    }
-
-    /// Nothing on standard output, and each of these on standard error.
-    pub fn expect_message(self, status: i32, parts: &[&str]) -> Ran {
-        let ran = self.expect(status);
-        assert!(ran.out.is_empty(), "output beside a message: {ran:?}");
-        assert!(ran.err.ends_with('\n'), "no line of a message: {ran:?}");
-        for part in parts {
-            assert!(ran.err.contains(part), "no '{part}' in {ran:?}");
-        }
-        ran
-    }
-}
-
-impl Debug for Ran {
-    fn fmt(&self, f: &mut Formatter) -> Result {
-        let out = &self.out[..self.out.len().min(2000)];
-        write!(f, "{}\nended with {}", self.line, self.status)?;
-        write!(f, "\noutput '{}'", String::from_utf8_lossy(out))?;
-        write!(f, "\nerrors '{}'", self.err)
-    }
-}
-
-/// Runs a command to its end.
-pub fn ran(command: &mut Command, stdout: Stdio) -> Ran {
-    let mut child = started(command, stdout);
-    let out = child.stdout.take().map(reading);
-    let err = child.stderr.take().map(reading);
-    let [out, err] = [out, err].map(|bytes| bytes.map(|bytes| in_time(&mut child, bytes)));
-    ended(
-        command,
-        child,
-        out.unwrap_or_default(),
-        err.unwrap_or_default(),
-    )
-}
-
-fn started(command: &mut Command, stdout: Stdio) -> Child {
-    command.stdin(Stdio::null()).stdout(stdout);
-    let child = command.stderr(Stdio::piped()).spawn();
-    child.unwrap_or_else(|error| panic!("{command:?}: {error}"))
-}
-
-/// What a run left that has closed its output.
-fn ended(command: &Command, mut child: Child, out: Vec<u8>, err: Vec<u8>) -> Ran {
-    let status = child.wait().expect("the status of a run");
-    let line = format!("{command:?}");
-    let code = status.code();
-    Ran {
-        status: code.unwrap_or_else(|| panic!("{line} was ended by a signal: {status}")),
-        out,
-        err: String::from_utf8_lossy(&err).into_owned(),
-        line,
-    }
-}
-
-/// Reads all of a pipe beside what else goes on.
-fn reading(mut pipe: impl Read + Send + 'static) -> Receiver<Vec<u8>> {
-    let (sender, receiver) = channel();
-    thread::spawn(move || {
-        let mut bytes = Vec::new();
-        let read = pipe.read_to_end(&mut bytes);
-        // Nobody waits any more if the limit has passed.
-        let _ = sender.send(read.map(|_| bytes).unwrap_or_default());
-    });
-    receiver
-}
-
-/// What was read, if the run ends in time.
-fn in_time(child: &mut Child, bytes: Receiver<Vec<u8>>) -> Vec<u8> {
-    bytes.recv_timeout(LIMIT).unwrap_or_else(|_| {
-        child.kill().expect("a run to end");
-        panic!("a run took longer than {LIMIT:?}")
-    })
 }

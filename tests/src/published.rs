@@ -5,11 +5,12 @@ use std::fs;
 use std::io::Read;
 use std::os::unix::ffi::OsStrExt;
 use std::path::{Path, PathBuf};
-use std::process::{self, Command};
+use std::process::{self, Command, Stdio};
 use std::sync::atomic::{AtomicU32, Ordering};
 use std::time::{Duration, UNIX_EPOCH};
 
 use crate::image::Image;
+use crate::running::{Ran, Running};
 use crate::trial::Random;
 
 const MEGABYTE: usize = 1 << 20;
@@ -123,15 +124,37 @@ fn put_date(path: &Path, date: u32) {
     file.set_modified(time).expect("the date of a file");
 }
 
+/// So long may a program take. Under valgrind each is slower.
+fn limit_of(command: &Command) -> Duration {
+    let slow = command.get_program() == "valgrind";
+    Duration::from_secs(if slow { 300 } else { 120 })
+}
+
 /// Runs a program, which has to end well, and returns what it wrote to standard output.
 pub fn run(command: &mut Command) -> Vec<u8> {
-    let output = command.output().unwrap_or_else(|error| {
-        panic!("{command:?}: {error}; Debian has it in f2fs-tools, grub-common, make or valgrind")
+    run_given(command, Stdio::null())
+}
+
+/// The same with something to read.
+pub fn run_given(command: &mut Command, input: Stdio) -> Vec<u8> {
+    let ran = ran_given(command, input);
+    let log = String::from_utf8_lossy(&ran.out);
+    assert!(ran.status == 0, "{ran:?}\nwith all its output '{log}'");
+    ran.out
+}
+
+/// Runs a program that may end as it likes.
+pub fn ran(command: &mut Command) -> Ran {
+    ran_given(command, Stdio::null())
+}
+
+fn ran_given(command: &mut Command, input: Stdio) -> Ran {
+    let limit = limit_of(command);
+    let started = Running::start(command.stdin(input).stdout(Stdio::piped()), limit);
+    let running = started.unwrap_or_else(|error| {
+        panic!("{error}; Debian has it in f2fs-tools, grub-common, make or valgrind")
     });
-    let log = [&output.stdout, &output.stderr].map(|bytes| String::from_utf8_lossy(bytes));
-    let log = log.join("\n");
-    assert!(output.status.success(), "{command:?} failed:\n{log}");
-    output.stdout
+    running.end()
 }
 
 pub fn formatted(megabytes: usize, options: &str) -> Image {

@@ -15,7 +15,7 @@ use harptimber_tests::layout::BLOCK_SIZE;
 use harptimber_tests::node_lookup;
 use harptimber_tests::outside::CardFile;
 use harptimber_tests::program::{built, program};
-use harptimber_tests::published::{contents, filled_with, File};
+use harptimber_tests::published::{contents, filled_with, ran, File};
 use harptimber_tests::pulls::{lists, Call};
 use harptimber_tests::random_card::pick;
 use harptimber_tests::random_files::{any_target, random_files, RandomFiles};
@@ -260,22 +260,15 @@ fn valgrind_on_plants() {
             "unset" => script.unset(),
             _ => script.plant(slice, NAME, ADDRESSES),
         }
-        let output = script
-            .given_to(&mut memchecked())
-            .output()
-            .expect("valgrind");
-        assert_eq!(output.status.code(), Some(9), "{slice} is seen");
+        let status = ran(script.given_to(&mut memchecked())).status;
+        assert_eq!(status, 9, "{slice} is seen");
     }
 }
 
 /// Runs the program under memcheck, which has to end with this status.
 fn expect_status(status: i32, words: &[&OsStr]) -> Vec<u8> {
-    let mut command = memcheck();
-    let output = command.arg(program()).args(words).output();
-    let output = output.expect("valgrind runs");
-    let said = String::from_utf8_lossy(&output.stderr);
-    assert_eq!(output.status.code(), Some(status), "{words:?}: {said}");
-    output.stdout
+    let ran = ran(memcheck().arg(program()).args(words));
+    ran.expect(status).out
 }
 
 /// The program too, on a card by the published tools and on one with a damaged root.

@@ -120,9 +120,8 @@ fn cards() {
 /// What isn't read, by the library and by the program.
 fn expect_not_read(pulls: &mut Pulls, card: &CardFile, image: &Image, name: &[u8]) {
     pulls.expect(image, name, 0, 12);
-    let (status, json) = card.pull_json(name);
-    assert_eq!(status, Some(2), "{}: {json}", name.escape_ascii());
-    assert!(json.contains("\"answer\":12,"), "{json}");
+    let json = card.pull_json(name).expect(2).json();
+    assert_eq!(json["answer"].number(), 12, "{json:?}");
 }
 
 /// A card that was filled twice. What isn't read stands beside what is: it is refused with 12.
