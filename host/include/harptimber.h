@@ -3,18 +3,19 @@
  * image, lists what the answer rested on, and says from those lists whether another image gives the
  * same answer.
  *
- * Link target/staticlib/libharptimber.a, which `rt staticlib harptimber` writes at the repository's
- * root. A call keeps nothing for the next one and touches only the memory that it is lent.
+ * Link with -lharptimber, as `pkg-config --libs harptimber` says. A call keeps nothing for the next one
+ * and touches only the memory that it is lent.
  *
  * Every call answers, whatever bytes it is given; nothing has to be checked beforehand. Results come
  * back by value in a struct whose first field is `answer`, one of the numbers of harptimber_answer.
  * A field that the answer doesn't name is 0.
  *
  * Bytes are lent as a pointer, then a length. What the caller still has to see to: the pointer is
- * never null, also with length 0; that many bytes can be read there; and the slices lent to one call
- * don't overlap.
+ * never null, also with length 0; that many bytes can be read there, and written if they aren't const;
+ * the slices lent to one call don't overlap; and nobody else writes them during the call.
  *
- *     uint8_t block[4096], nodes[179 * 4], blocks[238 * 4];
+ *     uint8_t block[HARPTIMBER_BLOCK_BYTES];
+ *     uint8_t nodes[HARPTIMBER_NODES_BYTES], blocks[HARPTIMBER_BLOCKS_BYTES];
  *     struct harptimber_pulled p = harptimber_pull(
  *         image, image_len, (const uint8_t *)"road.bin", 8, 0,
  *         block, sizeof block, nodes, sizeof nodes, blocks, sizeof blocks);
@@ -30,6 +31,13 @@
 #ifdef __cplusplus
 extern "C" {
 #endif
+
+/* How many bytes to lend to a pull: a block, and lists with room for whatever it rests on. */
+enum {
+    HARPTIMBER_BLOCK_BYTES = 4096,
+    HARPTIMBER_NODES_BYTES = 179 * 4,
+    HARPTIMBER_BLOCKS_BYTES = 238 * 4
+};
 
 /* What an answer number means. */
 enum harptimber_answer {
@@ -128,22 +136,40 @@ struct harptimber_pulled harptimber_pull(const uint8_t *image, size_t image_len,
                                          size_t block_len, uint8_t *nodes, size_t nodes_len,
                                          uint8_t *blocks, size_t blocks_len);
 
+/* Which image a compare refuses. */
+enum harptimber_side { HARPTIMBER_KEPT = 1, HARPTIMBER_FRESH = 2 };
+
+/* What a compare found to differ first. */
+enum harptimber_kind {
+    HARPTIMBER_BOUNDS_DIFFER = 1, /* the bounds of the main area */
+    HARPTIMBER_NODE_DIFFERS = 2,  /* what the node table says of a number */
+    HARPTIMBER_BLOCK_DIFFERS = 3  /* the bytes of a block */
+};
+
 /* The result of harptimber_compare. */
 struct harptimber_compared {
     uint32_t answer; /* HARPTIMBER_SAME, HARPTIMBER_CHANGED, or 4 to 8 */
-    uint32_t side;   /* with 5 to 8: 1 for the kept image, 2 for the new one */
-    uint32_t kind;   /* with 16: 1 the main area bounds differ, 2 a node's table answer, 3 a block's bytes */
-    uint32_t number; /* with 16: the lowest node number or block that differs; 0 with kind 1 */
+    uint32_t side;   /* with 5 to 8: one of harptimber_side */
+    uint32_t kind;   /* with 16: one of harptimber_kind */
+    uint32_t number; /* with 16: the lowest node number or block that differs; 0 for the bounds */
 };
 
 /*
  * Whether a pull gives the same on a new image: `kept` is the image it was made on, the lists and
- * counts are those it left. It writes nowhere. HARPTIMBER_SAME is answered exactly if both images have
- * the same main area bounds, each listed node number has the same table answer in both, and each listed
- * block the same bytes; then that pull on the new image gives the same answer, byte count, block bytes
- * and lists. 4 is answered, first, for an image's length; and, once both images are opened, where the
- * node list is empty, a list isn't strictly rising, a count exceeds its slice, or a listed block lies
- * outside the kept image's main area.
+ * counts are those it left. It writes nowhere.
+ *
+ * HARPTIMBER_SAME is answered exactly if both images have the same main area bounds, each listed node
+ * number has the same table answer in both, and each listed block the same bytes; then that pull on the
+ * new image gives the same answer, byte count, block bytes and lists. Whether there is a block at all,
+ * the pull's answer says: a name that was missing and still is compares as the same too.
+ *
+ * HARPTIMBER_CHANGED means that something differs which the answer rested on, if only a date in an inode
+ * or another entry of the directory. The block may have the same bytes then; a pull on the new image
+ * tells.
+ *
+ * 4 is answered, first, for an image's length; and, once both images are opened, where the node list is
+ * empty, a list isn't strictly rising, a count exceeds its slice, or a listed block lies outside the
+ * kept image's main area.
  */
 struct harptimber_compared harptimber_compare(const uint8_t *kept, size_t kept_len, const uint8_t *fresh,
                                               size_t fresh_len, const uint8_t *nodes, size_t nodes_len,

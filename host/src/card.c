@@ -2,10 +2,12 @@
 
 #include <errno.h>
 #include <fcntl.h>
+#include <linux/loop.h>
 #include <signal.h>
 #include <stdio.h>
 #include <stdlib.h>
 #include <string.h>
+#include <sys/ioctl.h>
 #include <sys/mman.h>
 #include <unistd.h>
 
@@ -123,21 +125,29 @@ void card_close(struct card *card)
     free(card->lost);
 }
 
+static bool same_time(struct timespec one, struct timespec other)
+{
+    return one.tv_sec == other.tv_sec && one.tv_nsec == other.tv_nsec;
+}
+
 bool card_is_settled(const struct card *card)
 {
     struct stat now;
     const struct stat *then = &card->info;
     if (fstat(card->file, &now) == 0 && now.st_size == then->st_size &&
-        now.st_mtim.tv_sec == then->st_mtim.tv_sec && now.st_mtim.tv_nsec == then->st_mtim.tv_nsec)
+        same_time(now.st_mtim, then->st_mtim) && same_time(now.st_ctim, then->st_ctim))
         return true;
-    complain(card->path, "was written while it was read");
+    complain(card->path, "was changed while it was read");
     return false;
 }
 
 bool card_is(const struct card *card, const struct stat *info)
 {
+    struct loop_info64 loop;
     if (S_ISBLK(card->info.st_mode) && S_ISBLK(info->st_mode))
         return card->info.st_rdev == info->st_rdev;
+    if (S_ISBLK(card->info.st_mode) && ioctl(card->file, LOOP_GET_STATUS64, &loop) == 0)
+        return loop.lo_device == info->st_dev && loop.lo_inode == info->st_ino;
     return card->info.st_dev == info->st_dev && card->info.st_ino == info->st_ino;
 }
 

@@ -9,7 +9,7 @@
 
 #include "harptimber.h"
 
-enum { BLOCK_SIZE = 4096 };
+enum { BLOCK_SIZE = HARPTIMBER_BLOCK_BYTES };
 
 struct card {
     const char *path;
@@ -22,8 +22,8 @@ struct card {
 
 /* What a pull rested on: numbers of four bytes, the lowest byte first. There is always room for all. */
 struct lists {
-    uint8_t nodes[179 * 4];
-    uint8_t blocks[238 * 4];
+    uint8_t nodes[HARPTIMBER_NODES_BYTES];
+    uint8_t blocks[HARPTIMBER_BLOCKS_BYTES];
 };
 
 /* Maps a regular file or a block device. If that fails, says why and returns false. */
@@ -33,11 +33,12 @@ void card_close(struct card *card);
 
 /*
  * Whether an answer still stands: the library's promises hold for bytes that nobody writes meanwhile.
- * Says so if the image was written since it was mapped. On a block device that can't be seen.
+ * Says so if the image was changed since it was mapped, by its length and times: a writer can put the
+ * date back, but not the time of the change. On a block device that can't be seen.
  */
 bool card_is_settled(const struct card *card);
 
-/* Whether a file is the card itself. */
+/* Whether a file is the card itself, or what a loop device that is the card has its bytes from. */
 bool card_is(const struct card *card, const struct stat *info);
 
 /* Block `index` of the file `name`, into 4,096 bytes at `block`. */

@@ -12,9 +12,6 @@
 /* How many bytes are written at once: 64 blocks. */
 enum { PIECE = 64 * BLOCK_SIZE };
 
-/* Progress is shown for files with more blocks than these. */
-enum { FEW_BLOCKS = 1024 };
-
 struct cat {
     const struct request *request;
     const char *name;
@@ -29,38 +26,14 @@ struct cat {
     uint8_t piece[PIECE];
 };
 
-/* Whether the file has a block `index`, sound or not: past the end only depends on the index and the size. */
-static bool has_block(const struct cat *cat, uint32_t index)
-{
-    uint8_t block[BLOCK_SIZE];
-    struct lists lists;
-    return card_pull(&cat->card, cat->name, index, block, &lists).answer != HARPTIMBER_PAST_END;
-}
-
-/* How many blocks a file of more than FEW_BLOCKS has; 0 for others. By bisection, since no call says it. */
-static uint32_t count_blocks(const struct cat *cat)
-{
-    uint32_t there = FEW_BLOCKS, past = UINT32_MAX;
-    if (!has_block(cat, there) || has_block(cat, past))
-        return 0;
-    while (past - there > 1) {
-        uint32_t middle = there + (past - there) / 2;
-        if (has_block(cat, middle))
-            there = middle;
-        else
-            past = middle;
-    }
-    return past;
-}
-
 /* Opens the output, once it is known that there is something to write. */
 static bool open_output(struct cat *cat)
 {
     if (!output_open(&cat->output, cat->request->output, &cat->card))
         return false;
     cat->output_is_open = true;
-    if (isatty(STDERR_FILENO) && !isatty(cat->output.file))
-        cat->progress = (struct progress){.name = cat->name, .total = count_blocks(cat)};
+    if (!isatty(cat->output.file))
+        cat->progress = progress_begin(&cat->card, cat->name);
     return true;
 }
 

@@ -3,12 +3,14 @@
 #define COMPARE_H
 
 #include "card.h"
+#include "progress.h"
 
 /* Blocks that follow each other with the same verdict; what differs is the first one's. */
 struct run {
     uint32_t first, last;
     struct harptimber_compared verdict;
-    uint32_t node; /* the node that is in the block that differs; 0 if none is */
+    bool same_bytes; /* of changed ones: a pull on the new card gives the same bytes all the same */
+    uint32_t node;   /* the node that is in the block that differs; 0 if none is */
 };
 
 struct comparison {
@@ -22,11 +24,11 @@ struct comparison {
     uint32_t same, changed; /* how many blocks */
     uint32_t last_answer;   /* of the last pull: if it is no block, `end` says whether that still holds */
     struct run end;
+    struct progress progress;
 };
 
-/* What harptimber_compare says of a difference, and of a card that doesn't open. */
-enum { KIND_BOUNDS = 1, KIND_NODE = 2, KIND_BLOCK = 3 };
-enum { NO_SIDE = 0, KEPT_SIDE = 1, NEW_SIDE = 2 };
+/* Beside the sides of harptimber_side: the name is at fault. */
+enum { NO_SIDE = 0 };
 
 bool is_changed(const struct run *run);
 

@@ -6,9 +6,40 @@
 #include "text.h"
 #include "words.h"
 
+enum { ROOT = 3 }; /* the root directory's inode number, on every card that opens */
+
+/* Whose node it is, by the kept card's table; null if that doesn't say. */
+static const char *owner_of_node(const struct comparison *c, uint32_t node)
+{
+    struct harptimber_entry entry = harptimber_node_lookup(c->kept.bytes, c->kept.len, node);
+    if (entry.answer != HARPTIMBER_DATA || entry.address == 0)
+        return NULL;
+    if (node == ROOT)
+        return "the root directory's inode";
+    if (entry.inode == ROOT)
+        return "a node of the root directory";
+    return entry.inode == node ? "the file's inode" : "a node of the file";
+}
+
+/* Whose block it is, of one with no node. A pull past the end reads what finds the file, and no data. */
+static const char *owner_of_block(const struct comparison *c, uint32_t number)
+{
+    uint8_t block[BLOCK_SIZE];
+    struct lists lists;
+    struct harptimber_pulled pulled = card_pull(&c->kept, c->name, UINT32_MAX, block, &lists);
+    for (uint32_t i = 0; i < pulled.block_count; i++)
+        if (list_number(lists.blocks, i) == number)
+            return "the root directory";
+    return "the file's data";
+}
+
 static void show_node_difference(FILE *out, const struct comparison *c, uint32_t node)
 {
-    fprintf(out, "node %" PRIu32 " has another table entry (", node);
+    const char *owner = owner_of_node(c, node);
+    fprintf(out, "node %" PRIu32, node);
+    if (owner != NULL)
+        fprintf(out, " (%s)", owner);
+    fputs(" has another table entry (", out);
     show_entry(out, harptimber_node_lookup(c->kept.bytes, c->kept.len, node));
     fputs(" before; ", out);
     show_entry(out, harptimber_node_lookup(c->new.bytes, c->new.len, node));
@@ -20,22 +51,24 @@ static void show_block_difference(FILE *out, const struct comparison *c, const s
 {
     const uint8_t *before = c->kept.bytes + (size_t)run->verdict.number * BLOCK_SIZE;
     const uint8_t *now = c->new.bytes + (size_t)run->verdict.number * BLOCK_SIZE;
-    fprintf(out, "the card's block %" PRIu32, run->verdict.number);
+    fprintf(out, "the card's block %" PRIu32 " (", run->verdict.number);
     if (run->node != 0)
-        fprintf(out, " (node %" PRIu32 ")", run->node);
+        fprintf(out, "node %" PRIu32 ", %s", run->node, owner_of_node(c, run->node));
+    else
+        fputs(owner_of_block(c, run->verdict.number), out);
     size_t at = 0;
     while (at < BLOCK_SIZE - 1 && before[at] == now[at])
         at++;
-    fprintf(out, " has other bytes, first at byte %zu (0x%02x before, 0x%02x now)", at, (unsigned)before[at],
+    fprintf(out, ") differs, first at byte %zu (0x%02x before, 0x%02x now)", at, (unsigned)before[at],
             (unsigned)now[at]);
 }
 
 /* The first difference, in plain text. */
 static void show_difference(FILE *out, const struct comparison *c, const struct run *run)
 {
-    if (run->verdict.kind == KIND_NODE)
+    if (run->verdict.kind == HARPTIMBER_NODE_DIFFERS)
         show_node_difference(out, c, run->verdict.number);
-    else if (run->verdict.kind == KIND_BLOCK)
+    else if (run->verdict.kind == HARPTIMBER_BLOCK_DIFFERS)
         show_block_difference(out, c, run);
     else
         fputs("the main area lies elsewhere", out);
@@ -46,7 +79,7 @@ static void words_verdict(const struct comparison *c, const struct run *run)
 {
     printf("%s", meaning_of(run->verdict.answer));
     if (is_changed(run)) {
-        printf(": ");
+        printf(run->same_bytes ? ", though a pull gives the same bytes: " : ": ");
         show_difference(stdout, c, run);
     }
     printf("\n");
@@ -71,7 +104,7 @@ static void words_end(const struct comparison *c)
 /* A card that doesn't open, or a bad name. */
 static void words_refusal(const struct comparison *c)
 {
-    const struct card *card = c->side == NEW_SIDE ? &c->new : &c->kept;
+    const struct card *card = c->side == HARPTIMBER_FRESH ? &c->new : &c->kept;
     show(stdout, c->side == NO_SIDE ? c->name : card->path);
     printf(": ");
     show_answer(stdout, c->refusal, meaning_of(c->refusal), card, c->name);
@@ -117,7 +150,8 @@ static void words_whole(const struct comparison *c)
     } else if (all_good) {
         printf(": all %" PRIu32 " blocks are still good\n", total);
     } else {
-        printf(": %" PRIu32 " of %" PRIu32 " blocks are still good\n", c->same, total);
+        const char *first = to_the_end ? "" : "the first ";
+        printf(": %" PRIu32 " of %s%" PRIu32 " blocks are still good\n", c->same, first, total);
         words_runs(c);
     }
     if (total != 0 && !to_the_end) {
@@ -156,6 +190,8 @@ static void json_runs(struct json *json, const struct comparison *c)
         json_number(json, "first", c->runs[i].first);
         json_number(json, "last", c->runs[i].last);
         json_verdict(json, c, &c->runs[i]);
+        if (is_changed(&c->runs[i]))
+            json_flag(json, "same_bytes", c->runs[i].same_bytes);
         json_close(json, '}');
     }
     json_close(json, ']');

@@ -48,6 +48,12 @@ void json_number(struct json *json, const char *key, uint64_t number)
     fprintf(json->out, "%" PRIu64, number);
 }
 
+void json_flag(struct json *json, const char *key, bool flag)
+{
+    lead(json, key);
+    fputs(flag ? "true" : "false", json->out);
+}
+
 /* Prints a text's first character, in UTF-8 whatever its bytes are, and returns how many it has. */
 static size_t put_character(FILE *out, const char *text)
 {

@@ -24,9 +24,11 @@ static enum status status_of(uint32_t answer)
 
 static void node_words(const struct card *card, uint32_t number, struct harptimber_entry entry)
 {
+    bool unused = entry.answer == HARPTIMBER_DATA && entry.address == 0;
+    const char *meaning = unused ? "not in use" : lookup_meaning_of(entry.answer);
     printf("node %" PRIu32 ": ", number);
-    show_lookup(entry.answer, card, NULL);
-    if (entry.answer == HARPTIMBER_DATA) {
+    show_answer(stdout, entry.answer, meaning, card, NULL);
+    if (entry.answer == HARPTIMBER_DATA && !unused) {
         printf(": ");
         show_entry(stdout, entry);
     }

@@ -19,7 +19,7 @@ static const char help[] =
     "       harptimber hash [--json] NAME\n"
     "Read blocks of an F2FS card image, and say whether another still gives the same.\n"
     "\n"
-    "  pull     one block of a file in the root directory\n"
+    "  pull     one block of a file in the root directory; on a terminal its bytes too\n"
     "  cat      a whole file, to standard output\n"
     "  compare  whether a block, or all blocks, read from KEPT are still good on NEW\n"
     "  node     a node's entry in the node address table\n"
@@ -165,5 +165,5 @@ int main(int argc, char **argv)
         complain("standard output", "%s", failed ? "can't be written" : strerror(errno));
         return REFUSED;
     }
-    return (int)status;
+    return (int)(status == DONE && ferror(stderr) ? REFUSED : status);
 }

@@ -7,8 +7,10 @@
 
 #include "card.h"
 
-/* What an answer number means; and for node, place and hash, where 0 isn't data. */
+/* What an answer number means. */
 const char *meaning_of(uint32_t answer);
+
+/* The same for node, place and hash, which read no file. */
 const char *lookup_meaning_of(uint32_t answer);
 
 /*

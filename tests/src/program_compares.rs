@@ -3,6 +3,7 @@
 use reference::compare::{compare, Compared};
 use reference::lookup::node_lookup;
 
+use crate::card::ROOT;
 use crate::image::Image;
 use crate::json::Json;
 use crate::layout::footer;
@@ -10,11 +11,16 @@ use crate::program_card::pulled;
 use crate::program_page::meaning;
 use crate::pulls::Outcome;
 
-/// Blocks that follow each other and are all same or all changed, with the first one's difference.
+/// What stands before a difference in words if the bytes are the same.
+const SAME_BYTES: &str = "changed, though a pull gives the same bytes: ";
+
+/// Blocks that follow each other and are all same or all changed, with the first one's difference. Of
+/// changed ones, all or none have the same bytes on the new image.
 struct Run {
     first: u32,
     last: u32,
     compared: Compared,
+    same_bytes: bool,
 }
 
 /// Where the kept image has no block.
@@ -27,6 +33,8 @@ struct End {
 /// What a compare comes to if both images open.
 pub struct Expected<'a> {
     cards: [&'a Image; 2],
+    /// Blocks of the kept image that a pull past the end reads: nodes and the root directory.
+    directory: Vec<u32>,
     /// Without it, every block is compared.
     index: Option<u32>,
     pub answer: u32,
@@ -52,7 +60,9 @@ impl<'a> Expected<'a> {
                 });
                 break;
             }
-            extend(&mut runs, index, compared);
+            let same_bytes =
+                compared.answer == 16 && block(&pulled(cards[1], name, index)) == block(&outcome);
+            extend(&mut runs, index, compared, same_bytes);
         }
         // A whole file ends with the first block that is past the end: no refusal.
         let refused = end.as_ref().map(|end| end.kept);
@@ -64,6 +74,7 @@ impl<'a> Expected<'a> {
         };
         Expected {
             cards,
+            directory: pulled(cards[0], name, u32::MAX).blocks(),
             index,
             answer,
             status,
@@ -75,6 +86,11 @@ impl<'a> Expected<'a> {
     /// Whether every block was compared.
     pub fn whole(&self) -> bool {
         self.index.is_none()
+    }
+
+    /// Whether the blocks were compared up to the file's end.
+    fn is_whole_file(&self) -> bool {
+        self.end.as_ref().is_some_and(|end| end.kept == 3)
     }
 
     /// How many blocks have this answer.
@@ -104,13 +120,22 @@ fn compared([kept, fresh]: [&Image; 2], outcome: &Outcome) -> Compared {
     )
 }
 
-fn extend(runs: &mut Vec<Run>, index: u32, compared: Compared) {
+/// The file's bytes in a block; none if there is no block.
+fn block(outcome: &Outcome) -> Option<&[u8]> {
+    let pulled = outcome.pulled;
+    (pulled.answer <= 1).then(|| &outcome.lent.block.bytes()[..pulled.byte_count as usize])
+}
+
+fn extend(runs: &mut Vec<Run>, index: u32, compared: Compared, same_bytes: bool) {
     match runs.last_mut() {
-        Some(run) if run.compared.answer == compared.answer => run.last = index,
+        Some(run) if run.compared.answer == compared.answer && run.same_bytes == same_bytes => {
+            run.last = index;
+        }
         _ => runs.push(Run {
             first: index,
             last: index,
             compared,
+            same_bytes,
         }),
     }
 }
@@ -127,11 +152,10 @@ impl Expected<'_> {
         let runs = json["runs"].list();
         assert_eq!(runs.len(), self.runs.len(), "runs in {json:?}");
         for (json, run) in runs.iter().zip(&self.runs) {
-            self.expect_object(
-                json,
-                [("first", run.first), ("last", run.last)],
-                run.compared,
-            );
+            let numbers = [("first", run.first), ("last", run.last)];
+            self.expect_object(json, numbers, run.compared);
+            let same_bytes = (run.compared.answer == 16).then_some(Json::Bool(run.same_bytes));
+            assert_eq!(json.get("same_bytes"), same_bytes.as_ref(), "{json:?}");
         }
         assert_eq!(json.get("end").is_some(), self.end.is_some(), "{json:?}");
         if let Some(end) = &self.end {
@@ -146,11 +170,16 @@ impl Expected<'_> {
             assert_eq!(json[key].number(), u64::from(number), "{key} in {json:?}");
         }
         assert_eq!(json["meaning"].text(), meaning("compare", compared.answer));
+        let keys = json.keys();
+        let others = keys.iter().filter(|&&key| key != "same_bytes").count();
+        assert_eq!(
+            others,
+            if compared.answer == 15 { 4 } else { 7 },
+            "{json:?}"
+        );
         if compared.answer == 15 {
-            assert_eq!(json.keys().len(), 4, "keys of {json:?}");
             return;
         }
-        assert_eq!(json.keys().len(), 7, "keys of {json:?}");
         let difference = ["kind", "number"].map(|key| json[key].number());
         assert_eq!(difference, [compared.kind, compared.number].map(u64::from));
         self.expect_difference(json["difference"].text(), compared);
@@ -176,19 +205,30 @@ impl Expected<'_> {
             format!("inode {inode}, block {block}")
         });
         vec![
-            format!("node {number} "),
+            format!("node {number} ({})", self.owner(number)),
             format!("{before} before"),
             format!("{now} now"),
         ]
     }
 
-    /// Of a block that is a node's, its number too.
-    fn node_in(&self, block: u32) -> String {
+    /// Whose a node is.
+    fn owner(&self, nid: u32) -> &str {
+        match node_lookup(self.cards[0].bytes(), nid) {
+            _ if nid == ROOT => "the root directory's inode",
+            Ok((ROOT, _)) => "a node of the root directory",
+            Ok((ino, _)) if ino == nid => "the file's inode",
+            _ => "a node of the file",
+        }
+    }
+
+    /// What is in a block: a node, or else an entry of the root directory or data of the file.
+    fn content(&self, block: u32) -> String {
         let kept = self.cards[0];
         let nid = kept.get(block, footer::NID) as u32;
         match node_lookup(kept.bytes(), nid) {
-            Ok((_, address)) if address == block => format!(" (node {nid})"),
-            _ => String::new(),
+            Ok((_, address)) if address == block => format!("node {nid}, {}", self.owner(nid)),
+            _ if self.directory.contains(&block) => "the root directory".to_string(),
+            _ => "the file's data".to_string(),
         }
     }
 
@@ -197,7 +237,10 @@ impl Expected<'_> {
         let mut bytes = before.iter().zip(now).enumerate();
         let (at, (before, now)) = bytes.find(|(_, (before, now))| before != now).unwrap();
         vec![
-            format!("the card's block {number}{} has ", self.node_in(number)),
+            format!(
+                "the card's block {number} ({}) differs",
+                self.content(number)
+            ),
             format!("byte {at} "),
             format!("0x{before:02x} before, 0x{now:02x} now"),
         ]
@@ -215,7 +258,8 @@ impl Expected<'_> {
             let counts = match (self.answer, same) {
                 (15, 1) => "the only block is".to_string(),
                 (15, _) => format!("all {same} blocks are"),
-                _ => format!("{same} of {} block", same + changed),
+                _ if self.is_whole_file() => format!("{same} of {} blocks", same + changed),
+                _ => format!("{same} of the first {} blocks", same + changed),
             };
             assert!(first.contains(&format!(": {counts}")), "in {words}");
         }
@@ -225,10 +269,10 @@ impl Expected<'_> {
             self.told()
         };
         assert_eq!(lines.clone().count(), told.len(), "lines of {words}");
-        for (line, (start, compared)) in lines.zip(told) {
+        for (line, (start, compared, same_bytes)) in lines.zip(told) {
             let verdict = line.split_once(&start).map(|(_, verdict)| verdict);
             let verdict = verdict.unwrap_or_else(|| panic!("no '{start}' in '{line}'"));
-            match verdict.split_once("changed: ") {
+            match verdict.split_once(if same_bytes { SAME_BYTES } else { "changed: " }) {
                 Some((_, difference)) if compared.answer == 16 => {
                     self.expect_difference(difference, compared);
                 }
@@ -242,19 +286,19 @@ impl Expected<'_> {
     }
 
     /// What stands before each verdict. The end of a whole file isn't told behind its blocks.
-    fn told(&self) -> Vec<(String, Compared)> {
+    fn told(&self) -> Vec<(String, Compared, bool)> {
         let run = |run: &Run| {
             let start = if run.first == run.last {
                 format!("block {}: ", run.first)
             } else {
                 format!("blocks {} to {}: ", run.first, run.last)
             };
-            (start, run.compared)
+            (start, run.compared, run.same_bytes)
         };
         let end = |end: &End| match (end.kept, self.whole(), self.runs.is_empty()) {
             (3, true, false) => None,
-            (3, true, true) => Some(("empty file; ".to_string(), end.compared)),
-            (kept, ..) => Some((format!("(answer {kept}); "), end.compared)),
+            (3, true, true) => Some(("empty file; ".to_string(), end.compared, false)),
+            (kept, ..) => Some((format!("(answer {kept}); "), end.compared, false)),
         };
         let end = self.end.iter().filter_map(end);
         self.runs.iter().map(run).chain(end).collect()

@@ -134,5 +134,5 @@ fn image_cut_while_it_is_read() {
 #[test]
 fn image_written_while_it_is_read() {
     let write = |file: &mut File| file.write_all(b"new").unwrap();
-    expect_disturbed("written.img", write, "was written");
+    expect_disturbed("written.img", write, "was changed");
 }
