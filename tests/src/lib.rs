@@ -7,6 +7,7 @@ pub mod compares;
 pub mod damage;
 pub mod directory;
 pub mod guard_script;
+pub mod held;
 pub mod image;
 pub mod json;
 pub mod knobs;

@@ -9,7 +9,6 @@ use std::process::{Command, Stdio};
 use std::sync::Mutex;
 
 use crate::published;
-use crate::running::started;
 pub use crate::running::{ran, Ran};
 
 /// The folder with the program's Makefile and man page.
@@ -85,14 +84,6 @@ pub fn run(words: Words) -> Ran {
 pub fn run_to(path: &Path, words: Words) -> Ran {
     let file = File::options().write(true).open(path);
     ran(&mut command(words), file.expect("a file").into())
-}
-
-/// With the first byte of its output read, and something done while the rest waits behind a full pipe.
-pub fn run_meanwhile(words: Words, meanwhile: impl FnOnce()) -> Ran {
-    let mut running = started(&mut command(words), Stdio::piped());
-    running.first_byte();
-    meanwhile();
-    running.end()
 }
 
 /// With its standard files as a shell redirects them.

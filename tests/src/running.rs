@@ -85,6 +85,7 @@ pub struct Running {
     child: Child,
     limit: Duration,
     deadline: Instant,
+    out: Option<Receiver<Vec<u8>>>,
     err: Option<Receiver<Vec<u8>>>,
 }
 
@@ -100,6 +101,7 @@ impl Running {
             child,
             limit,
             deadline: Instant::now() + limit,
+            out: None,
             err,
         })
     }
@@ -111,22 +113,15 @@ impl Running {
         found.unwrap_or_else(|_| self.end_by_force())
     }
 
-    /// The first byte of its output. As long as no more is read, the rest waits behind a full pipe.
-    pub fn first_byte(&mut self) -> u8 {
-        let mut pipe = self.child.stdout.take().expect("a pipe");
-        let read = aside(move || {
-            let mut first = [0];
-            let read = pipe.read_exact(&mut first);
-            read.map(|()| (pipe, first[0]))
-        });
-        let (pipe, first) = self.wait(read).expect("a first byte");
-        self.child.stdout = Some(pipe);
-        first
+    /// Reads standard output from now on, so that the run doesn't wait behind a full pipe.
+    pub fn read(&mut self) {
+        let pipe = self.child.stdout.take();
+        self.out = pipe.map(reading).or(self.out.take());
     }
 
     pub fn end(mut self) -> Ran {
-        let out = self.child.stdout.take().map(reading);
-        let [out, err] = [out, self.err.take()]
+        self.read();
+        let [out, err] = [self.out.take(), self.err.take()]
             .map(|bytes| bytes.map(|bytes| self.wait(bytes)).unwrap_or_default());
         let status = loop {
             match self.child.try_wait().expect("the status of a run") {

@@ -1,15 +1,13 @@
 //! Files that can't be read or written: a message that names the file, and nothing else happens.
 
 use std::fs::{self, File};
-use std::io::Write;
 use std::os::unix::ffi::OsStrExt;
 use std::os::unix::fs::{MetadataExt, PermissionsExt};
 use std::path::Path;
 use std::process::{Command, Stdio};
-use std::time::SystemTime;
 
 use harptimber_tests::program::*;
-use harptimber_tests::program_card::{shared_card, LONG, ROAD};
+use harptimber_tests::program_card::{shared_card, ROAD};
 use harptimber_tests::program_page::shown;
 
 /// Runs each command on an image that can't be read.
@@ -104,35 +102,10 @@ fn paths_in_json() {
     let names: [&[u8]; 3] = [b"a \"b\" \\ c\n.img", b"caf\xE9.img", b"-o"];
     for name in names {
         let image = card.disk.scratch.path(name.word());
-        fs::hard_link(card.disk.path(), &image).unwrap();
+        fs::copy(card.disk.path(), &image).unwrap();
         let json = run(&[&"node", &"--json", &"--", &image, &"3"])
             .expect(0)
             .json();
         assert_eq!(json["image"].text(), shown(image.as_os_str().as_bytes()));
     }
-}
-
-/// A copy of the card, long unchanged, and what is expected if something is done to it while a file is
-/// read: so long a file that most of it still waits then.
-fn expect_disturbed(name: &str, disturb: impl FnOnce(&mut File), part: &str) {
-    let card = shared_card();
-    let image = card.disk.scratch.path(name);
-    fs::copy(card.disk.path(), &image).unwrap();
-    let mut file = File::options().write(true).open(&image).unwrap();
-    file.set_modified(SystemTime::UNIX_EPOCH).unwrap();
-    let ran = run_meanwhile(&[&"cat", &image, &LONG], || disturb(&mut file)).expect(2);
-    for part in [image.to_str().unwrap(), part] {
-        assert!(ran.err.contains(part), "no '{part}' in {ran:?}");
-    }
-}
-
-#[test]
-fn image_cut_while_it_is_read() {
-    expect_disturbed("cut.img", |file| file.set_len(0).unwrap(), "cut short");
-}
-
-#[test]
-fn image_written_while_it_is_read() {
-    let write = |file: &mut File| file.write_all(b"new").unwrap();
-    expect_disturbed("written.img", write, "was changed");
 }

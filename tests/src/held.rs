@@ -1,0 +1,67 @@
+//! Runs of the program that are held while they read an image, so that something can be done to it.
+
+use std::fs::File;
+use std::path::{Path, PathBuf};
+use std::process::{Command, Stdio};
+use std::sync::Arc;
+
+use crate::on_disk::Shared;
+use crate::program::{command, Ran, Words};
+use crate::published::{run, Scratch};
+use crate::running::{aside, started};
+
+/// Where a run is held: at its first look at a block of one of the images that it opens.
+#[derive(Clone, Copy, Debug)]
+pub struct Hold {
+    /// Its place among the images.
+    pub image: u32,
+    pub block: u32,
+}
+
+/// The library that holds the program.
+pub struct Holder(Scratch);
+
+impl Holder {
+    /// The one that the tests of a file share.
+    pub fn shared() -> Arc<Holder> {
+        static HOLDER: Shared<Holder> = Shared::empty();
+        HOLDER.get(|| {
+            let holder = Holder(Scratch::new());
+            let mut compiler = Command::new("cc");
+            compiler.args(["-Wall", "-Wextra", "-Werror", "-shared", "-fPIC"]);
+            // As the program has it, so that both mean the same function by mmap.
+            compiler.arg("-D_FILE_OFFSET_BITS=64");
+            let source = Path::new(env!("CARGO_MANIFEST_DIR")).join("src/held.c");
+            run(compiler.arg("-o").arg(holder.library()).arg(source));
+            holder
+        })
+    }
+
+    fn library(&self) -> PathBuf {
+        self.0.path("held.so")
+    }
+
+    /// Runs the program, with something done while it is held.
+    pub fn run(&self, words: Words, hold: Hold, meanwhile: impl FnOnce()) -> Ran {
+        let scratch = Scratch::new();
+        let fifo = scratch.path("fifo");
+        make_fifo(&fifo);
+        let mut command = command(words);
+        command.env("LD_PRELOAD", self.library());
+        command.env("HELD_IMAGE", hold.image.to_string());
+        command.env("HELD_BLOCK", hold.block.to_string());
+        command.env("HELD_BY", &fifo);
+        let mut running = started(&mut command, Stdio::piped());
+        running.read();
+        // Opened once the program opens the other end.
+        let open = aside(move || File::options().write(true).open(fifo));
+        let open = running.wait(open).expect("a FIFO");
+        meanwhile();
+        drop(open);
+        running.end()
+    }
+}
+
+pub fn make_fifo(path: &Path) {
+    run(Command::new("mkfifo").arg(path));
+}
