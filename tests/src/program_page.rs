@@ -5,8 +5,11 @@ use std::fs;
 use crate::json::Json;
 use crate::program::host;
 
-/// The keys that each command's JSON may have beside `command`, `answer` and `meaning`.
-pub const KEYS: [(&str, &[&str]); 6] = [
+/// The keys that each object has.
+const HEAD: [&str; 3] = ["command", "answer", "meaning"];
+
+/// The keys that each command's JSON may have beside them.
+const KEYS: [(&str, &[&str]); 6] = [
     (
         "pull",
         &[
@@ -36,6 +39,41 @@ pub const KEYS: [(&str, &[&str]); 6] = [
     ("hash", &["name", "name_hex", "hash", "hash_hex"]),
 ];
 
+/// Those of the objects inside, by the key under which they stand.
+const INNER_KEYS: [(&str, &[&str]); 3] = [
+    (
+        "runs",
+        &[
+            "first",
+            "last",
+            "answer",
+            "meaning",
+            "kind",
+            "number",
+            "difference",
+            "same_bytes",
+        ],
+    ),
+    (
+        "end",
+        &[
+            "index",
+            "kept",
+            "answer",
+            "meaning",
+            "kind",
+            "number",
+            "difference",
+        ],
+    ),
+    ("way", &["place", "slot"]),
+];
+
+fn keys_of(table: &[(&str, &'static [&'static str])], of: &str) -> &'static [&'static str] {
+    let found = table.iter().find(|(name, _)| *name == of);
+    found.map_or(&[], |(_, keys)| keys)
+}
+
 pub fn man_page() -> String {
     fs::read_to_string(host().join("harptimber.1")).expect("host/harptimber.1")
 }
@@ -56,20 +94,62 @@ fn words_of(answer: u32) -> String {
         .fold(words.to_string(), |words, mark| words.replace(mark, ""))
 }
 
-/// What an answer of a command means. The page has two words for 0: "data (for .., .. and ..: found)".
+/// What an answer of a command means. Words of their own for some commands stand in a bracket behind the
+/// usual ones: "data (for .., .. and ..: found)".
 pub fn meaning(command: &str, answer: u32) -> String {
     let words = words_of(answer);
-    if answer != 0 {
+    let Some((usual, others)) = words.split_once(" (for ") else {
         return words;
-    }
-    let (data, others) = words.split_once(" (for ").expect("two words for 0");
-    let (others, found) = others.split_once(": ").expect("the other word for 0");
-    let word = if others.contains(command) {
-        found.trim_end_matches(')')
-    } else {
-        data
     };
-    word.to_string()
+    let others = others.strip_suffix(')').expect("a bracket's end");
+    let (commands, own) = others.split_once(": ").expect("words of their own");
+    let mut commands = commands.split([',', ' ']);
+    let words = if commands.any(|of| of == command) {
+        own
+    } else {
+        usual
+    };
+    words.to_string()
+}
+
+/// A command's own words on JSON name each key, as often as it stands in another object, and nothing else.
+pub fn expect_keys_on_page(command: &str) {
+    let keys = keys_of(&KEYS, command);
+    let inner = keys.iter().map(|key| keys_of(&INNER_KEYS, key));
+    let keys = [&[keys], &inner.collect::<Vec<_>>()[..]].concat().concat();
+    let paragraph = on_json(command);
+    let words: Vec<&str> = paragraph.lines().flat_map(in_bold).collect();
+    for key in words.iter().chain(&keys) {
+        let [on_page, in_json] =
+            [&words, &keys].map(|all| all.iter().filter(|word| *word == key).count());
+        assert!(in_json > 0, "'{key}' isn't in the JSON of {command}");
+        assert!(on_page >= in_json, "'{key}' of {command} is missing");
+    }
+}
+
+/// A command's paragraph on JSON, as it is written.
+fn on_json(command: &str) -> String {
+    let page = man_page();
+    let section = page.split("\n.SH JSON\n").nth(1).expect("a part on JSON");
+    let section = section.split("\n.SH ").next().unwrap();
+    let paragraph = section.split(&format!("\n.TP\n.B {command}\n")).nth(1);
+    let paragraph = paragraph.unwrap_or_else(|| panic!("nothing on the JSON of {command}"));
+    let end = ["\n.TP", "\n.PP"]
+        .iter()
+        .filter_map(|end| paragraph.find(end))
+        .min();
+    paragraph[..end.unwrap_or(paragraph.len())].to_string()
+}
+
+/// Of a line like `.BR image ", " name " and " runs :` what isn't between quotes.
+fn in_bold(line: &str) -> Vec<&str> {
+    let is_key = |letter: char| letter.is_ascii_lowercase() || letter == '_';
+    let words = [".B ", ".BR "]
+        .iter()
+        .find_map(|bold| line.strip_prefix(bold));
+    let parts = words.unwrap_or_default().split('"').step_by(2);
+    let words = parts.flat_map(|part| part.split(move |letter| !is_key(letter)));
+    words.filter(|word| !word.is_empty()).collect()
 }
 
 /// What every object has, and that it has nothing beside what the page names.
@@ -77,10 +157,19 @@ pub fn expect_head(json: &Json, command: &str, answer: u32) {
     assert_eq!(json["command"].text(), command);
     assert_eq!(json["answer"].number(), u64::from(answer), "in {json:?}");
     assert_eq!(json["meaning"].text(), meaning(command, answer));
-    let (_, keys) = KEYS.iter().find(|(of, _)| *of == command).unwrap();
+    expect_keys(json, &[&HEAD[..], keys_of(&KEYS, command)].concat());
+    for (key, known) in INNER_KEYS {
+        match json.get(key) {
+            Some(Json::List(objects)) => objects.iter().for_each(|json| expect_keys(json, known)),
+            Some(object) => expect_keys(object, known),
+            None => (),
+        }
+    }
+}
+
+fn expect_keys(json: &Json, known: &[&str]) {
     for key in json.keys() {
-        let known = ["command", "answer", "meaning"].contains(&key) || keys.contains(&key);
-        assert!(known, "'{key}' isn't on the page: {json:?}");
+        assert!(known.contains(&key), "'{key}' isn't on the page: {json:?}");
     }
 }
 

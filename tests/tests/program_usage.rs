@@ -4,7 +4,7 @@ use std::process::{Command, Stdio};
 
 use harptimber_tests::json::Json;
 use harptimber_tests::program::{host, ran, run, Word};
-use harptimber_tests::program_page::{meaning, KEYS};
+use harptimber_tests::program_page::{expect_keys_on_page, meaning};
 
 /// Each command with as many words as it needs. The files aren't there: usage comes first.
 const COMMANDS: [(&str, &[&str]); 6] = [
@@ -214,15 +214,15 @@ fn man_page() {
     let answers = page.split("\nANSWERS\n").nth(1).expect("the answers");
     let answers = answers.split("\nJSON\n").next().unwrap();
     let answers = answers.replace('\u{2019}', "'");
-    let json = page.split("\nJSON\n").nth(1).expect("the objects");
-    let json = json.split("\nEXAMPLES\n").next().unwrap();
-    let is_letter = |letter: char| letter.is_alphanumeric() || letter == '_';
-    let words: Vec<&str> = json.split(|letter| !is_letter(letter)).collect();
-    for key in KEYS.iter().flat_map(|(_, keys)| *keys) {
-        assert!(words.contains(key), "no {key} in {json}");
-    }
     for answer in 0..=16 {
         let line = format!(" {answer}   {}", meaning("pull", answer));
         assert!(answers.contains(&line), "no '{line}' in {answers}");
+    }
+}
+
+#[test]
+fn keys_of_json() {
+    for (command, _) in COMMANDS {
+        expect_keys_on_page(command);
     }
 }
