@@ -86,11 +86,11 @@ pub fn run_to(path: &Path, words: Words) -> Ran {
     ran(&mut command(words), file.expect("a file").into())
 }
 
-/// With its standard files as a shell redirects them.
-pub fn run_redirected(redirection: &str, words: Words) -> Ran {
+/// By a line of the shell, where `"$@"` are the program and its words.
+pub fn run_by_shell(line: &str, words: Words) -> Ran {
     let command = command(words);
     let mut shell = Command::new("sh");
-    shell.args(["-c", &format!("exec \"$@\" {redirection}"), "sh"]);
+    shell.args(["-c", line, "sh"]);
     shell.arg(command.get_program()).args(command.get_args());
     ran(&mut shell, Stdio::piped())
 }

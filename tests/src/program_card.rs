@@ -80,6 +80,8 @@ pub struct ProgramCard {
     pub files: Vec<Put>,
     pub outside: Put,
     pub refused: Vec<Refused>,
+    /// Node numbers that aren't in use: without an inode, and with one.
+    pub unused: [u32; 2],
 }
 
 impl ProgramCard {
@@ -90,6 +92,11 @@ impl ProgramCard {
         card.add_root(0, 2);
         let files = readable(&mut card);
         let (outside, refused) = unreadable(&mut card);
+        let unused = [0, 77].map(|ino| {
+            let nid = card.free_number();
+            card.set_entry(nid, ino, 0);
+            nid
+        });
         card.image.settle("a card for the program");
         ProgramCard {
             disk: OnDisk::new(card.image.clone()),
@@ -97,6 +104,7 @@ impl ProgramCard {
             files,
             outside,
             refused,
+            unused,
         }
     }
 

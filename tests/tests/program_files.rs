@@ -6,12 +6,16 @@ use std::os::unix::fs::{MetadataExt, PermissionsExt};
 use std::path::Path;
 use std::process::{Command, Stdio};
 
+use harptimber_tests::held::make_fifo;
 use harptimber_tests::program::*;
 use harptimber_tests::program_card::{shared_card, ROAD};
 use harptimber_tests::program_page::shown;
+use harptimber_tests::published::Scratch;
 
-/// Runs each command on an image that can't be read.
-fn expect_unreadable(bad: &Path, run: impl Fn(Words) -> Ran) {
+const NO_IMAGE: &str = "is neither a file nor a block device";
+
+/// Runs each command on an image that can't be read, for this reason.
+fn expect_unreadable(bad: &Path, why: &str, run: impl Fn(Words) -> Ran) {
     let card = shared_card();
     let (good, bad) = (card.disk.path(), bad.to_path_buf());
     let lines: [Words; 7] = [
@@ -24,16 +28,20 @@ fn expect_unreadable(bad: &Path, run: impl Fn(Words) -> Ran) {
         &[&"compare", &"--json", &bad, &bad, &ROAD],
     ];
     for line in lines {
-        run(line).expect_message(2, &[bad.to_str().unwrap()]);
+        let message = format!("harptimber: {}: {why}\n", bad.display());
+        assert_eq!(run(line).expect_message(2, &[]).err, message);
     }
 }
 
 #[test]
 fn missing() {
     let card = shared_card();
-    expect_unreadable(&card.disk.scratch.path("missing.img"), run);
-    expect_unreadable(&card.disk.path().join("below a file"), run);
-    expect_unreadable(Path::new(&"long/".repeat(2000)), run);
+    let below = card.disk.path().join("below a file");
+    let missing = card.disk.scratch.path("missing.img");
+    expect_unreadable(&missing, "No such file or directory", run);
+    expect_unreadable(&below, "Not a directory", run);
+    let long = "long/".repeat(2000);
+    expect_unreadable(Path::new(&long), "File name too long", run);
 }
 
 #[test]
@@ -41,13 +49,13 @@ fn empty() {
     let card = shared_card();
     let empty = card.disk.scratch.path("empty.img");
     File::create(&empty).unwrap();
-    expect_unreadable(&empty, run);
+    expect_unreadable(&empty, "is empty", run);
 }
 
 #[test]
 fn folder() {
     let card = shared_card();
-    expect_unreadable(card.disk.scratch.folder(), run);
+    expect_unreadable(card.disk.scratch.folder(), "is a directory", run);
 }
 
 /// Nobody writes to it: opening it mustn't wait.
@@ -55,15 +63,14 @@ fn folder() {
 fn fifo() {
     let card = shared_card();
     let fifo = card.disk.scratch.path("fifo");
-    let made = Command::new("mkfifo").arg(&fifo).status().expect("mkfifo");
-    assert!(made.success());
-    expect_unreadable(&fifo, run);
+    make_fifo(&fifo);
+    expect_unreadable(&fifo, NO_IMAGE, run);
 }
 
 #[test]
 fn devices() {
     for device in ["/dev/null", "/dev/zero", "/dev/full"] {
-        expect_unreadable(Path::new(device), run);
+        expect_unreadable(Path::new(device), NO_IMAGE, run);
     }
 }
 
@@ -88,11 +95,22 @@ fn no_permission() {
     fs::copy(card.disk.path(), &image).unwrap();
     let allow = |mode| fs::set_permissions(&image, PermissionsExt::from_mode(mode)).unwrap();
     allow(0o000);
-    expect_unreadable(&image, run_without_privilege);
+    expect_unreadable(&image, "Permission denied", run_without_privilege);
     allow(0o400);
     run_without_privilege(&[&"pull", &image, &ROAD, &"0"]).expect(0);
     let words: Words = &[&"pull", &"-o", &image, &card.disk.path(), &ROAD, &"0"];
-    run_without_privilege(words).expect_message(2, &[image.to_str().unwrap()]);
+    let message = format!("{}: Permission denied\n", image.display());
+    run_without_privilege(words).expect_message(2, &[&message]);
+}
+
+/// With less memory to be had than the image has bytes.
+#[test]
+fn too_big() {
+    let scratch = Scratch::new();
+    let image = scratch.path("too big.img");
+    File::create(&image).unwrap().set_len(1 << 30).unwrap();
+    let with_little = |words: Words| run_by_shell("ulimit -v 500000; exec \"$@\"", words);
+    expect_unreadable(&image, "is too big to map", with_little);
 }
 
 /// Paths that JSON can't have as they are.

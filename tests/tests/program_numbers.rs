@@ -89,6 +89,7 @@ fn node_numbers(card: &ProgramCard) -> Vec<u32> {
     let mut numbers = vec![0, 1, 2, 3, 4, 454, 455, 456, 909, 910, 911];
     numbers.extend([end - 1, end, end + 1, 1 << 31, u32::MAX]);
     numbers.extend(card.files.iter().map(|file| file.ino));
+    numbers.extend(card.unused);
     let mut random = Random::new(4);
     numbers.extend((0..20).map(|_| random.below(u64::from(end)) as u32));
     numbers

@@ -32,6 +32,11 @@ fn numbers_of(ran: &Ran, start: &str) -> Option<Vec<u32>> {
     Some(numbers.map(|number| number.expect("a number")).collect())
 }
 
+fn counted(count: usize, thing: &str) -> String {
+    let plural = if count == 1 { "" } else { "s" };
+    format!("{count} {thing}{plural}")
+}
+
 #[test]
 fn pulls() {
     let card = shared_card();
@@ -43,14 +48,19 @@ fn pulls() {
         for list in ["nodes:", "blocks:"] {
             assert_eq!(numbers_of(&ran, list), None, "of {ran:?}");
         }
+        let rests = [
+            counted(outcome.nodes().len(), "node"),
+            counted(outcome.blocks().len(), "block"),
+        ];
+        let rests = format!("\nrests on {}\n", rests.join(" and "));
+        assert!(ran.words().ends_with(&rests), "no '{rests}' in {ran:?}");
         assert!(
             hex_view(&ran).is_none(),
             "bytes without a terminal: {ran:?}"
         );
         let count = match outcome.pulled.byte_count {
             0 => "\n".to_string(),
-            1 => ", 1 byte\n".to_string(),
-            count => format!(", {count} bytes\n"),
+            count => format!(", {}\n", counted(count as usize, "byte")),
         };
         let said = format!("(answer {answer}){count}");
         // Why a file is inline may be told too.
@@ -75,20 +85,42 @@ fn lookups() {
             assert!(ran.words().ends_with(&numbers), "of {ran:?}");
         }
     }
+    for number in card.unused {
+        let (_, address) = node_lookup(card.card.image.bytes(), number).expect("an entry");
+        assert_eq!(address, 0);
+        let ran = run(&[&"node", &path, &number]).expect(0);
+        assert_eq!(
+            ran.words(),
+            format!("node {number}: not in use (answer 0)\n")
+        );
+    }
 }
 
-/// A line for each node on the way.
+/// A line for each node on the way, with its kind.
 #[test]
 fn places() {
-    for index in [0, 922, 923, 2959, 2_075_607, 1_057_053_438, u32::MAX] {
+    let [inode, direct] = ["inode", "direct node"];
+    let [indirect, double] = ["indirect node", "double indirect node"];
+    let indexes: [(u32, &[&str]); 9] = [
+        (0, &[inode]),
+        (922, &[inode]),
+        (923, &[inode, direct]),
+        (2958, &[inode, direct]),
+        (2959, &[inode, indirect, direct]),
+        (2_075_606, &[inode, indirect, direct]),
+        (2_075_607, &[inode, double, indirect, direct]),
+        (1_057_053_438, &[inode, double, indirect, direct]),
+        (u32::MAX, &[]),
+    ];
+    for (index, kinds) in indexes {
         let place = file_place(923, index).numbers();
         let ran = words_of("place", &[&"923", &index], place.answer);
         let lines: Vec<&str> = ran.words().lines().skip(1).collect();
+        let steps = place.way.iter().zip(kinds);
+        let expected =
+            steps.map(|((place, slot), kind)| format!("place {place}, slot {slot} ({kind})"));
+        assert_eq!(lines, expected.collect::<Vec<_>>(), "of {ran:?}");
         assert_eq!(lines.len(), place.steps as usize, "of {ran:?}");
-        for (line, (place, slot)) in lines.iter().zip(place.way) {
-            let step = format!("place {place}, slot {slot} ");
-            assert!(line.starts_with(&step), "no '{step}' in {ran:?}");
-        }
     }
 }
 
@@ -105,20 +137,26 @@ fn hashes() {
 #[test]
 fn out_of_shape() {
     let card = shared_card();
-    let long = vec![b'x'; 256];
-    let lines: [(Words, &str); 6] = [
-        (&[&"hash", &"a/b"], "slash"),
-        (&[&"hash", &""], "name"),
-        (&[&"hash", &long], "name"),
-        (&[&"pull", &card.disk.path(), &long, &"0"], "name"),
-        (&[&"place", &"5", &"0"], "873 or 923"),
-        (&[&"place", &"4294967295", &"0"], "873 or 923"),
+    let path = card.disk.path();
+    let long = vec![b'x'; 300];
+    let slash = "the name has a slash; only the root directory is read";
+    let too_long = "the name has 300 bytes; at most 255 are possible";
+    let lines: [(Words, &str); 9] = [
+        (&[&"hash", &"a/b"], "the name has a slash"),
+        (&[&"hash", &""], "the name is empty"),
+        (&[&"hash", &long], too_long),
+        (&[&"pull", &path, &"a/b", &"0"], slash),
+        (&[&"pull", &path, &"", &"0"], "the name is empty"),
+        (&[&"pull", &path, &long, &"0"], too_long),
+        (&[&"compare", &path, &path, &"a/b"], slash),
+        (&[&"place", &"5", &"0"], "A has to be 873 or 923"),
+        (&[&"place", &"4294967295", &"0"], "A has to be 873 or 923"),
     ];
-    for (line, part) in lines {
+    for (line, why) in lines {
         let ran = run(line).expect(2);
-        for part in ["out of shape", "(answer 4)", part] {
-            assert!(ran.words().contains(part), "no '{part}' in {ran:?}");
-        }
+        let end = format!(": out of shape (answer 4): {why}\n");
+        assert!(ran.words().ends_with(&end), "no '{end}' in {ran:?}");
+        assert_eq!(ran.words().lines().count(), 1, "lines of {ran:?}");
     }
 }
 
@@ -139,8 +177,25 @@ fn hex_view(ran: &Ran) -> Option<Vec<u8>> {
         assert_eq!(bytes.len(), place, "place of '{line}'");
         let row = words.take_while(|word| !word.starts_with('|'));
         bytes.extend(row.map(|byte| u8::from_str_radix(byte, 16).expect(line)));
+        let characters = line
+            .split_once("  |")
+            .map_or("", |(_, characters)| characters);
+        assert_eq!(characters, in_characters(&bytes[place..]), "of '{line}'");
     }
     shown.then_some(bytes)
+}
+
+/// What a line of hexadecimal has behind its bytes: a full stop for each that isn't a plain character.
+fn in_characters(bytes: &[u8]) -> String {
+    let shown = |&byte: &u8| match byte {
+        b' '..=b'~' => char::from(byte),
+        _ => '.',
+    };
+    let characters: String = bytes.iter().map(shown).collect();
+    match bytes {
+        [] => characters,
+        _ => characters + "|",
+    }
 }
 
 #[test]
