@@ -2,15 +2,18 @@
 
 use std::fs::{self, File};
 use std::path::PathBuf;
+use std::sync::Arc;
 
 use harptimber_tests::image::Image;
 use harptimber_tests::json::Json;
 use harptimber_tests::knobs::{Knobs, MOST_BLOCKS};
 use harptimber_tests::layout::checkpoint::{CHECKSUM, CKPT_FLAGS, CP_LARGE_NAT_BITMAP_FLAG};
 use harptimber_tests::layout::journal::N_NATS;
-use harptimber_tests::layout::superblock::{CP_PAYLOAD, FEATURE, MAGIC};
-use harptimber_tests::layout::BLOCK_SIZE;
-use harptimber_tests::on_disk::OnDisk;
+use harptimber_tests::layout::superblock::{
+    BLOCK_COUNT, CP_PAYLOAD, FEATURE, LOG_BLOCKSIZE, MAGIC,
+};
+use harptimber_tests::layout::{Field, BLOCK_SIZE};
+use harptimber_tests::on_disk::{OnDisk, Shared};
 use harptimber_tests::program::{run, Words};
 use harptimber_tests::program_page::{expect_head, expect_name, meaning};
 use harptimber_tests::published::{formatted, Scratch};
@@ -21,6 +24,8 @@ const NAME: &[u8] = b"road.bin";
 struct Unopened {
     path: PathBuf,
     answer: u32,
+    /// What is said behind the answer.
+    why: String,
 }
 
 /// A card that opens.
@@ -35,68 +40,99 @@ struct Images {
 }
 
 impl Images {
-    fn new() -> Images {
-        let mut images = Images {
-            scratch: Scratch::new(),
-            unopened: Vec::new(),
-        };
-        images.add_lengths();
-        images.add_damaged();
-        images.add_published();
-        images
+    /// Those that the tests share.
+    fn shared() -> Arc<Images> {
+        static IMAGES: Shared<Images> = Shared::empty();
+        IMAGES.get(|| {
+            let mut images = Images {
+                scratch: Scratch::new(),
+                unopened: Vec::new(),
+            };
+            images.add_lengths();
+            images.add_damaged();
+            images.add_without_superblock();
+            images.add_published();
+            images
+        })
     }
 
-    fn add(&mut self, name: &str, answer: u32, image: &Image) {
+    fn add(&mut self, name: &str, answer: u32, why: &str, image: &Image) {
         let path = self.scratch.path(name);
         image.save(&path);
-        self.unopened.push(Unopened { path, answer });
+        let why = why.to_string();
+        self.unopened.push(Unopened { path, answer, why });
+    }
+
+    /// The sound card cut or made longer.
+    fn add_length(&mut self, len: u64, answer: u32, why: &str) {
+        self.add(&format!("{len} bytes"), answer, why, &sound());
+        let path = &self.unopened.last().unwrap().path;
+        let file = File::options().write(true).open(path).unwrap();
+        file.set_len(len).expect("a length");
     }
 
     fn add_lengths(&mut self) {
         let block = BLOCK_SIZE as u64;
         let whole = sound().bytes().len() as u64;
         let most = u64::from(MOST_BLOCKS) * block;
-        for len in [
-            1,
-            block,
-            2 * block - 1,
-            whole - 1,
-            whole + 1,
-            most + 1,
-            most + block,
-        ] {
-            self.add(&format!("{len} bytes"), 4, &sound());
-            let path = &self.unopened.last().unwrap().path;
-            let file = File::options().write(true).open(path).unwrap();
-            file.set_len(len).expect("a length");
+        for len in [1, 2 * block - 1, whole - 1, whole + 1, most + 1] {
+            let bytes = if len == 1 { "byte" } else { "bytes" };
+            let not_whole = "which isn't a whole number of 4,096-byte blocks";
+            self.add_length(
+                len,
+                4,
+                &format!(": the image has {len} {bytes}, {not_whole}"),
+            );
         }
+        let (few, many) = ("a card has at least 2", "at most 262,144 are read");
+        self.add_length(block, 4, &format!(": the image has 1 block; {few}"));
+        let why = format!(": the image has 262145 blocks; {many}");
+        self.add_length(most + block, 4, &why);
+        let [count, left] = [whole, whole - block].map(|len| len / block);
+        let why = format!("; the superblock counts {count} blocks, the image has {left}");
+        self.add_length(whole - block, 5, &why);
+    }
+
+    fn add_changed(&mut self, name: &str, answer: u32, why: &str, fields: &[(u32, Field, u64)]) {
+        let mut image = sound();
+        for &(block, field, value) in fields {
+            image.set(block, field, value);
+        }
+        self.add(name, answer, why, &image);
     }
 
     fn add_damaged(&mut self) {
         let pack = sound().first_block(0);
         let flags = sound().get(pack, CKPT_FLAGS) | u64::from(CP_LARGE_NAT_BITMAP_FLAG);
-        let changes = [
-            ("no mark", 5, vec![(0, MAGIC, 0), (1, MAGIC, 0)]),
-            ("a feature", 6, vec![(0, FEATURE, 1)]),
-            ("a payload", 6, vec![(0, CP_PAYLOAD, 1)]),
-            ("no checksum", 7, vec![(pack, CHECKSUM, 1)]),
-            ("39 in the journal", 8, vec![(pack + 1, N_NATS, 39)]),
-        ];
-        for (name, answer, fields) in changes {
-            let mut image = sound();
-            for (block, field, value) in fields {
-                image.set(block, field, value);
-            }
-            self.add(name, answer, &image);
-        }
+        self.add_changed("a feature", 6, "", &[(0, FEATURE, 1)]);
+        self.add_changed("a payload", 6, "", &[(0, CP_PAYLOAD, 1)]);
+        self.add_changed("no checksum", 7, "", &[(pack, CHECKSUM, 1)]);
+        self.add_changed("39 in the journal", 8, "", &[(pack + 1, N_NATS, 39)]);
         let mut image = sound();
         image.set_sealed(pack, CKPT_FLAGS, flags);
-        self.add("a large map", 8, &image);
+        self.add("a large map", 8, "", &image);
+    }
+
+    /// With and without a mark, and with more blocks than there are in the one copy or the other.
+    fn add_without_superblock(&mut self) {
+        let no_mark = "; no F2FS mark: is it another file system, or a whole disk with partitions?";
+        let fields = [(0, MAGIC, 0), (1, MAGIC, 0)];
+        self.add_changed("no mark", 5, no_mark, &fields);
+        let fields = [(0, LOG_BLOCKSIZE, 13), (1, LOG_BLOCKSIZE, 13)];
+        self.add_changed("larger blocks", 5, "", &fields);
+        let blocks = sound().bytes().len() / BLOCK_SIZE;
+        let count = (1 << 33) + 9;
+        let why = format!("; the superblock counts {count} blocks, the image has {blocks}");
+        for (copy, other) in [(0, 1), (1, 0)] {
+            let name = format!("many blocks by copy {copy}");
+            let fields = [(copy, BLOCK_COUNT, count), (other, MAGIC, 0)];
+            self.add_changed(&name, 5, &why, &fields);
+        }
     }
 
     fn add_published(&mut self) {
         for (options, answer) in [("-O extra_attr", 6), ("-i", 7)] {
-            self.add(options, answer, &formatted(64, options));
+            self.add(options, answer, "", &formatted(64, options));
         }
     }
 
@@ -118,9 +154,9 @@ fn refused(command: &'static str, words: Words, answer: u32) -> Json {
 
 #[test]
 fn as_json() {
-    let images = Images::new();
+    let images = Images::shared();
     let output = images.scratch.path("output");
-    for Unopened { path, answer } in &images.unopened {
+    for Unopened { path, answer, .. } in &images.unopened {
         let json = refused("pull", &[path, &NAME, &"7"], *answer);
         assert_eq!(json["byte_count"].number(), 0);
         assert_eq!(json["nodes"].list().len() + json["blocks"].list().len(), 0);
@@ -139,8 +175,8 @@ fn as_json() {
 
 #[test]
 fn in_words() {
-    let images = Images::new();
-    for Unopened { path, answer } in &images.unopened {
+    let images = Images::shared();
+    for Unopened { path, answer, why } in &images.unopened {
         let lines: [Words; 5] = [
             &[&"pull", path, &NAME, &"0"],
             &[&"pull", &"--lists", path, &NAME, &"0"],
@@ -154,9 +190,10 @@ fn in_words() {
             // Of all that can be out of shape, only what is.
             let meaning = meaning("pull", *answer);
             let meaning = meaning.split(": ").next().unwrap();
-            for part in [&format!("(answer {answer})"), meaning] {
-                assert!(text.contains(part), "no '{part}' in {ran:?}");
-            }
+            let part = format!(": {meaning} (answer {answer}){why}");
+            let behind = text.split_once(&part).map(|(_, behind)| behind);
+            let ends = ["\n", "; 0 bytes were written\n"].map(Some);
+            assert!(ends.contains(&behind), "no '{part}' in {ran:?}");
         }
     }
 }
@@ -180,10 +217,10 @@ fn expect_side(kept: &PathBuf, new: &PathBuf, answer: u32, side: u64) {
 
 #[test]
 fn sides() {
-    let images = Images::new();
+    let images = Images::shared();
     let sound = OnDisk::new(sound());
     let good = sound.path();
-    for Unopened { path, answer } in &images.unopened {
+    for Unopened { path, answer, .. } in &images.unopened {
         expect_side(path, &good, *answer, 1);
         expect_side(&good, path, *answer, 2);
         expect_side(path, path, *answer, 1);
@@ -193,9 +230,9 @@ fn sides() {
 /// If neither opens, it is the kept one that is named.
 #[test]
 fn both_sides() {
-    let images = Images::new();
+    let images = Images::shared();
     for kept in 4..=8 {
-        for new in 5..=8 {
+        for new in 4..=8 {
             let paths = [kept, new].map(|answer| images.path_with(answer));
             expect_side(&paths[0], &paths[1], kept, 1);
         }

@@ -17,10 +17,8 @@ fn words_of(command: &'static str, words: Words, answer: u32) -> Ran {
     let control = |letter: char| letter.is_control() && letter != '\n';
     assert!(!ran.words().contains(control), "control bytes of {ran:?}");
     let first = ran.words().lines().next().expect("a line");
-    let number = format!("(answer {answer})");
-    for part in [&number, &meaning(command, answer)] {
-        assert!(first.contains(part), "no '{part}' in {ran:?}");
-    }
+    let said = format!(": {} (answer {answer})", meaning(command, answer));
+    assert!(first.contains(&said), "no '{said}' in {ran:?}");
     ran
 }
 
