@@ -126,3 +126,18 @@ fn without_returns(out: &[u8]) -> Vec<u8> {
     let ends = ended.map(|line| line.strip_suffix(b"\r").unwrap_or(line));
     ends.chain([lines[last]]).collect::<Vec<_>>().join(&b'\n')
 }
+
+/// What a terminal shows in the end: behind a carriage return, a line is written over.
+pub fn screen(text: &str) -> String {
+    let line = |line: &str| {
+        let mut shown: Vec<char> = Vec::new();
+        for part in line.split('\r') {
+            let part: Vec<char> = part.chars().collect();
+            let rest = shown.split_off(part.len().min(shown.len()));
+            shown = [part, rest].concat();
+        }
+        let shown: String = shown.into_iter().collect();
+        shown.trim_end_matches(' ').to_string()
+    };
+    text.split('\n').map(line).collect::<Vec<_>>().join("\n")
+}

@@ -5,14 +5,11 @@ use std::sync::Arc;
 
 use harptimber_tests::layout::BLOCK_SIZE;
 use harptimber_tests::on_disk::{OnDisk, Shared};
-use harptimber_tests::program::{run, run_on_terminal, Words};
+use harptimber_tests::program::run;
 use harptimber_tests::program_card::{shared_card, Put, OUTSIDE};
 use harptimber_tests::program_page::{expect_head, expect_name, meaning, shown};
-use harptimber_tests::published::{filled_on, File};
+use harptimber_tests::published::{filled_on, File, LONGEST_INLINE};
 use harptimber_tests::trial::Random;
-
-/// Files up to this size stand in their inode, which isn't read.
-const LONGEST_INLINE: usize = 3344;
 
 /// Sizes around those at which a file has one block more, or one node more.
 const SIZES: [usize; 10] = [
@@ -157,27 +154,4 @@ fn refused() {
             assert_eq!(written.len(), *index as usize * BLOCK_SIZE);
         }
     }
-}
-
-/// Progress is shown if standard error is a terminal and the bytes don't go to one.
-#[test]
-fn progress() {
-    let card = published();
-    let path = card.disk.path();
-    let output = card.disk.scratch.path("progress");
-    let (name, bytes) = card.files.last().unwrap();
-    let name = std::str::from_utf8(name).unwrap();
-    let words: Words = &[&"cat", &path, &name];
-    let to_file: Words = &[&"cat", &"-o", &output, &path, &name];
-    for (words, redirected) in [(words, Some(output.as_path())), (to_file, None)] {
-        let shown = run_on_terminal(words, redirected).expect(0);
-        expect_bytes(name.as_bytes(), &fs::read(&output).unwrap(), bytes);
-        let total = format!("{} MiB", bytes.len().div_ceil(1 << 20));
-        assert!(shown.words().contains(&total), "progress of {shown:?}");
-        fs::remove_file(&output).unwrap();
-    }
-    let both = run_on_terminal(words, None).expect(0);
-    expect_bytes(name.as_bytes(), &both.out, bytes);
-    let small = run_on_terminal(&[&"cat", &path, &"4097"], Some(&output)).expect(0);
-    assert_eq!(small.words(), "", "a small file's progress");
 }

@@ -4,7 +4,9 @@ use harptimber_tests::json::Json;
 
 #[test]
 fn values() {
-    let text = " {\"a\" : [ ] , \"b\":[0,10,{}] ,\"c\":\"\\u00e9\\ud834\\udd1e\\\"\\\\\\/\\n\\t \u{FFFD}\"} \n";
+    let lists = "\"a\" : [ ] , \"b\":[0,10,{}]";
+    let string = "\"\\u00e9\\ud834\\udd1e\\\"\\\\\\/\\n\\t \u{FFFD}\"";
+    let text = &format!(" {{{lists} ,\"c\":{string}}} \n");
     let json = Json::parse(text).expect("an object");
     assert_eq!(json.keys(), ["a", "b", "c"]);
     assert_eq!(json["a"], Json::List(Vec::new()));

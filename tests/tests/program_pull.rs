@@ -9,7 +9,7 @@ use harptimber_tests::on_disk::OnDisk;
 use harptimber_tests::program::run;
 use harptimber_tests::program_card::{pulled, ProgramCard};
 use harptimber_tests::program_page::{expect_head, expect_name, status_of};
-use harptimber_tests::published::{filled_on, File};
+use harptimber_tests::published::{filled_on, File, LONGEST_INLINE};
 use harptimber_tests::trial::Random;
 
 /// Pulls a block for its object, which has to be the reference's. Returns the answer.
@@ -63,7 +63,7 @@ fn published_files() {
     let len = (873 + 1018) * BLOCK_SIZE + 4097;
     let files: [File; 2] = [
         (b"long".to_vec(), random.bytes(len)),
-        (b"inline".to_vec(), random.bytes(3344)),
+        (b"inline".to_vec(), random.bytes(LONGEST_INLINE)),
     ];
     let image = filled_on(100, 1_700_000_000, &files);
     let disk = OnDisk::new(image.clone());
