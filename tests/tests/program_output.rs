@@ -1,12 +1,13 @@
 //! Where `harptimber` writes a file's bytes, and what it leaves alone.
 
-use std::fs;
+use std::fs::{self, File};
+use std::io::{stderr, Write};
 use std::os::unix::fs::symlink;
 use std::path::{Path, PathBuf};
 use std::process::{Command, Stdio};
 
 use harptimber_tests::json::Json;
-use harptimber_tests::program::{command, ran, run, run_to, Words};
+use harptimber_tests::program::{ran, run, run_by_shell, run_to, Words};
 use harptimber_tests::program_card::{shared_card, ProgramCard, ROAD};
 
 /// Bytes up to the byte count, whatever the file had before.
@@ -110,7 +111,7 @@ fn onto_the_image() {
             &[&"cat", &"--json", &"-o", &image, &output, &ROAD],
         ];
         for line in lines {
-            run(line).expect_message(2, &[".img"]);
+            run(line).expect_message(2, &[".img: is the card image itself\n"]);
             expect_untouched(&card);
         }
     }
@@ -129,32 +130,63 @@ fn closed_standard_files() {
     let card = shared_card();
     let output = card.disk.scratch.path("closed_standard_files");
     let words: Words = &[&"pull", &"-o", &output, &card.disk.path(), &ROAD, &"5"];
-    let pull = command(words);
     for (closed, status) in [("<&-", 0), (">&-", 2), ("2>&-", 0), ("<&- >&- 2>&-", 2)] {
-        let line = format!("exec \"$@\" {closed}");
-        let mut shell = Command::new("sh");
-        shell.args(["-c", &line, "sh"]).arg(pull.get_program());
-        ran(shell.args(pull.get_args()), Stdio::piped()).expect(status);
+        run_by_shell(&format!("exec \"$@\" {closed}"), words).expect(status);
         let bytes = card.file(ROAD).block(&card.card.image, 5);
         assert_eq!(fs::read(&output).unwrap(), bytes, "with {closed}");
         expect_untouched(&card);
     }
 }
 
-/// What can't be written is named.
+/// What can't be written is named, with the reason.
 #[test]
 fn unwritable() {
     let card = shared_card();
     let folder = card.disk.scratch.folder().to_path_buf();
     let below = folder.join("missing").join("output");
-    for output in [PathBuf::from("/dev/full"), folder, below] {
+    let full = PathBuf::from("/dev/full");
+    for (output, why) in [
+        (full, "No space left on device"),
+        (folder, "Is a directory"),
+        (below, "No such file or directory"),
+    ] {
         let lines: [Words; 3] = [
             &[&"pull", &"-o", &output, &card.disk.path(), &ROAD, &"0"],
             &[&"cat", &"-o", &output, &card.disk.path(), &ROAD],
             &[&"cat", &"--json", &"-o", &output, &card.disk.path(), &ROAD],
         ];
         for line in lines {
-            run(line).expect_message(2, &[output.to_str().unwrap()]);
+            let message = format!("harptimber: {}: {why}\n", output.display());
+            assert_eq!(run(line).expect_message(2, &[]).err, message);
+        }
+    }
+}
+
+/// Beside the bytes on standard output, an answer that gets lost is a failure too.
+#[test]
+fn full_standard_error() {
+    let card = shared_card();
+    let path = card.disk.path();
+    let road = card.file(ROAD);
+    let [block, whole] = [
+        road.block(&card.card.image, 0),
+        road.bytes(&card.card.image),
+    ];
+    let lines: [(Words, &[u8], i32); 4] = [
+        (&[&"pull", &"-o", &"-", &path, &ROAD, &"0"], &block, 2),
+        (
+            &[&"pull", &"-o", &"-", &"--json", &path, &ROAD, &"0"],
+            &block,
+            2,
+        ),
+        (&[&"cat", &"--json", &"-o", &"-", &path, &ROAD], &whole, 2),
+        // Nothing to say.
+        (&[&"cat", &"-o", &"-", &path, &ROAD], &whole, 0),
+    ];
+    for (line, bytes, status) in lines {
+        for (lost, status) in [("/dev/full", status), ("&-", status), ("/dev/null", 0)] {
+            let ran = run_by_shell(&format!("exec \"$@\" 2>{lost}"), line).expect(status);
+            assert!(ran.out == bytes, "bytes of {ran:?}");
         }
     }
 }
@@ -182,4 +214,74 @@ fn full_standard_output() {
         let ran = run_to(Path::new("/dev/full"), line).expect(2);
         assert!(!ran.err.is_empty(), "no message of {ran:?}");
     }
+}
+
+/// A file as a block device. It is detached as soon as nobody has it open, however the test ends.
+struct Loop {
+    path: PathBuf,
+    _open: File,
+}
+
+impl Loop {
+    /// None, with a word why, where nobody may attach one.
+    fn attach(file: &Path) -> Option<Loop> {
+        let losetup = |options: &str, path: &Path| {
+            let mut shell = Command::new("sh");
+            shell.args(["-c", &format!("losetup {options} \"$1\""), "sh"]);
+            let ran = ran(shell.arg(path), Stdio::piped());
+            match ran.status {
+                0 => Ok(ran.words().trim().to_string()),
+                _ => Err(ran.err),
+            }
+        };
+        let path = losetup("-f --show", file).map(PathBuf::from);
+        let open = |path: PathBuf| {
+            let open = File::open(&path).map_err(|error| error.to_string());
+            losetup("-d", &path)?;
+            Ok(Loop { path, _open: open? })
+        };
+        path.and_then(open)
+            .inspect_err(|why| {
+                // Not by a macro, whose words a test that passes doesn't show.
+                let _ = writeln!(stderr(), "no loop device, so none is tested: {why}");
+            })
+            .ok()
+    }
+}
+
+/// A block device is read as a file is. It isn't written to, nor is the file that it has its bytes from.
+#[test]
+fn block_devices() {
+    let card = ProgramCard::build();
+    let image = card.disk.path();
+    let Some(attached) = Loop::attach(&image) else {
+        return;
+    };
+    let device = attached.path.clone();
+    let read = run(&[&"cat", &device, &ROAD]).expect(0);
+    assert!(read.out == card.file(ROAD).bytes(&card.card.image));
+    run(&[&"compare", &image, &device, &ROAD]).expect(0);
+    let itself = "is the card image itself";
+    let refused = [
+        (&image, &device, "is a block device"),
+        (&device, &image, itself),
+        (&device, &device, itself),
+    ];
+    for (image, output, why) in refused {
+        let lines: [Words; 3] = [
+            &[&"pull", &"-o", output, image, &ROAD, &"0"],
+            &[&"cat", &"-o", output, image, &ROAD],
+            &[&"cat", &"--json", &"-o", output, image, &ROAD],
+        ];
+        for line in lines {
+            let message = format!("harptimber: {}: {why}\n", output.display());
+            assert_eq!(run(line).expect_message(2, &[]).err, message);
+            expect_untouched(&card);
+        }
+    }
+    run_to(&image, &[&"cat", &device, &ROAD]).expect_message(2, &[itself]);
+    expect_untouched(&card);
+    let other = card.disk.scratch.path("other");
+    run(&[&"cat", &"-o", &other, &device, &ROAD]).expect(0);
+    assert!(fs::read(&other).unwrap() == read.out, "another file");
 }
