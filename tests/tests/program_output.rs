@@ -1,7 +1,6 @@
 //! Where `harptimber` writes a file's bytes, and what it leaves alone.
 
 use std::fs::{self, File};
-use std::io::{stderr, Write};
 use std::os::unix::fs::symlink;
 use std::path::{Path, PathBuf};
 use std::process::{Command, Stdio};
@@ -138,28 +137,29 @@ fn closed_standard_files() {
     }
 }
 
-/// What can't be written is named, with the reason.
+/// A message that names the output, with the reason.
+fn expect_refused(image: &PathBuf, output: &PathBuf, why: &str) {
+    let lines: [Words; 3] = [
+        &[&"pull", &"-o", output, image, &ROAD, &"0"],
+        &[&"cat", &"-o", output, image, &ROAD],
+        &[&"cat", &"--json", &"-o", output, image, &ROAD],
+    ];
+    for line in lines {
+        let message = format!("harptimber: {}: {why}\n", output.display());
+        assert_eq!(run(line).expect_message(2, &[]).err, message);
+    }
+}
+
 #[test]
 fn unwritable() {
     let card = shared_card();
     let folder = card.disk.scratch.folder().to_path_buf();
     let below = folder.join("missing").join("output");
     let full = PathBuf::from("/dev/full");
-    for (output, why) in [
-        (full, "No space left on device"),
-        (folder, "Is a directory"),
-        (below, "No such file or directory"),
-    ] {
-        let lines: [Words; 3] = [
-            &[&"pull", &"-o", &output, &card.disk.path(), &ROAD, &"0"],
-            &[&"cat", &"-o", &output, &card.disk.path(), &ROAD],
-            &[&"cat", &"--json", &"-o", &output, &card.disk.path(), &ROAD],
-        ];
-        for line in lines {
-            let message = format!("harptimber: {}: {why}\n", output.display());
-            assert_eq!(run(line).expect_message(2, &[]).err, message);
-        }
-    }
+    let image = card.disk.path();
+    expect_refused(&image, &full, "No space left on device");
+    expect_refused(&image, &folder, "Is a directory");
+    expect_refused(&image, &below, "No such file or directory");
 }
 
 /// Beside the bytes on standard output, an answer that gets lost is a failure too.
@@ -240,12 +240,9 @@ impl Loop {
             losetup("-d", &path)?;
             Ok(Loop { path, _open: open? })
         };
-        path.and_then(open)
-            .inspect_err(|why| {
-                // Not by a macro, whose words a test that passes doesn't show.
-                let _ = writeln!(stderr(), "no loop device, so none is tested: {why}");
-            })
-            .ok()
+        let attached = path.and_then(open);
+        let attached = attached.inspect_err(|why| println!("no loop device is tested: {why}"));
+        attached.ok()
     }
 }
 
@@ -268,16 +265,8 @@ fn block_devices() {
         (&device, &device, itself),
     ];
     for (image, output, why) in refused {
-        let lines: [Words; 3] = [
-            &[&"pull", &"-o", output, image, &ROAD, &"0"],
-            &[&"cat", &"-o", output, image, &ROAD],
-            &[&"cat", &"--json", &"-o", output, image, &ROAD],
-        ];
-        for line in lines {
-            let message = format!("harptimber: {}: {why}\n", output.display());
-            assert_eq!(run(line).expect_message(2, &[]).err, message);
-            expect_untouched(&card);
-        }
+        expect_refused(image, output, why);
+        expect_untouched(&card);
     }
     run_to(&image, &[&"cat", &device, &ROAD]).expect_message(2, &[itself]);
     expect_untouched(&card);
