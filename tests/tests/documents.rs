@@ -109,12 +109,12 @@ fn snippet_is_of_the_example() {
 fn build_example(folder: &Scratch) -> PathBuf {
     let readme = read("README.md");
     let command = quoted(&readme).find(|words| words.starts_with("cc -I"));
-    let mut words = command.expect("a command").split_whitespace();
+    let command = command.expect("a command");
     let program = folder.path("example");
+    let command = command.replace("target/example", program.to_str().expect("a plain path"));
+    let mut words = command.split_whitespace();
     let output = Command::new(words.next().expect("a compiler"))
         .args(words)
-        .arg("-o")
-        .arg(&program)
         .current_dir(root())
         .output()
         .expect("a compiler");

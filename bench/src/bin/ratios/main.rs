@@ -38,10 +38,12 @@ Every number in the tables is a ratio of two times of this run. No time is claim
   reference/  a second program for the same rules, in safe Rust, meant to be plain and not to be fast;
               both are built for release
   GRUB        its F2FS reader, by {}
-  cards       written by mkfs.f2fs {OPTIONS} and sload.f2fs, sparse files, mapped for reading
+  cards       written by mkfs.f2fs {OPTIONS} and sload.f2fs, sparse files, mapped for reading; those of
+              table 4 are built in memory
   buffers     warm: each card is in the page cache, mapped and read before; what is lent to a pull is
               lent again to the next one, and not cleared in between
-  times       the processor's, user and system, children included: other load isn't counted
+  times       the processor's, user and system, children included: other load shows only where it
+              takes caches away
   ratios      medians over rounds, each of which times all sides and columns of a row in turn;
               {} rounds, for whole files {}
 
@@ -80,9 +82,10 @@ fn beside_itself(cards: &[Card], calls: &Calls, promises: &mut Promises) {
     let in_order = calls.in_order.parts(ARCHIVE, SAME_BLOCK);
     table.row("pull in file order to single pull", &in_order);
     table.print(
-        "2. The archive beside the least that such a call needs, by size of the card
+        "2. The archive beside other calls of its own, by size of the card
    its time as a multiple; lower is better. A compare opens both cards and reads each listed block of
-   both. A pull keeps nothing for the next one, so the next block of a file costs a pull of its own",
+   both: beside it stand two openings, by the archive too, and memcmp over the same blocks. A pull keeps
+   nothing for the next one, so the next block of a file costs a pull of its own",
     );
     promises.at_most(2.0, "compare to memcmp and two openings", &compare);
 }
