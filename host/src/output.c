@@ -20,7 +20,7 @@ static const char *prepare(int file, const struct card *card)
         return strerror(errno);
     if (card_is(card, &info))
         return "is the card image itself";
-    if (file != STDOUT_FILENO && S_ISBLK(info.st_mode)) /* it may hold the card */
+    if (S_ISBLK(info.st_mode)) /* it may hold the card */
         return "is a block device";
     if (file != STDOUT_FILENO && S_ISREG(info.st_mode) && ftruncate(file, 0) != 0)
         return strerror(errno);

@@ -44,7 +44,7 @@ struct progress progress_begin(const struct card *card, const char *name)
     return (struct progress){.name = name, .total = isatty(STDERR_FILENO) ? count_blocks(card, name) : 0};
 }
 
-/* The cursor goes back to the line's start each time, so that a message that comes meanwhile covers it. */
+/* The cursor goes back to the line's start each time: a message that comes meanwhile begins there. */
 void progress_show(struct progress *progress, uint32_t blocks)
 {
     if (progress->total == 0 || blocks < progress->next)

@@ -268,8 +268,10 @@ fn block_devices() {
         expect_refused(image, output, why);
         expect_untouched(&card);
     }
-    run_to(&image, &[&"cat", &device, &ROAD]).expect_message(2, &[itself]);
-    expect_untouched(&card);
+    for (image, output, why) in [(&device, &image, itself), (&image, &device, refused[0].2)] {
+        run_to(output, &[&"cat", image, &ROAD]).expect_message(2, &[why]);
+        expect_untouched(&card);
+    }
     let other = card.disk.scratch.path("other");
     run(&[&"cat", &"-o", &other, &device, &ROAD]).expect(0);
     assert!(fs::read(&other).unwrap() == read.out, "another file");
