@@ -51,11 +51,11 @@ static void show_block_difference(FILE *out, const struct comparison *c, const s
 {
     const uint8_t *before = c->kept.bytes + (size_t)run->verdict.number * BLOCK_SIZE;
     const uint8_t *now = c->new.bytes + (size_t)run->verdict.number * BLOCK_SIZE;
+    const char *owner = run->node != 0 ? owner_of_node(c, run->node) : owner_of_block(c, run->verdict.number);
     fprintf(out, "the card's block %" PRIu32 " (", run->verdict.number);
     if (run->node != 0)
-        fprintf(out, "node %" PRIu32 ", %s", run->node, owner_of_node(c, run->node));
-    else
-        fputs(owner_of_block(c, run->verdict.number), out);
+        fprintf(out, "node %" PRIu32 "%s", run->node, owner == NULL ? "" : ", ");
+    fputs(owner == NULL ? "" : owner, out);
     size_t at = 0;
     while (at < BLOCK_SIZE - 1 && before[at] == now[at])
         at++;
