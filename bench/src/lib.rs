@@ -4,6 +4,7 @@
 //! The program `checksum` links an archive that must not meet the library's in one program, so nothing
 //! in here may link the library.
 
+pub mod agreed;
 pub mod grid;
 pub mod pulls;
 pub mod system;

@@ -1,6 +1,4 @@
-//! Tables of ratios, and the promises on them.
-
-use std::process::ExitCode;
+//! Tables of ratios.
 
 pub struct Table {
     columns: Vec<String>,
@@ -50,46 +48,5 @@ fn cell(ratio: Option<f64>) -> String {
     match ratio {
         None => "-".to_string(),
         Some(ratio) => format!("{ratio:.2}"),
-    }
-}
-
-/// What the library is promised to keep to.
-#[derive(Default)]
-pub struct Promises {
-    kept: Vec<bool>,
-    lines: Vec<String>,
-}
-
-impl Promises {
-    /// The greatest of the ratios counts.
-    pub fn at_most(&mut self, bound: f64, what: &str, ratios: &[f64]) {
-        let worst = ratios.iter().copied().fold(f64::MIN, f64::max);
-        self.add(
-            worst <= bound,
-            format!("{what}: {worst:.2}, at most {bound:.2}"),
-        );
-    }
-
-    pub fn at_least(&mut self, bound: f64, what: &str, ratio: f64) {
-        self.add(
-            ratio >= bound,
-            format!("{what}: {ratio:.2}, at least {bound:.2}"),
-        );
-    }
-
-    fn add(&mut self, kept: bool, words: String) {
-        let word = if kept { "kept" } else { "BROKEN" };
-        self.kept.push(kept);
-        self.lines.push(format!("  {word:8}{words}"));
-    }
-
-    /// Ends with the line of counts that the gate reads.
-    pub fn finish(self) -> ExitCode {
-        println!("\nPromises: the worst ratio above, and its bound\n");
-        println!("{}\n", self.lines.join("\n"));
-        let passed = self.kept.iter().filter(|&&kept| kept).count();
-        let failed = self.kept.len() - passed;
-        println!("{passed} passed, {failed} failed");
-        ExitCode::from(u8::from(failed > 0 || passed == 0))
     }
 }

@@ -1,6 +1,7 @@
 //! The archive's calls on cards of three sizes, beside the reference's.
 
 use crate::cards::*;
+use harptimber_bench::agreed::Agreed;
 use harptimber_bench::grid::{contender, Contender, Grid, Often};
 use harptimber_bench::pulls::{pulling, Lent, BLOCKS, BLOCK_SIZE, NODES};
 use reference::compare::compare as reference_compare;
@@ -32,13 +33,13 @@ pub struct Calls {
 }
 
 impl Calls {
-    pub fn on(cards: &[Card]) -> Calls {
+    pub fn on(cards: &[Card], agreed: &mut Agreed) -> Calls {
         Calls {
             single: single(cards),
             in_order: in_order(cards),
             indirect: indirect(&cards[WITHOUT_SURVEY..]),
-            lookup: lookup(cards),
-            compare: compare(cards),
+            lookup: lookup(cards, agreed),
+            compare: compare(cards, agreed),
         }
     }
 
@@ -55,7 +56,7 @@ impl Calls {
 fn by_card<'a>(
     often: Often,
     cards: &'a [Card],
-    sides: impl Fn(&'a Card) -> Vec<Contender<'a>>,
+    sides: impl FnMut(&'a Card) -> Vec<Contender<'a>>,
 ) -> Grid {
     Grid::of(often, cards.iter().map(sides).collect())
 }
@@ -88,21 +89,21 @@ fn indirect(cards: &[Card]) -> Grid {
 }
 
 /// A lookup of a file's inode.
-fn lookup(cards: &[Card]) -> Grid {
+fn lookup(cards: &[Card], agreed: &mut Agreed) -> Grid {
     by_card(OFTEN, cards, |card| {
         let [nodes, _] = rested_on(card);
         let (image, inode) = (card.image, *nodes.last().expect("an inode"));
         let archive = move || harptimber_tests::node_lookup(black_box(image), inode);
         let reference = move || reference_lookup(black_box(image), inode);
         let found = archive();
-        assert_eq!(found.answer, 0);
-        assert_eq!(reference(), Ok((found.inode, found.address)));
+        let same = found.answer == 0 && reference() == Ok((found.inode, found.address));
+        agreed.see(same, &format!("a lookup on {} MB", card.megabytes));
         vec![contender(archive), contender(reference)]
     })
 }
 
 /// A compare of a full list, all the same; then memcmp over the same blocks beside two openings.
-fn compare(cards: &[Card]) -> Grid {
+fn compare(cards: &[Card], agreed: &mut Agreed) -> Grid {
     by_card(LONGER, cards, |card| {
         let (kept, fresh) = (card.image, card.copy);
         let listed: Vec<u32> = rested_on(card)[1].iter().copied().collect();
@@ -117,7 +118,8 @@ fn compare(cards: &[Card]) -> Grid {
             reference_compare(kept, fresh, &nodes2, NODES, &blocks2, BLOCKS).answer
         };
         let memcmp = move || memcmp(kept, fresh, &listed);
-        assert_eq!((archive(), reference(), memcmp()), (15, 15, true));
+        let same = (archive(), reference(), memcmp()) == (15, 15, true);
+        agreed.see(same, &format!("a compare on {} MB", card.megabytes));
         vec![contender(archive), contender(reference), contender(memcmp)]
     })
 }

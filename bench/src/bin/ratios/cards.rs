@@ -1,5 +1,6 @@
 //! Cards of three sizes that the published tools write.
 
+use harptimber_bench::agreed::Agreed;
 use harptimber_bench::pulls::{self, Lent, Pull, Pulled, BLOCK_SIZE};
 use harptimber_bench::system::mapped;
 use harptimber_tests::published::{file_with, File, Scratch};
@@ -24,6 +25,7 @@ pub const FIRST_INDIRECT: u32 = 873 + 2 * 1018;
 pub const ARCHIVE: usize = 0;
 pub const REFERENCE: usize = 1;
 pub const PULLS: [Pull; 2] = [archive, pulls::reference];
+pub const SIDES: [&str; 2] = ["the archive", "reference/"];
 
 fn archive(image: &[u8], name: &[u8], index: u32, lent: &mut Lent) -> Pulled {
     let (block, nodes, blocks) = (&mut lent.block, &mut lent.nodes, &mut lent.blocks);
@@ -62,11 +64,12 @@ impl Card {
     }
 
     /// Both sides have to give a file's very bytes.
-    fn check(&self, (name, bytes): &File) {
-        for pull in PULLS {
+    fn check(&self, (name, bytes): &File, agreed: &mut Agreed) {
+        for (side, pull) in SIDES.into_iter().zip(PULLS) {
             let mut pulled: Vec<u8> = Vec::with_capacity(bytes.len());
             let ended = pulls::whole(pull, self.image, name, |part| pulled.extend(part));
-            assert!(ended == 3 && pulled == *bytes, "{} MB", self.megabytes);
+            let what = format!("a whole file by {side} on {} MB", self.megabytes);
+            agreed.see(ended == 3 && pulled == *bytes, &what);
         }
     }
 }
@@ -79,11 +82,11 @@ pub fn files() -> [File; 2] {
     })
 }
 
-pub fn cards(files: &[File; 2]) -> Vec<Card> {
+pub fn cards(files: &[File; 2], agreed: &mut Agreed) -> Vec<Card> {
     let card = |(n, megabytes)| {
         let files = &files[..if n < WITHOUT_SURVEY { 1 } else { 2 }];
         let card = Card::new(megabytes, files);
-        files.iter().for_each(|file| card.check(file));
+        files.iter().for_each(|file| card.check(file, agreed));
         card
     };
     MEGABYTES.into_iter().enumerate().map(card).collect()

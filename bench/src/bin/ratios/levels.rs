@@ -2,6 +2,7 @@
 
 use crate::calls::LONGER;
 use crate::cards::PULLS;
+use harptimber_bench::agreed::Agreed;
 use harptimber_bench::grid::Grid;
 use harptimber_bench::pulls::{pulling, Lent};
 use harptimber_tests::card::Card;
@@ -16,18 +17,19 @@ pub const DEPTHS: [u32; 9] = [1, 2, 3, 4, 6, 8, 10, 16, 29];
 
 const NAME: &str = "road.bin";
 
-pub fn levels() -> Grid {
+pub fn levels(agreed: &mut Agreed) -> Grid {
     let images = DEPTHS.map(card);
-    let column = |image| {
+    let columns = DEPTHS.iter().zip(&images).map(|(depth, image)| {
         let [archive, reference] = PULLS.map(|pull| {
             let mut lent = Lent::default();
             (pull(image, NAME.as_bytes(), 0, &mut lent), lent.block)
         });
-        assert_eq!((archive.0.answer, archive), (0, reference));
+        let same = archive.0.answer == 0 && archive == reference;
+        agreed.see(same, &format!("a pull through {depth} levels"));
         let sides = PULLS.map(|pull| pulling(pull, image, NAME, 0..1));
         sides.into()
-    };
-    Grid::of(LONGER, images.iter().map(|image| column(image)).collect())
+    });
+    Grid::of(LONGER, columns.collect())
 }
 
 /// A card of 16 MB. In each level the two blocks of the name's bucket are full, and the name has the very

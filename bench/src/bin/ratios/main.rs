@@ -1,4 +1,4 @@
-//! Prints tables of ratios, and whether they are as promised. `bench/run` builds what it needs.
+//! Prints tables of ratios, and whether all sides gave the same. `bench/run` builds what it needs.
 
 mod calls;
 mod cards;
@@ -7,23 +7,24 @@ mod whole;
 
 use calls::{Calls, MEMCMP, SAME_BLOCK};
 use cards::{Card, ARCHIVE, OPTIONS, REFERENCE, WITHOUT_SURVEY};
-use harptimber_bench::table::{Promises, Table};
+use harptimber_bench::agreed::Agreed;
+use harptimber_bench::table::Table;
 use std::process::{Command, ExitCode};
 use whole::Whole;
 
 fn main() -> ExitCode {
     print_head();
-    let mut promises = Promises::default();
+    let mut agreed = Agreed::default();
     let files = cards::files();
-    let cards = cards::cards(&files);
-    let calls = Calls::on(&cards);
-    beside_reference(&cards, &calls, &mut promises);
-    beside_itself(&cards, &calls, &mut promises);
-    growth_with_card(&cards, &calls, &mut promises);
-    growth_with_levels();
-    whole_files(&whole::columns(&cards, &files), &mut promises);
-    checksum(&mut promises);
-    promises.finish()
+    let cards = cards::cards(&files, &mut agreed);
+    let calls = Calls::on(&cards, &mut agreed);
+    beside_reference(&cards, &calls);
+    beside_itself(&cards, &calls);
+    growth_with_card(&cards, &calls);
+    growth_with_levels(&mut agreed);
+    whole_files(&whole::columns(&cards, &files), &mut agreed);
+    checksum(&mut agreed);
+    agreed.finish()
 }
 
 fn print_head() {
@@ -58,7 +59,7 @@ fn card_table(cards: &[Card]) -> Table {
     Table::new(cards.iter().map(|card| format!("{} MB", card.megabytes)))
 }
 
-fn beside_reference(cards: &[Card], calls: &Calls, promises: &mut Promises) {
+fn beside_reference(cards: &[Card], calls: &Calls) {
     let mut table = card_table(cards);
     for (label, grid) in calls.on_all_cards() {
         table.row(label, &grid.parts(ARCHIVE, REFERENCE));
@@ -69,13 +70,9 @@ fn beside_reference(cards: &[Card], calls: &Calls, promises: &mut Promises) {
         "1. The archive beside reference/, by size of the card
    its time as a part of reference/'s; lower is better, below 1 is faster",
     );
-    let single = calls.single.parts(ARCHIVE, REFERENCE);
-    promises.at_most(0.5, "single pull to reference/'s", &single);
-    let in_order = calls.in_order.parts(ARCHIVE, REFERENCE);
-    promises.at_most(1.0, "pulls of a whole file to reference/'s", &in_order);
 }
 
-fn beside_itself(cards: &[Card], calls: &Calls, promises: &mut Promises) {
+fn beside_itself(cards: &[Card], calls: &Calls) {
     let mut table = card_table(cards);
     let compare = calls.compare.parts(ARCHIVE, MEMCMP);
     table.row("compare to memcmp and two openings", &compare);
@@ -87,28 +84,22 @@ fn beside_itself(cards: &[Card], calls: &Calls, promises: &mut Promises) {
    both: beside it stand two openings, by the archive too, and memcmp over the same blocks. A pull keeps
    nothing for the next one, so the next block of a file costs a pull of its own",
     );
-    promises.at_most(2.0, "compare to memcmp and two openings", &compare);
 }
 
-fn growth_with_card(cards: &[Card], calls: &Calls, promises: &mut Promises) {
+fn growth_with_card(cards: &[Card], calls: &Calls) {
     let mut table = card_table(cards);
-    let mut on_largest = Vec::new();
     for (label, grid) in calls.on_all_cards() {
-        let archive = grid.growth(ARCHIVE);
-        on_largest.extend(archive.last());
-        table.row(&format!("{label}, archive"), &archive);
+        table.row(&format!("{label}, archive"), &grid.growth(ARCHIVE));
         table.row(&format!("{label}, reference/"), &grid.growth(REFERENCE));
     }
     table.print(
         "3. Growth with the card
    time on a card as a multiple of the same side's on the first; 1 is no growth, lower is better",
     );
-    let what = "each call on the largest card to the same on the smallest";
-    promises.at_most(1.5, what, &on_largest);
 }
 
-fn growth_with_levels() {
-    let grid = levels::levels();
+fn growth_with_levels(agreed: &mut Agreed) {
+    let grid = levels::levels(agreed);
     let mut table = Table::new(levels::DEPTHS.iter().map(u32::to_string));
     table.row("archive to its depth 1", &grid.growth(ARCHIVE));
     table.row("reference/ to its depth 1", &grid.growth(REFERENCE));
@@ -122,8 +113,8 @@ fn growth_with_levels() {
     );
 }
 
-fn whole_files(columns: &[Whole], promises: &mut Promises) {
-    let grid = whole::whole(columns);
+fn whole_files(columns: &[Whole], agreed: &mut Agreed) {
+    let grid = whole::whole(columns, agreed);
     let mut table = Table::new(columns.iter().map(Whole::head));
     let rows = [
         ("harptimber cat", whole::HARPTIMBER),
@@ -139,16 +130,15 @@ fn whole_files(columns: &[Whole], promises: &mut Promises) {
    time as a part of `grub-fstest CARD cat '(loop0)/NAME'`; lower is better, below 1 is faster.
    GRUB's time is a process from start to end with output to /dev/null, and so is each but the third",
     );
-    let harptimber = grid.parts(whole::HARPTIMBER, whole::GRUB);
-    promises.at_most(1.0, "harptimber cat to GRUB's reader", &harptimber);
 }
 
 /// A program of its own, whose archive can't be linked with the library's.
-fn checksum(promises: &mut Promises) {
+fn checksum(agreed: &mut Agreed) {
     let output = Command::new(whole::beside_this("checksum")).output();
     let output = output.expect("the program `checksum`").stdout;
     let ratio = String::from_utf8_lossy(&output).trim().parse();
-    let ratio: f64 = ratio.expect("a ratio from the program `checksum`");
+    agreed.see(ratio.is_ok(), "the checksum of a block");
+    let Ok(ratio) = ratio else { return };
     let mut table = Table::new(["4,092 bytes".to_string()]);
     table.row("checksum, bit by bit to archive", &[ratio]);
     table.print(
@@ -156,5 +146,4 @@ fn checksum(promises: &mut Promises) {
    time of a loop over bits as a multiple of the archive's; higher is better. The compiler may turn
    that loop into one over a table, and is left to it",
     );
-    promises.at_least(3.0, "checksum, bit by bit to archive", ratio);
 }

@@ -1,6 +1,7 @@
 //! Whole files, read by processes.
 
 use crate::cards::*;
+use harptimber_bench::agreed::Agreed;
 use harptimber_bench::grid::{contender, Contender, Grid, Often};
 use harptimber_bench::pulls;
 use harptimber_tests::published::File;
@@ -60,11 +61,11 @@ impl Whole<'_> {
         [grub, harptimber, reference, cat]
     }
 
-    fn sides(&self) -> Vec<Contender<'_>> {
+    fn sides(&self, agreed: &mut Agreed) -> Vec<Contender<'_>> {
         let (name, bytes) = self.file;
         let process = |mut command: Command| {
             let output = command.output().expect("a program that runs");
-            assert!(output.stdout == *bytes, "{command:?} writes other bytes");
+            agreed.see(output.stdout == *bytes, &format!("what {command:?} writes"));
             command.stdout(Stdio::null()).stderr(Stdio::null());
             contender(move || assert!(command.status().is_ok_and(|status| status.success())))
         };
@@ -78,8 +79,9 @@ impl Whole<'_> {
     }
 }
 
-pub fn whole(columns: &[Whole]) -> Grid {
-    Grid::of(OFTEN, columns.iter().map(Whole::sides).collect())
+pub fn whole(columns: &[Whole], agreed: &mut Agreed) -> Grid {
+    let sides = columns.iter().map(|column| column.sides(agreed));
+    Grid::of(OFTEN, sides.collect())
 }
 
 /// The program that `make -C host` builds.
