@@ -1,29 +1,29 @@
 -- The bench sheet is document 01's term for its list of worked numbers. The lines that it marks to be proved are one table here:
 -- what the definitions compute on the left, what the document says on the right.
--- Assumes nothing.
 use mathlib.Core.Path.{_≡_, refl}
-use mathlib.Core.List.{List, [], _∷_}
+use mathlib.Core.List.{List, [], _∷_, _++_}
 use mathlib.Core.List as List
-use mathlib.Core.Bool.{Bool, true, false}
 use Prim.Native.Nat.{ℕ, _+_, _/_, _%_, _^_}
+use lib.ListN.{set, replicate}
+use Rattle.field.specs.Number.{le16, le32, le64}
 use Rattle.field.specs.Map.{topBit, lowBit}
+use Rattle.field.specs.Bytes.{sameAt}
+use Rattle.field.specs.Card.{Card}
 use Rattle.place.specs.Place.{placeOf}
 use Rattle.place.specs.Way.{step, wayOf}
 use Rattle.place.specs.declared.Step.{Step}
-use Rattle.superblock.specs.declared.Superblock.{Superblock}
 use Rattle.superblock.specs.declared.Areas.{Areas}
 use Rattle.superblock.specs.declared.Found.{Found}
 use Rattle.superblock.specs.declared.Found.the-variants.{At, Refused}
-use Rattle.superblock.specs.Superblock.{logsPass, unitsPass, countsPass, areasPass, endsPass, fieldsPass}
-use Rattle.superblock.specs.Areas.{areasOf, accepted}
+use Rattle.superblock.specs.Superblock.{superblockOf, logsPass, unitsPass, countsPass, areasPass, endsPass, fieldsPass, copyPasses}
+use Rattle.superblock.specs.Areas.{found}
 use Rattle.nat.specs.Table.{tableBlock, copyAddress}
+use Rattle.walk.specs.Lists.{bytesOf}
+use Rattle.walk.specs.Walk.{Walk, done, look, read, Outcome, ok, stop}
+use Rattle.node.specs.Block.{held}
 use Rattle.directory.specs.Level.{bucketsOf, blocksOf, firstOf}
-use Rattle.directory.specs.Slot.{wanted, entryAt, wellFormed, matches, slotAt}
-use Rattle.directory.specs.declared.Slot.{Slot}
-use Rattle.directory.specs.declared.Slot.the-variants.{Free, Match, Other, Malformed}
-use Rattle.field.specs.Number.{le16, le32}
-use Rattle.field.specs.Bytes.{sameAt}
-use lib.ListN.{set, replicate}
+use Rattle.directory.specs.Slot.{wanted, entryAt, wellFormed, matches, slotAt, slotsFrom}
+use Rattle.directory.specs.Find.{afterBlock}
 
 -- a line: the numbers computed, and the numbers stated
 record Line : Type 0 where
@@ -42,37 +42,24 @@ numbers (s ∷ way) = s .number ∷ s .slot ∷ numbers way
 abbrev way : ℕ → ℕ → List ℕ
 way A index = numbers (wayOf (placeOf A index))
 
--- the superblock of source 004's 100 MB volume, with a feature word
-abbrev volume004 : ℕ → Superblock
-volume004 feature =
-    record {
-      «log_sectorsize» = 9;
-      «log_sectors_per_block» = 3;
-      «log_blocksize» = 12;
-      «log_blocks_per_seg» = 9;
-      «segs_per_sec» = 1;
-      «secs_per_zone» = 1;
-      «block_count» = 25600;
-      «segment_count» = 49;
-      «segment_count_ckpt» = 2;
-      «segment_count_sit» = 2;
-      «segment_count_nat» = 2;
-      «segment_count_ssa» = 1;
-      «segment_count_main» = 42;
-      «segment0_blkaddr» = 512;
-      «cp_blkaddr» = 512;
-      «sit_blkaddr» = 1536;
-      «nat_blkaddr» = 2560;
-      «ssa_blkaddr» = 3584;
-      «main_blkaddr» = 4096;
-      «root_ino» = 3;
-      «node_ino» = 1;
-      «meta_ino» = 2;
-      «cp_payload» = 0;
-      feature = feature;
-    }
+-- source 004's 100 MB volume, with a feature word: the card's block 0, with the superblock as 004 dumps it, 1,024 bytes into it
+abbrev superblock004 : ℕ → List ℕ
+superblock004 feature =
+    -- the mark; logs of sector, sectors a block, block and segment; segments a section, sections a zone; block count
+    bytesOf (0xF2F52010 ∷ 0 ∷ 9 ∷ 3 ∷ 12 ∷ 9 ∷ 1 ∷ 1 ∷ 0 ∷ 25600 ∷ 0 ∷ [])
+    -- sections; segments: all, checkpoint, SIT, NAT, SSA, main
+    ++ bytesOf (42 ∷ 49 ∷ 2 ∷ 2 ∷ 2 ∷ 1 ∷ 42 ∷ [])
+    -- addresses: segment 0, checkpoint, SIT, NAT, SSA, main; inodes: root, node, meta
+    ++ bytesOf (512 ∷ 512 ∷ 1536 ∷ 2560 ∷ 3584 ∷ 4096 ∷ 3 ∷ 1 ∷ 2 ∷ [])
+    ++ replicate 2072 0
+    ++ bytesOf (feature ∷ [])
+    ++ replicate 888 0
 
--- the bits of its format options -O extra_attr and -O compression, by the Linux header
+abbrev card004 : ℕ → Card
+card004 feature = record { blocks = 25600; block = λ b. replicate 1024 0 ++ superblock004 feature }
+
+-- a part of what 004's format options set, by the Linux header: the bits of -O extra_attr and -O compression. Its -g android sets
+-- more; any of them is answer 6
 abbrev features004 : ℕ
 features004 = 0x8 + 0x2000
 
@@ -82,25 +69,23 @@ mainArea (Refused answer) = answer ∷ []
 
 -- a directory block whose one entry, at a slot, has a name of so many bytes: its bit, and the length in its entry
 abbrev oneEntry : ℕ → ℕ → List ℕ
-oneEntry slot length = set (set (replicate 4096 0) (slot / 8) (2 ^ (slot % 8))) (entryAt slot + 8) length
+oneEntry slot len = set (set (replicate 4096 0) (slot / 8) (2 ^ (slot % 8))) (entryAt slot + 8) len
 
--- 14 where the slot is malformed
-abbrev slotAnswer : Slot → List ℕ
-slotAnswer Malformed = 14 ∷ []
-slotAnswer Free = 1 ∷ []
-slotAnswer (Match ino) = 2 ∷ []
-slotAnswer (Other slots) = 0 ∷ []
+-- the answer of a search that comes to a block of a directory and to none behind it; 0 with a match
+abbrev answerIn : Walk (Outcome ℕ) → List ℕ
+answerIn (done (ok ino)) = 0 ∷ []
+answerIn (done (stop answer)) = answer ∷ []
+answerIn (look n k) = []
+answerIn (read b k) = []
 
-abbrev one : Bool → ℕ
-one true = 1
-one false = 0
+abbrev searched : List ℕ → List ℕ
+searched block = answerIn (afterBlock (wanted 1 []) (done (stop 2)) (held block))
 
 abbrev sheet : List Line
 sheet =
     -- "004's 100 MB volume: main 4096, 42 segments, end 25600. Its format options set features: answer 6."
-    ((one (fieldsPass 25600 (volume004 features004)) ∷ []) is (1 ∷ []))
-    ∷ (mainArea (accepted (volume004 0)) is (4096 ∷ 42 ∷ 25600 ∷ []))
-    ∷ (mainArea (accepted (volume004 features004)) is (6 ∷ []))
+    (mainArea (found (card004 0)) is (4096 ∷ 42 ∷ 25600 ∷ []))
+    ∷ (mainArea (found (card004 features004)) is (6 ∷ []))
     -- "Number 454 is in table block 0, 455 in 1."
     ∷ ((tableBlock 454 ∷ tableBlock 455 ∷ []) is (0 ∷ 1 ∷ []))
     -- "NAT at 2560: block 0 at 2560 or 3072; block 511 at 3071 or 3583; block 512 at 3584 or 4096."
@@ -125,10 +110,10 @@ sheet =
     -- "Levels 0 to 3 start at 0, 2, 6, 14; level 29 at 1,073,741,822."
     ∷ (List.map firstOf (0 ∷ 1 ∷ 2 ∷ 3 ∷ 29 ∷ []) is (0 ∷ 2 ∷ 6 ∷ 14 ∷ 1073741822 ∷ []))
     -- "Length 8 at slot 213 fits; length 9 is 14."
-    ∷ (slotAnswer (slotAt (oneEntry 213 8) (wanted 1 []) 213) is (0 ∷ []))
-    ∷ (slotAnswer (slotAt (oneEntry 213 9) (wanted 1 []) 213) is (14 ∷ []))
+    ∷ (searched (oneEntry 213 8) is (2 ∷ []))
+    ∷ (searched (oneEntry 213 9) is (14 ∷ []))
     ∷ []
 
 pub bench-sheet : List.map (λ l. l .computed) sheet ≡ List.map (λ l. l .stated) sheet
-unfolding topBit lowBit placeOf logsPass unitsPass countsPass areasPass endsPass fieldsPass bucketsOf blocksOf firstOf le16 le32 sameAt wellFormed matches slotAt
+unfolding topBit lowBit placeOf le16 le32 le64 sameAt bytesOf superblockOf logsPass unitsPass countsPass areasPass endsPass fieldsPass copyPasses found bucketsOf blocksOf firstOf wellFormed matches slotAt slotsFrom afterBlock
 bench-sheet = refl

@@ -28,11 +28,11 @@ lengthIn block slot = le16 block (entryAt slot + 8)
 
 -- "⌈length/8⌉ slots"
 abbrev pub slotsFor : ℕ → ℕ
-slotsFor length = (length + 7) / 8
+slotsFor len = (len + 7) / 8
 
 -- "A set one needs length 1 to 255 and ⌈length/8⌉ slots before the end"
 unfoldable pub wellFormed : ℕ → ℕ → Bool
-wellFormed slot length = leb 1 length && leb length 255 && leb (slot + slotsFor length) 214
+wellFormed slot len = leb 1 len && leb len 255 && leb (slot + slotsFor len) 214
 
 -- "it matches by hash, length and bytes"
 unfoldable pub matches : List ℕ → Wanted → ℕ → Bool
