@@ -1,5 +1,5 @@
 -- What is so of every pull, whatever the image, the name, the index and the lent memory. Each is stated over `pulled`, the definition
--- that the contract cites. Assumes nothing.
+-- that the contract cites.
 use Prim.Native.Nat.{ℕ, _<_, _≤_}
 use native.Mathlib.Omega.{arith}
 use mathlib.Core.Path.{_≡_, refl, sym, subst}
@@ -129,6 +129,17 @@ module _ (image name : List ℕ) (index : ℕ) (lent : Lent) where
       go (walked v p q e) =
           let runs = pullRun (cardOf image) v name index .seen in
           rw (e, numbers-over (runs .nodes) (lent .nodes), numbers-over (runs .blocks) (lent .blocks)) (run-rises (cardOf image) v name index)
+
+  -- ".. the main-area blocks read": each listed block lies in the main area of the card that was opened
+  pub in-main : (v : Volume) → openedImage image ≡ Opened v → AllOf (λ b. inMain (boundsOf v) b ≡ true) (blocksListed (pulled image name index lent))
+  unfolding numbers
+  in-main v opens = go ends
+    where
+      go : {r : Result} → Ends image name index lent r → AllOf (λ b. inMain (boundsOf v) b ≡ true) (blocksListed r)
+      go (refusal answer p q e) = rw e tt
+      go (walked u p q e) =
+          let same : u ≡ v = cc in
+          rw (e, numbers-over (pullRun (cardOf image) u name index .seen .blocks) (lent .blocks), same) (run-inside (cardOf image) v name index)
 
   -- "Its lists hold exactly the node numbers looked up and the main-area blocks read": a number is listed if and only if the walk,
   -- run on this card, asked it

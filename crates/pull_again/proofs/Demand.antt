@@ -1,6 +1,5 @@
 -- Demand 3, whole. "Take any image, name and block index whose pull got past opening, and any second image that opens. The comparison
 -- is given the first image as the kept one, the second as the new one, and the lists and counts as that pull left them."
--- Assumes nothing.
 use Prim.Native.Nat.{ℕ}
 use mathlib.Core.Path.{_≡_, refl, sym, ap, subst, _∙_}
 use mathlib.Core.Bool.{true}
@@ -26,12 +25,22 @@ use Rattle.compare.specs.Difference.{difference}
 use Rattle.compare.specs.Compare.{answered, verdict}
 use Rattle.compare.proofs.Searching.{FirstNot}
 use Rattle.compare.proofs.Differences.{SameTable, SameBlock, difference-same, same-difference, difference-bounds, difference-node, difference-block}
-use Rattle.compare.proofs.Openings.{says-same, lists-compared, compared-opened}
+use Rattle.compare.proofs.Openings.{says-same, says-changed, lists-compared, compared-opened}
 use Rattle.pull_again.specs.Demand.{PastOpening, nodesLeft, blocksLeft, entriesOf, said, SameOn, SamePull}
 use Rattle.pull_again.proofs.Steps.{Came, past-came, lists-fit, nodes-of-run, blocks-of-run, same-run, same-written, Opens, same-opens, some-past}
 
-module _ (kept name : List ℕ) (index : ℕ) (lent : Lent) (v : Volume) (keptOpens : openedImage kept ≡ Opened v)
-    (past : PastOpening (pulled kept name index lent)) (fresh : List ℕ) (u : Volume) (freshOpens : openedImage fresh ≡ Opened u) where
+module _ (kept name : List ℕ) (index : ℕ) (lent : Lent) (past : PastOpening (pulled kept name index lent))
+    (fresh : List ℕ) (u : Volume) (freshOpens : openedImage fresh ≡ Opened u) where
+  abbrev came : Came kept name index lent
+  came = past-came kept name index lent past
+
+  -- the kept card opened, since the pull got past opening, to this volume
+  abbrev v : Volume
+  v = came .v
+
+  pub kept-opened : openedImage kept ≡ Opened v
+  kept-opened = came .opens
+
   -- the entries of the two lists as the pull left them
   abbrev nodes : List ℕ
   nodes = entriesOf (nodesLeft (pulled kept name index lent))
@@ -43,27 +52,28 @@ module _ (kept name : List ℕ) (index : ℕ) (lent : Lent) (v : Volume) (keptOp
   abbrev first : Difference
   first = difference (boundsOf v) (boundsOf u) (viewOf (cardOf kept) v) (viewOf (cardOf fresh) u) nodes blocks
 
-  came : Came kept name index lent v
-  came = past-came kept name index lent v keptOpens past
-
   -- Compare takes the lists and says what the first difference is
   says : said kept fresh (pulled kept name index lent) ≡ verdict first
   says =
-      compared-opened kept fresh _ _ v u keptOpens freshOpens
-      ∙ lists-compared (cardOf kept) v (cardOf fresh) u _ _ (lists-fit kept name index lent v came)
+      compared-opened kept fresh _ _ v u kept-opened freshOpens
+      ∙ lists-compared (cardOf kept) v (cardOf fresh) u _ _ (lists-fit kept name index lent came)
+
+  agreed : first ≡ Same → SameOn kept v fresh u nodes blocks
+  agreed e = let all = difference-same _ _ _ _ _ _ e in record { bounds = all .0; tables = all .1; bytes = all .2 }
 
   -- "It says "same" exactly if both images have the same main area bounds, each listed node number has the same table answer in both,
   -- and each listed block the same 4,096 bytes in both."
   pub same-exactly-if : (said kept fresh (pulled kept name index lent) .answer ≡ 15) ↔ SameOn kept v fresh u nodes blocks
   same-exactly-if = (λ e. agreed (says-same first (ap (λ x. x .answer) (sym says) ∙ e)), λ s. ap (λ x. x .answer) (says ∙ ap verdict (alike s)))
     where
-      agreed : first ≡ Same → SameOn kept v fresh u nodes blocks
-      agreed e = let all = difference-same _ _ _ _ _ _ e in record { bounds = all .0; tables = all .1; bytes = all .2 }
-
       alike : SameOn kept v fresh u nodes blocks → first ≡ Same
       alike s = same-difference _ _ _ _ _ _ (s .bounds) (s .tables) (s .bytes)
 
-  -- "Otherwise it says "changed"", "with kind and number of the first difference: 1 main area bounds (number 0), 2 lowest node number
+  -- "Otherwise it says "changed"."
+  pub otherwise-changed : (SameOn kept v fresh u nodes blocks → ⊥) → said kept fresh (pulled kept name index lent) .answer ≡ 16
+  otherwise-changed differ = ap (λ x. x .answer) says ∙ says-changed first (λ e. differ (agreed e))
+
+  -- .. "with kind and number of the first difference: 1 main area bounds (number 0), 2 lowest node number
   -- (table answer), 3 lowest block (bytes)". FirstNot P l x: x is in l, P fails of it and holds of all before it.
   pub data Says : Type 0 where
     same : said kept fresh (pulled kept name index lent) ≡ answered 15 0 0 0 → Says
@@ -74,8 +84,8 @@ module _ (kept name : List ℕ) (index : ℕ) (lent : Lent) (v : Volume) (keptOp
         → AllOf (SameTable (viewOf (cardOf kept) v) (viewOf (cardOf fresh) u)) nodes
         → FirstNot (SameBlock (viewOf (cardOf kept) v) (viewOf (cardOf fresh) u)) blocks b → Says
 
-  pub else-changed : Says
-  else-changed = go first refl
+  pub first-difference : Says
+  first-difference = go first refl
     where
       go : (d : Difference) → first ≡ d → Says
       go Same e = same (says ∙ ap verdict e)
@@ -90,7 +100,12 @@ module _ (kept name : List ℕ) (index : ℕ) (lent : Lent) (v : Volume) (keptOp
   then-same-pull lent' takes e =
       let runs : Ran (Outcome Block) = pullRun (cardOf kept) v name index in
       let on : SameOn kept v fresh u nodes blocks = same-exactly-if .0 e in
-      let listed : SameOn kept v fresh u (runs .seen .nodes) (runs .seen .blocks) = record { bounds = on .bounds; tables = subst (AllOf _) (nodes-of-run came) (on .tables); bytes = subst (AllOf _) (blocks-of-run came) (on .bytes) } in
+      let listed : SameOn kept v fresh u (runs .seen .nodes) (runs .seen .blocks) =
+          record {
+            bounds = on .bounds;
+            tables = subst (AllOf _) (nodes-of-run came) (on .tables);
+            bytes = subst (AllOf _) (blocks-of-run came) (on .bytes);
+          } in
       let same-runs = same-run kept v fresh u name index listed in
       let shape = call-in-shape fresh name index lent' (image-shaped fresh u freshOpens) (name-in-shape kept name index lent (came .shape)) takes in
       let second = call-opens fresh name index lent' (Opened u) shape freshOpens ∙ ap (λ (r : Ran (Outcome Block)). written r lent') same-runs in
@@ -101,14 +116,22 @@ pub whenever-same : (kept fresh name : List ℕ) (index : ℕ) (lent lent' : Len
     → said kept fresh (pulled kept name index lent) .answer ≡ 15 → SamePull (pulled kept name index lent) (pulled fresh name index lent')
 whenever-same kept fresh name index lent lent' takes e =
     let o = same-opens kept fresh _ _ e in
-    then-same-pull kept name index lent (o .v) (o .keptOpens) (some-past kept name index lent (o .some)) fresh (o .u) (o .freshOpens) lent' takes e
+    then-same-pull kept name index lent (some-past kept name index lent (o .some)) fresh (o .u) (o .freshOpens) lent' takes e
 
 -- Compared with itself, an image is "same".
-pub same-itself : (image name : List ℕ) (index : ℕ) (lent : Lent) (v : Volume) → openedImage image ≡ Opened v → PastOpening (pulled image name index lent)
+pub same-itself : (image name : List ℕ) (index : ℕ) (lent : Lent) → PastOpening (pulled image name index lent)
     → said image image (pulled image name index lent) .answer ≡ 15
-same-itself image name index lent v opens past =
-    same-exactly-if image name index lent v opens past image v opens .1 (record { bounds = refl; tables = all _ (tableAnswer (cardOf image) v) (entriesOf (nodesLeft (pulled image name index lent))); bytes = all _ (cardOf image .block) (entriesOf (blocksLeft (pulled image name index lent))) })
+same-itself image name index lent past =
+    same-exactly-if image name index lent past image (came .v) (came .opens) .1
+    (record {
+      bounds = refl;
+      tables = all _ (tableAnswer (cardOf image) (came .v)) (entriesOf (nodesLeft (pulled image name index lent)));
+      bytes = all _ (cardOf image .block) (entriesOf (blocksLeft (pulled image name index lent)));
+    })
   where
+    came : Came image name index lent
+    came = past-came image name index lent past
+
     all : (A : Type 0) (f : ℕ → A) (l : List ℕ) → AllOf (λ n. f n ≡ f n) l
     all A f [] = tt
     all A f (x ∷ xs) = (refl, all A f xs)

@@ -1,5 +1,5 @@
 -- The steps of demand 3: what a pull that got past opening left, that Compare takes its lists, and that cards which agree on them
--- give the same run. The last is the tree's law, applied once. Assumes nothing.
+-- give the same run. The last is the tree's law, applied once.
 use Prim.Native.Nat.{ℕ, _*_, _<_, _≤_}
 use native.Mathlib.Omega.{arith}
 use mathlib.Core.Path.{_≡_, refl, sym, ap, subst, _∙_}
@@ -34,22 +34,21 @@ use Rattle.node.specs.Block.{Fetched, hole, held}
 use Rattle.pull_again.specs.Demand.{PastOpening, nodesLeft, blocksLeft, entriesOf, SameOn, SamePull}
 
 -- what a pull that got past opening left: its card opened, and its walk's result was written
-pub record Came (image name : List ℕ) (index : ℕ) (lent : Lent) (v : Volume) : Type 0 where
+pub record Came (image name : List ℕ) (index : ℕ) (lent : Lent) : Type 0 where
+  pub v : Volume
+  pub opens : openedImage image ≡ Opened v
   pub shape : callInShape image name lent ≡ true
   pub wrote : pulled image name index lent ≡ written (pullRun (cardOf image) v name index) lent
 
--- the first case is no refusal, by its answer
-pub past-came : (image name : List ℕ) (index : ℕ) (lent : Lent) (v : Volume) → openedImage image ≡ Opened v
-    → PastOpening (pulled image name index lent) → Came image name index lent v
-past-came image name index lent v opens past = go refl (ends image name index lent)
+-- it is no refusal, by its answer
+pub past-came : (image name : List ℕ) (index : ℕ) (lent : Lent) → PastOpening (pulled image name index lent) → Came image name index lent
+past-came image name index lent past = go refl (ends image name index lent)
   where
-    go : {r : Result} → pulled image name index lent ≡ r → Ends image name index lent r → Came image name index lent v
+    go : {r : Result} → pulled image name index lent ≡ r → Ends image name index lent r → Came image name index lent
     go e (refusal answer p q f) =
         let g : pulled image name index lent .numbers .answer ≡ answer = ap (λ (x : Result). x .numbers .answer) (e ∙ f) in
         absurd (⊎-elim (λ l. omega arith) (λ l. omega arith) past)
-    go e (walked w s o f) =
-        let same : w ≡ v = cc in
-        record { shape = s; wrote = e ∙ f ∙ ap (λ (x : Volume). written (pullRun (cardOf image) x name index) lent) same }
+    go e (walked v s o f) = record { v = v; opens = o; shape = s; wrote = e ∙ f }
 
 -- ---- the lists as the pull left them
 module _ (r : Ran (Outcome Block)) (lent : Lent) where
@@ -60,27 +59,30 @@ module _ (r : Ran (Outcome Block)) (lent : Lent) where
   blocks-left = numbers-over (r .seen .blocks) (lent .blocks)
 
 -- they are the run's
-module _ {image name : List ℕ} {index : ℕ} {lent : Lent} {v : Volume} (came : Came image name index lent v) where
-  pub nodes-of-run : entriesOf (nodesLeft (pulled image name index lent)) ≡ pullRun (cardOf image) v name index .seen .nodes
-  nodes-of-run = ap (λ (r : Result). entriesOf (nodesLeft r)) (came .wrote) ∙ nodes-left (pullRun (cardOf image) v name index) lent
+module _ {image name : List ℕ} {index : ℕ} {lent : Lent} (came : Came image name index lent) where
+  pub nodes-of-run : entriesOf (nodesLeft (pulled image name index lent)) ≡ pullRun (cardOf image) (came .v) name index .seen .nodes
+  nodes-of-run = ap (λ (r : Result). entriesOf (nodesLeft r)) (came .wrote) ∙ nodes-left (pullRun (cardOf image) (came .v) name index) lent
 
-  pub blocks-of-run : entriesOf (blocksLeft (pulled image name index lent)) ≡ pullRun (cardOf image) v name index .seen .blocks
-  blocks-of-run = ap (λ (r : Result). entriesOf (blocksLeft r)) (came .wrote) ∙ blocks-left (pullRun (cardOf image) v name index) lent
+  pub blocks-of-run : entriesOf (blocksLeft (pulled image name index lent)) ≡ pullRun (cardOf image) (came .v) name index .seen .blocks
+  blocks-of-run = ap (λ (r : Result). entriesOf (blocksLeft r)) (came .wrote) ∙ blocks-left (pullRun (cardOf image) (came .v) name index) lent
 
 -- Compare takes them
-pub lists-fit : (image name : List ℕ) (index : ℕ) (lent : Lent) (v : Volume) → Came image name index lent v
-    → listsInShape (boundsOf v) (nodesLeft (pulled image name index lent)) (blocksLeft (pulled image name index lent)) ≡ true
-lists-fit image name index lent v came = rw (came .wrote) (lists-in-shape _ _ _ fit)
+pub lists-fit : (image name : List ℕ) (index : ℕ) (lent : Lent) (came : Came image name index lent)
+    → listsInShape (boundsOf (came .v)) (nodesLeft (pulled image name index lent)) (blocksLeft (pulled image name index lent)) ≡ true
+lists-fit image name index lent came = rw (came .wrote) (lists-in-shape _ _ _ (fit (came .v)))
   where
-    fit : ListsFit (boundsOf v) (nodesLeft (written (pullRun (cardOf image) v name index) lent)) (blocksLeft (written (pullRun (cardOf image) v name index) lent))
-    fit = record {
-      some = run-some (cardOf image) v name index;
-      nodesHeld = over-inside (pullRun (cardOf image) v name index .seen .nodes) (lent .nodes);
-      blocksHeld = over-inside (pullRun (cardOf image) v name index .seen .blocks) (lent .blocks);
-      nodesRise = subst Rising (sym (nodes-left (pullRun (cardOf image) v name index) lent)) (run-rises (cardOf image) v name index .0);
-      blocksRise = subst Rising (sym (blocks-left (pullRun (cardOf image) v name index) lent)) (run-rises (cardOf image) v name index .1);
-      inside = subst (AllOf (λ b. inMain (boundsOf v) b ≡ true)) (sym (blocks-left (pullRun (cardOf image) v name index) lent)) (run-inside (cardOf image) v name index);
-    }
+    fit : (v : Volume) → ListsFit (boundsOf v) (nodesLeft (written (pullRun (cardOf image) v name index) lent))
+        (blocksLeft (written (pullRun (cardOf image) v name index) lent))
+    fit v =
+        let runs : Ran (Outcome Block) = pullRun (cardOf image) v name index in
+        record {
+          some = run-some (cardOf image) v name index;
+          nodesHeld = over-inside (runs .seen .nodes) (lent .nodes);
+          blocksHeld = over-inside (runs .seen .blocks) (lent .blocks);
+          nodesRise = subst Rising (sym (nodes-left runs lent)) (run-rises (cardOf image) v name index .0);
+          blocksRise = subst Rising (sym (blocks-left runs lent)) (run-rises (cardOf image) v name index .1);
+          inside = subst (AllOf (λ b. inMain (boundsOf v) b ≡ true)) (sym (blocks-left runs lent)) (run-inside (cardOf image) v name index);
+        }
 
 -- ---- the tree's law, applied once: cards that agree on what a run listed give the same run
 pub same-run : (kept : List ℕ) (v : Volume) (fresh : List ℕ) (u : Volume) (name : List ℕ) (index : ℕ)
