@@ -7,13 +7,14 @@ use Prim.Native.Nat.{ℕ}
 use native.Mathlib.Omega.{arith}
 use Rattle.field.proofs.Choosing.{either}
 use Rattle.walk.specs.Lists.{AllOf}
+use Rattle.nat.specs.declared.TableAnswer.{TableAnswer}
 use Rattle.walk.specs.Walk.{View}
 use Rattle.node.specs.Node.{Bounds}
 use Rattle.compare.specs.declared.Difference.{Difference}
 use Rattle.compare.specs.declared.Difference.the-variants.{Same, BoundsDiffer, NodeDiffers, BlockDiffers}
-use Rattle.compare.specs.Difference.{sameBounds, blocksDiffer, nodesDiffer, difference}
+use Rattle.compare.specs.Difference.{sameBounds, sameAnswer, sameBytes, blocksDiffer, nodesDiffer, difference}
 use Rattle.compare.proofs.Sameness.{same-bounds, bounds-same, same-answer, answer-same, same-bytes, bytes-same}
-use Rattle.compare.proofs.Searching.{FirstNot, alikeNode, alikeBlock, nodes-searched, blocks-searched, searched-ends, all-searched}
+use Rattle.compare.proofs.Searching.{FirstNot, Decides, searched-ends, all-searched}
 
 -- the two cards agree at a number
 abbrev pub SameTable : View → View → ℕ → Type 0
@@ -22,45 +23,28 @@ SameTable kept fresh n = kept .table n ≡ fresh .table n
 abbrev pub SameBlock : View → View → ℕ → Type 0
 SameBlock kept fresh b = kept .block b ≡ fresh .block b
 
-module _ (kept fresh : View) where
-  -- the ways that the two searches end
-  nodes-end : (l : List ℕ) → (AllOf (SameTable kept fresh) l × ((other : Difference) → nodesDiffer kept fresh other l ≡ other))
-      ⊎ ((n : ℕ) × FirstNot (SameTable kept fresh) l n × ((other : Difference) → nodesDiffer kept fresh other l ≡ NodeDiffers n))
-  nodes-end l =
-      ⊎-elim (λ w. inl (w .0, λ o. nodes-searched kept fresh o l ∙ w .1 o))
-      (λ w. inr (w .0, w .1, λ o. nodes-searched kept fresh o l ∙ w .2 o))
-      (searched-ends (alikeNode kept fresh) NodeDiffers (SameTable kept fresh) (λ n h. same-answer _ _ h) (λ n h. answer-same h) l)
+blocks-decided : (kept fresh : ℕ → List ℕ) → Decides (λ b. sameBytes (kept b) (fresh b)) (λ b. kept b ≡ fresh b)
+blocks-decided kept fresh = record { holds = λ b h. same-bytes _ _ h; passes = λ b h. bytes-same h }
 
-  blocks-end : (l : List ℕ) → (AllOf (SameBlock kept fresh) l × (blocksDiffer kept fresh l ≡ Same))
-      ⊎ ((b : ℕ) × FirstNot (SameBlock kept fresh) l b × (blocksDiffer kept fresh l ≡ BlockDiffers b))
-  blocks-end l =
-      ⊎-elim (λ w. inl (w .0, blocks-searched kept fresh l ∙ w .1 Same))
-      (λ w. inr (w .0, w .1, blocks-searched kept fresh l ∙ w .2 Same))
-      (searched-ends (alikeBlock kept fresh) BlockDiffers (SameBlock kept fresh) (λ b h. same-bytes _ _ h) (λ b h. bytes-same h) l)
-
-  nodes-same : (other : Difference) (l : List ℕ) → AllOf (SameTable kept fresh) l → nodesDiffer kept fresh other l ≡ other
-  nodes-same o l h =
-      nodes-searched kept fresh o l
-      ∙ all-searched (alikeNode kept fresh) NodeDiffers (SameTable kept fresh) (λ n p. same-answer _ _ p) (λ n p. answer-same p) o l h
-
-  blocks-same : (l : List ℕ) → AllOf (SameBlock kept fresh) l → blocksDiffer kept fresh l ≡ Same
-  blocks-same l h =
-      blocks-searched kept fresh l
-      ∙ all-searched (alikeBlock kept fresh) BlockDiffers (SameBlock kept fresh) (λ b p. same-bytes _ _ p) (λ b p. bytes-same p) Same l h
+module _ (kept fresh : ℕ → TableAnswer) where
+  nodes-decided : Decides (λ n. sameAnswer (kept n) (fresh n)) (λ n. kept n ≡ fresh n)
+  nodes-decided = record { holds = λ n h. same-answer _ _ h; passes = λ n h. answer-same h }
 
   -- the search of the nodes by itself, and what stands behind it
   module _ (l : List ℕ) {d : Difference} (e : d ≡ nodesDiffer kept fresh Same l) (other : Difference) where
     pub nodes-agree : d ≡ Same → nodesDiffer kept fresh other l ≡ other
+    unfolding nodesDiffer
     nodes-agree s =
         ⊎-elim (λ w. w .1 other)
         (λ w. let q = w .2 Same in let z : _≡_ {A = ℕ} 0 1 = cc in absurd (omega arith))
-        (nodes-end l)
+        (searched-ends _ NodeDiffers nodes-decided l)
 
     pub node-first : (d ≡ Same → ⊥) → nodesDiffer kept fresh other l ≡ d
+    unfolding nodesDiffer
     node-first n =
         ⊎-elim (λ w. absurd (n (e ∙ w .1 Same)))
         (λ w. w .2 other ∙ sym (e ∙ w .2 Same))
-        (nodes-end l)
+        (searched-ends _ NodeDiffers nodes-decided l)
 
 module _ (m n : Bounds) (kept fresh : View) (nodes blocks : List ℕ) where
   -- what each difference says
@@ -74,21 +58,22 @@ module _ (m n : Bounds) (kept fresh : View) (nodes blocks : List ℕ) where
   unfolding difference
   bounds-differ h = rw h
 
-  pub bounds-agree : sameBounds m n ≡ true → difference m n kept fresh nodes blocks ≡ nodesDiffer kept fresh (blocksDiffer kept fresh blocks) nodes
+  pub bounds-agree : sameBounds m n ≡ true → difference m n kept fresh nodes blocks ≡ nodesDiffer (kept .table) (fresh .table) (blocksDiffer (kept .block) (fresh .block) blocks) nodes
   unfolding difference
   bounds-agree h = rw h
 
   says : Says (difference m n kept fresh nodes blocks)
+  unfolding nodesDiffer blocksDiffer
   says =
       ⊎-elim (λ h.
       let e = bounds-agree h in
       let s = same-bounds m n h in
       ⊎-elim (λ w.
-      ⊎-elim (λ k. subst Says (sym (e ∙ w .1 _ ∙ k .1)) (s, w .0, k .0))
-      (λ k. subst Says (sym (e ∙ w .1 _ ∙ k .2)) (s, w .0, k .1))
-      (blocks-end kept fresh blocks))
+      ⊎-elim (λ k. subst Says (sym (e ∙ w .1 _ ∙ k .1 Same)) (s, w .0, k .0))
+      (λ k. subst Says (sym (e ∙ w .1 _ ∙ k .2 Same)) (s, w .0, k .1))
+      (searched-ends _ BlockDiffers (blocks-decided (kept .block) (fresh .block)) blocks))
       (λ w. subst Says (sym (e ∙ w .2 _)) (s, w .1))
-      (nodes-end kept fresh nodes))
+      (searched-ends _ NodeDiffers (nodes-decided (kept .table) (fresh .table)) nodes))
       (λ h. subst Says (sym (bounds-differ h)) (λ e. let q = bounds-same e in let z : _≡_ {A = ℕ} 0 1 = cc in omega arith))
       (either (sameBounds m n))
 
@@ -96,7 +81,11 @@ module _ (m n : Bounds) (kept fresh : View) (nodes blocks : List ℕ) where
   difference-same e = subst Says e says
 
   pub same-difference : m ≡ n → AllOf (λ k. kept .table k ≡ fresh .table k) nodes → AllOf (λ b. kept .block b ≡ fresh .block b) blocks → difference m n kept fresh nodes blocks ≡ Same
-  same-difference e t b = bounds-agree (bounds-same e) ∙ nodes-same kept fresh _ nodes t ∙ blocks-same kept fresh blocks b
+  unfolding nodesDiffer blocksDiffer
+  same-difference e t b =
+      bounds-agree (bounds-same e)
+      ∙ all-searched _ NodeDiffers (nodes-decided (kept .table) (fresh .table)) _ nodes t
+      ∙ all-searched _ BlockDiffers (blocks-decided (kept .block) (fresh .block)) _ blocks b
 
   pub difference-bounds : difference m n kept fresh nodes blocks ≡ BoundsDiffer → m ≡ n → ⊥
   difference-bounds e = subst Says e says

@@ -17,10 +17,9 @@ use Rattle.walk.specs.Lists.{AllOf, Rising}
 use Rattle.walk.proofs.Rises.{all-map}
 use Rattle.node.specs.Node.{Bounds, boundsOf, inMain}
 use Rattle.compare.specs.Lists.{Listed, entries, countFits, risingAfter, isRising, allInMain, listsInShape}
-use Rattle.compare.specs.Difference.{sameBounds}
-use Rattle.compare.specs.Reading.{InBoth}
+use Rattle.compare.specs.Difference.{sameBounds, InBoth}
 use Rattle.compare.proofs.Sameness.{same-bounds}
-use Rattle.compare.proofs.Searching.{main-searched, searched-ends, all-searched}
+use Rattle.compare.proofs.Searching.{Decides, searched-ends, all-searched}
 
 -- ---- rising
 after-rising : (x : ℕ) (l : List ℕ) → AllOf (λ y. x < y) l → Rising l → risingAfter x l ≡ true
@@ -49,17 +48,17 @@ test-rising (x ∷ xs) h = rising-after x xs h
 
 -- ---- in the main area
 module _ (m : Bounds) where
-  abbrev In : ℕ → Type 0
-  In b = inMain m b ≡ true
+  main-decided : Decides (inMain m) (λ b. inMain m b ≡ true)
+  main-decided = record { holds = λ b h. h; passes = λ b h. h }
 
   pub main-test : (l : List ℕ) → AllOf (λ b. inMain m b ≡ true) l → allInMain m l ≡ true
-  main-test l h = main-searched m l ∙ all-searched (inMain m) (λ b. false) In (λ b p. p) (λ b p. p) true l h
+  main-test l h = all-searched _ (λ b. false) main-decided true l h
 
   pub test-main : (l : List ℕ) → allInMain m l ≡ true → AllOf (λ b. inMain m b ≡ true) l
   test-main l h =
       ⊎-elim (λ w. w .0)
-      (λ w. let e : allInMain m l ≡ false = main-searched m l ∙ w .2 true in let z : _≡_ {A = ℕ} 0 1 = cc in absurd (omega arith))
-      (searched-ends (inMain m) (λ b. false) In (λ b p. p) (λ b p. p) l)
+      (λ w. let e : allInMain m l ≡ false = w .2 true in let z : _≡_ {A = ℕ} 0 1 = cc in absurd (omega arith))
+      (searched-ends _ (λ b. false) main-decided l)
 
 in-main : (m : Bounds) (b : ℕ) → inMain m b ≡ true → b < m .end
 unfolding inMain

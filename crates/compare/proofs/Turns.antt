@@ -15,7 +15,8 @@ use Rattle.walk.specs.Lists.{AllOf, numbers}
 use Rattle.walk.proofs.Entries.{numbers-cons, numbers-nil}
 use Rattle.compare.specs.Lists.{risingAfter, isRising}
 use Rattle.compare.specs.Difference.{sameBytes}
-use Rattle.compare.proofs.Searching.{searched, over, passed, failed}
+use Rattle.compare.specs.Search.{searched}
+use Rattle.compare.proofs.Searching.{over, passed, failed}
 
 all : (l : List ℕ) (n : ℕ) → numbers l 0 (n - 0) ≡ numbers l 0 n
 all l n = let e : n - 0 ≡ n = omega arith in ap (numbers l 0) e

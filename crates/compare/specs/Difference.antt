@@ -1,13 +1,15 @@
 -- The first difference between two opened cards, on what the lists name.
-use Prim.Native.Nat.{ℕ}
+use Prim.Native.Nat.{ℕ, _<_}
 use mathlib.Core.Bool.{Bool, true, false, _&&_}
 use mathlib.Core.List.{List, [], _∷_}
 use lib.Dec.{eqb}
+use Rattle.field.specs.Card.{Card}
 use Rattle.field.specs.Choice.{choose}
 use Rattle.nat.specs.declared.TableAnswer.{TableAnswer}
 use Rattle.nat.specs.declared.TableAnswer.the-variants.{OutOfRange, Entry}
 use Rattle.walk.specs.Walk.{View}
 use Rattle.node.specs.Node.{Bounds}
+use Rattle.compare.specs.Search.{searched}
 use Rattle.compare.specs.declared.Difference.{Difference}
 use Rattle.compare.specs.declared.Difference.the-variants.{Same, BoundsDiffer, NodeDiffers, BlockDiffers}
 
@@ -26,19 +28,20 @@ sameBytes [] (y ∷ ys) = false
 sameBytes (x ∷ xs) [] = false
 sameBytes (x ∷ xs) (y ∷ ys) = eqb x y && sameBytes xs ys
 
--- "3 lowest block (bytes)": the first of the list, which rises
-unfoldable pub blocksDiffer : View → View → List ℕ → Difference
-blocksDiffer kept fresh [] = Same
-blocksDiffer kept fresh (b ∷ bs) =
-    choose (sameBytes (kept .block b) (fresh .block b)) (blocksDiffer kept fresh bs) (BlockDiffers b)
+-- "3 lowest block (bytes)", by what each side has in a block; the list rises, so that its first is the lowest
+unfoldable pub blocksDiffer : (ℕ → List ℕ) → (ℕ → List ℕ) → List ℕ → Difference
+blocksDiffer kept fresh blocks = searched (λ b. sameBytes (kept b) (fresh b)) BlockDiffers Same blocks
 
--- "2 lowest node number (table answer)", and where there is none, `other`
-unfoldable pub nodesDiffer : View → View → Difference → List ℕ → Difference
-nodesDiffer kept fresh other [] = other
-nodesDiffer kept fresh other (n ∷ ns) =
-    choose (sameAnswer (kept .table n) (fresh .table n)) (nodesDiffer kept fresh other ns) (NodeDiffers n)
+-- "2 lowest node number (table answer)", by each side's table answers; where there is none, `other`
+unfoldable pub nodesDiffer : (ℕ → TableAnswer) → (ℕ → TableAnswer) → Difference → List ℕ → Difference
+nodesDiffer kept fresh other nodes = searched (λ n. sameAnswer (kept n) (fresh n)) NodeDiffers other nodes
 
--- "1 main area bounds (number 0)", before the nodes, before the blocks
+-- "1 main area bounds (number 0)", before the nodes, before the blocks. A side is its table answers and its blocks' bytes: nothing
+-- asks for an image
 unfoldable pub difference : Bounds → Bounds → View → View → List ℕ → List ℕ → Difference
 difference m n kept fresh nodes blocks =
-    choose (sameBounds m n) (nodesDiffer kept fresh (blocksDiffer kept fresh blocks) nodes) BoundsDiffer
+    choose (sameBounds m n) (nodesDiffer (kept .table) (fresh .table) (blocksDiffer (kept .block) (fresh .block) blocks) nodes) BoundsDiffer
+
+-- b is a block of both cards: one that a comparison may read
+abbrev pub InBoth : Card → Card → ℕ → Type 0
+InBoth kept fresh b = (b < kept .blocks) × (b < fresh .blocks)

@@ -1,4 +1,4 @@
+pub mod Search
 pub mod Lists
 pub mod Difference
 pub mod Compare
-pub mod Reading

@@ -1,11 +1,12 @@
 -- Which lists Compare takes.
 use Prim.Native.Nat.{ℕ, _/_}
-use mathlib.Core.Bool.{Bool, true, _&&_}
+use mathlib.Core.Bool.{Bool, true, false, _&&_}
 use mathlib.Core.List.{List, [], _∷_}
 use lib.ListN.{length}
 use lib.Dec.{leb, ltb}
 use Rattle.walk.specs.Lists.{numbers}
 use Rattle.node.specs.Node.{Bounds, inMain}
+use Rattle.compare.specs.Search.{searched}
 
 -- a list as it comes: "a byte slice, four bytes a number", and how many of its numbers count
 pub record Listed : Type 0 where
@@ -33,9 +34,8 @@ isRising [] = true
 isRising (x ∷ xs) = risingAfter x xs
 
 -- not "a listed block lies outside the kept main area"
-unfoldable pub allInMain : Bounds → List ℕ → Bool
-allInMain m [] = true
-allInMain m (b ∷ bs) = inMain m b && allInMain m bs
+abbrev pub allInMain : Bounds → List ℕ → Bool
+allInMain m blocks = searched (inMain m) (λ b. false) true blocks
 
 -- "4 if the node list is empty, either list isn't strictly rising, a count exceeds its slice, or a listed block lies outside the
 -- kept main area"

@@ -1,20 +1,18 @@
 // Compare: whether a new image gives a pull's answer again, from the lists of what that answer rested on.
-// What each means is in specs/: Lists, Difference, Compare; Reading is for the steps inside.
+// What each means is in specs/: Lists, Difference, Compare.
 ghost use mathlib.Core.Path.{_≡_};
 ghost use mathlib.Core.Bool.{true, _&&_};
-ghost use Prim.Native.Nat.{ℕ, _*_, _≤_};
+ghost use Prim.Native.Nat.{_*_, _≤_};
 ghost use lib.Dec.{leb};
 ghost use lib.ListN.{length};
 ghost use Rattle.field.specs.Card.{cardOf};
 ghost use Rattle.checkpoint.specs.Volume.{VolumeIn};
-ghost use Rattle.nat.specs.declared.TableAnswer.{TableAnswer};
 ghost use Rattle.nat.specs.Table.{tableAnswer};
 ghost use Rattle.walk.specs.Lists.{AllOf};
 ghost use Rattle.walk.specs.Walk.{viewOf};
 ghost use Rattle.node.specs.Node.{boundsOf, inMain};
 ghost use Rattle.compare.specs.Lists.{listing, entries, countFits, isRising, allInMain, listsInShape};
-ghost use Rattle.compare.specs.Difference.{sameBounds, sameAnswer, sameBytes, blocksDiffer, nodesDiffer, difference};
-ghost use Rattle.compare.specs.Reading.{besideTable, InBoth};
+ghost use Rattle.compare.specs.Difference.{sameBounds, sameAnswer, sameBytes, blocksDiffer, nodesDiffer, difference, InBoth};
 ghost use Rattle.compare.specs.Compare.{answered, verdict, comparedOpen, compared};
 
 // The first difference between two cards, on what the lists name.
@@ -180,7 +178,7 @@ fn nodes_differ(
     requires { ⌜ 4 * count ≤ length (now nodes) ⌝ }
     ensures { λ r.
         ⌜ r
-        ≡ nodesDiffer (viewOf (cardOf (now (kept .entry))) v) (viewOf (cardOf (now (fresh .entry))) u) Difference.Same
+        ≡ nodesDiffer (tableAnswer (cardOf (now (kept .entry))) v) (tableAnswer (cardOf (now (fresh .entry))) u) Difference.Same
         (entries (listing (now (nodes .entry)) count)) ⌝ }
 {
     let mut i: usize = 0;
@@ -198,9 +196,9 @@ fn blocks_differ(kept: &[u8], fresh: &[u8], blocks: &[u8], count: u32) -> Differ
     requires { ⌜ AllOf (InBoth (cardOf (now kept)) (cardOf (now fresh))) (entries (listing (now blocks) count)) ⌝ }
     requires { ⌜ 4 * count ≤ length (now blocks) ⌝ }
     ensures { λ r.
-        ⌜ ((t s : ℕ → TableAnswer) → r
-        ≡ blocksDiffer (besideTable t (cardOf (now (kept .entry)))) (besideTable s (cardOf (now (fresh .entry))))
-        (entries (listing (now (blocks .entry)) count))) ⌝ }
+        ⌜ r
+        ≡ blocksDiffer (cardOf (now (kept .entry)) .block) (cardOf (now (fresh .entry)) .block)
+        (entries (listing (now (blocks .entry)) count)) ⌝ }
 {
     let mut i: usize = 0;
     while i < count as usize {

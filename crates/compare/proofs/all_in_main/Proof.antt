@@ -7,7 +7,6 @@ use borrow.Author.Needs.{needs}
 use Rattle.walk.specs.Lists.{numbers}
 use Rattle.node.specs.Node.{boundsOf, inMain}
 use Rattle.compare.specs.Lists.{allInMain}
-use Rattle.compare.proofs.Searching.{main-searched}
 use Rattle.compare.proofs.Turns.{Left, search-starts, search-over, search-on, search-stops}
 use Rattle.compare.proofs.all_in_main.Statement.{statement}
 use Rattle.compare.proofs.all_in_main.Tie as tie
@@ -20,7 +19,7 @@ abbrev μ-loop : tie.MeasureT-loop
 
 loop-holds : tie.Need-loop-holds Inv-loop μ-loop
 loop-holds c =
-    (omega arith, main-searched _ _ ∙ search-starts _ _ _ _ _)
+    (omega arith, search-starts _ _ _ _ _)
 
 mul-get32 : tie.Need-mul-get32 Inv-loop μ-loop
 mul-get32 c = search needs

@@ -1,15 +1,12 @@
 -- The invariant: what is left decides, and lies inside both cards; the cards agree on all blocks passed.
 use mathlib.Core.Path.{_≡_, sym, _∙_}
-use Prim.Native.Nat.{ℕ, _≤_, _-_}
+use Prim.Native.Nat.{_≤_, _-_}
 use native.Mathlib.Omega.{arith}
 use borrow.Author.Needs.{needs}
 use Rattle.field.specs.Card.{cardOf}
-use Rattle.nat.specs.declared.TableAnswer.{TableAnswer}
 use Rattle.walk.specs.Lists.{AllOf, numbers}
 use Rattle.compare.specs.declared.Difference.the-variants.{Same, BlockDiffers}
-use Rattle.compare.specs.Difference.{sameBytes, blocksDiffer}
-use Rattle.compare.specs.Reading.{besideTable, InBoth}
-use Rattle.compare.proofs.Searching.{blocks-searched}
+use Rattle.compare.specs.Difference.{sameBytes, blocksDiffer, InBoth}
 use Rattle.compare.proofs.Turns.{Left, all-left, all-next, search-starts, search-over, search-on, search-stops}
 use Rattle.compare.proofs.blocks_differ.Statement.{statement}
 use Rattle.compare.proofs.blocks_differ.Tie as tie
@@ -18,15 +15,16 @@ abbrev Inv-loop : tie.InvT-loop
 Inv-loop kept fresh blocks count i₀ i =
     (i ≤ count)
     × AllOf (InBoth (cardOf kept) (cardOf fresh)) (numbers blocks i (count - i))
-    × ((t s : ℕ → TableAnswer) → blocksDiffer (besideTable t (cardOf kept)) (besideTable s (cardOf fresh)) (numbers blocks 0 count)
+    × (blocksDiffer (cardOf kept .block) (cardOf fresh .block) (numbers blocks 0 count)
     ≡ Left (λ b. sameBytes (cardOf kept .block b) (cardOf fresh .block b)) BlockDiffers Same blocks i count)
 
 abbrev μ-loop : tie.MeasureT-loop
 μ-loop kept fresh blocks count i₀ i = count - i
 
 loop-holds : tie.Need-loop-holds Inv-loop μ-loop
+unfolding blocksDiffer
 loop-holds c =
-    (omega arith, all-left _ _ _ (c .before .before .before .pre .0), λ t s. blocks-searched _ _ _ ∙ search-starts _ _ _ _ _)
+    (omega arith, all-left _ _ _ (c .before .before .before .pre .0), search-starts _ _ _ _ _)
 
 mul-get32 : tie.Need-mul-get32 Inv-loop μ-loop
 mul-get32 c = search needs
@@ -40,7 +38,7 @@ same-block-requires c κs =
 
 returns : tie.Need-returns Inv-loop μ-loop
 returns c =
-    λ t s. sym (c .before .before .before .before .loop .inv .2 t s ∙ search-stops _ _ _ _ _ _ (c .before .before .before .loop-test .taken) (c .before .before .get32 .ensures) (c .before .same-block .ensures) (c .if1 .taken))
+    sym (c .before .before .before .before .loop .inv .2 ∙ search-stops _ _ _ _ _ _ (c .before .before .before .loop-test .taken) (c .before .before .get32 .ensures) (c .before .same-block .ensures) (c .if1 .taken))
 
 add-i : tie.Need-add-i Inv-loop μ-loop
 add-i c = search needs
@@ -51,11 +49,11 @@ loop-less c = search needs
 loop-again : tie.Need-loop-again Inv-loop μ-loop
 loop-again c =
     let k = c .before .before .before .loop-test .taken in
-    (omega arith, all-next _ _ _ _ k (c .before .before .before .before .loop .inv .1) .1, λ t s. c .before .before .before .before .loop .inv .2 t s ∙ search-on _ _ _ _ _ _ k (c .before .before .get32 .ensures) (c .before .same-block .ensures) (c .if1 .left))
+    (omega arith, all-next _ _ _ _ k (c .before .before .before .before .loop .inv .1) .1, c .before .before .before .before .loop .inv .2 ∙ search-on _ _ _ _ _ _ k (c .before .before .get32 .ensures) (c .before .same-block .ensures) (c .if1 .left))
 
 returns-2 : tie.Need-returns-2 Inv-loop μ-loop
 returns-2 c =
-    λ t s. sym (c .before .loop .inv .2 t s ∙ search-over _ _ _ _ _ _ (c .loop-test .left))
+    sym (c .before .loop .inv .2 ∙ search-over _ _ _ _ _ _ (c .loop-test .left))
 
 pub blocks-differ-spec : {M : Type 1} → statement M
 blocks-differ-spec =

@@ -38,7 +38,7 @@ returns-2 : tie.Need-returns-2
 returns-2 c =
     sym (bounds-agree _ _ _ _ _ _ (sym (c .before .before .before .before .before .same-bounds .ensures) ∙ not-false _ (c .before .before .before .before .if1 .left))
     ∙ nodes-agree _ _ _ (c .before .before .before .nodes-differ .ensures) _ (c .before .enum-told .given .1)
-    ∙ sym (c .blocks-differ .ensures _ _))
+    ∙ sym (c .blocks-differ .ensures))
 
 returns-3 : tie.Need-returns-3
 returns-3 c =

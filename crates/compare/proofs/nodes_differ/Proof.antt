@@ -5,10 +5,9 @@ use native.Mathlib.Omega.{arith}
 use borrow.Author.Needs.{needs}
 use Rattle.field.specs.Card.{cardOf}
 use Rattle.walk.specs.Lists.{numbers}
-use Rattle.walk.specs.Walk.{viewOf}
+use Rattle.nat.specs.Table.{tableAnswer}
 use Rattle.compare.specs.declared.Difference.the-variants.{Same, NodeDiffers}
-use Rattle.compare.specs.Difference.{nodesDiffer}
-use Rattle.compare.proofs.Searching.{alikeNode, nodes-searched}
+use Rattle.compare.specs.Difference.{sameAnswer, nodesDiffer}
 use Rattle.compare.proofs.Turns.{Left, search-starts, search-over, search-on, search-stops}
 use Rattle.compare.proofs.nodes_differ.Statement.{statement}
 use Rattle.compare.proofs.nodes_differ.Tie as tie
@@ -16,15 +15,16 @@ use Rattle.compare.proofs.nodes_differ.Tie as tie
 abbrev Inv-loop : tie.InvT-loop
 Inv-loop kept v fresh u nodes count i₀ i =
     (i ≤ count)
-    × (nodesDiffer (viewOf (cardOf kept) v) (viewOf (cardOf fresh) u) Same (numbers nodes 0 count)
-    ≡ Left (alikeNode (viewOf (cardOf kept) v) (viewOf (cardOf fresh) u)) NodeDiffers Same nodes i count)
+    × (nodesDiffer (tableAnswer (cardOf kept) v) (tableAnswer (cardOf fresh) u) Same (numbers nodes 0 count)
+    ≡ Left (λ n. sameAnswer (tableAnswer (cardOf kept) v n) (tableAnswer (cardOf fresh) u n)) NodeDiffers Same nodes i count)
 
 abbrev μ-loop : tie.MeasureT-loop
 μ-loop kept v fresh u nodes count i₀ i = count - i
 
 loop-holds : tie.Need-loop-holds Inv-loop μ-loop
+unfolding nodesDiffer
 loop-holds c =
-    (omega arith, nodes-searched _ _ _ _ ∙ search-starts _ _ _ _ _)
+    (omega arith, search-starts _ _ _ _ _)
 
 mul-get32 : tie.Need-mul-get32 Inv-loop μ-loop
 mul-get32 c = search needs
