@@ -58,7 +58,8 @@ module _ (m n : Bounds) (kept fresh : View) (nodes blocks : List ℕ) where
   unfolding difference
   bounds-differ h = rw h
 
-  pub bounds-agree : sameBounds m n ≡ true → difference m n kept fresh nodes blocks ≡ nodesDiffer (kept .table) (fresh .table) (blocksDiffer (kept .block) (fresh .block) blocks) nodes
+  pub bounds-agree : sameBounds m n ≡ true → difference m n kept fresh nodes blocks
+      ≡ nodesDiffer (kept .table) (fresh .table) (blocksDiffer (kept .block) (fresh .block) blocks) nodes
   unfolding difference
   bounds-agree h = rw h
 
@@ -77,10 +78,12 @@ module _ (m n : Bounds) (kept fresh : View) (nodes blocks : List ℕ) where
       (λ h. subst Says (sym (bounds-differ h)) (λ e. let q = bounds-same e in let z : _≡_ {A = ℕ} 0 1 = cc in omega arith))
       (either (sameBounds m n))
 
-  pub difference-same : difference m n kept fresh nodes blocks ≡ Same → (m ≡ n) × AllOf (λ k. kept .table k ≡ fresh .table k) nodes × AllOf (λ b. kept .block b ≡ fresh .block b) blocks
+  pub difference-same : difference m n kept fresh nodes blocks ≡ Same
+      → (m ≡ n) × AllOf (SameTable kept fresh) nodes × AllOf (SameBlock kept fresh) blocks
   difference-same e = subst Says e says
 
-  pub same-difference : m ≡ n → AllOf (λ k. kept .table k ≡ fresh .table k) nodes → AllOf (λ b. kept .block b ≡ fresh .block b) blocks → difference m n kept fresh nodes blocks ≡ Same
+  pub same-difference : m ≡ n → AllOf (SameTable kept fresh) nodes → AllOf (SameBlock kept fresh) blocks
+      → difference m n kept fresh nodes blocks ≡ Same
   unfolding nodesDiffer blocksDiffer
   same-difference e t b =
       bounds-agree (bounds-same e)
@@ -95,5 +98,6 @@ module _ (m n : Bounds) (kept fresh : View) (nodes blocks : List ℕ) where
   difference-node k e = subst Says e says
 
   -- the first block whose bytes differ; all nodes agree
-  pub difference-block : (b : ℕ) → difference m n kept fresh nodes blocks ≡ BlockDiffers b → (m ≡ n) × AllOf (SameTable kept fresh) nodes × FirstNot (SameBlock kept fresh) blocks b
+  pub difference-block : (b : ℕ) → difference m n kept fresh nodes blocks ≡ BlockDiffers b
+      → (m ≡ n) × AllOf (SameTable kept fresh) nodes × FirstNot (SameBlock kept fresh) blocks b
   difference-block b e = subst Says e says

@@ -61,7 +61,8 @@ module _ (kept fresh : List ℕ) (nodes blocks : Listed) where
     pub kept-refused : (answer : ℕ) → openedImage kept ≡ Refused answer → compared kept fresh nodes blocks ≡ refused answer 1
     kept-refused answer e = both-shaped ∙ rw (sym (shape-opens kept (and-eq-true-iff _ _ .0 shaped .0)) ∙ e)
 
-    pub fresh-refused : (v : Volume) → openedImage kept ≡ Opened v → (answer : ℕ) → openedImage fresh ≡ Refused answer → compared kept fresh nodes blocks ≡ refused answer 2
+    pub fresh-refused : (v : Volume) → openedImage kept ≡ Opened v → (answer : ℕ) → openedImage fresh ≡ Refused answer
+        → compared kept fresh nodes blocks ≡ refused answer 2
     fresh-refused v e answer f =
         let s = and-eq-true-iff _ _ .0 shaped in
         both-shaped ∙ rw (sym (shape-opens kept (s .0)) ∙ e, sym (shape-opens fresh (s .1)) ∙ f)
@@ -89,11 +90,13 @@ module _ {nodes nodes′ blocks blocks′ : Listed} (ns : SameListed nodes nodes
   unfolding listsInShape
   shape-listed m = rw (ns .fits, bs .fits, ns .numbers, bs .numbers, same-count ns)
 
-  open-listed : (kept : Card) (v : Volume) (fresh : Card) (u : Volume) → comparedOpen kept v fresh u nodes blocks ≡ comparedOpen kept v fresh u nodes′ blocks′
+  open-listed : (kept : Card) (v : Volume) (fresh : Card) (u : Volume)
+      → comparedOpen kept v fresh u nodes blocks ≡ comparedOpen kept v fresh u nodes′ blocks′
   unfolding comparedOpen
   open-listed kept v fresh u = rw (shape-listed (boundsOf v), ns .numbers, bs .numbers)
 
-  fresh-listed : (kept : Card) (v : Volume) (fresh : Card) (o : Opening) → afterFresh kept v fresh o nodes blocks ≡ afterFresh kept v fresh o nodes′ blocks′
+  fresh-listed : (kept : Card) (v : Volume) (fresh : Card) (o : Opening)
+      → afterFresh kept v fresh o nodes blocks ≡ afterFresh kept v fresh o nodes′ blocks′
   fresh-listed kept v fresh (Opened u) = open-listed kept v fresh u
   fresh-listed kept v fresh (Refused answer) = refl
 

@@ -65,11 +65,14 @@ unfolding inMain
 in-main m b h = ltb-true b (m .end) (needed (λ p. simp (p, and-false)) h)
 
 -- where the bounds are the same, blocks of the kept main area are blocks of both cards
-pub main-in-both : {kept fresh : Card} {v u : Volume} → VolumeIn kept v → VolumeIn fresh u → sameBounds (boundsOf v) (boundsOf u) ≡ true → (l : List ℕ)
+pub main-in-both : {kept fresh : Card} {v u : Volume} → VolumeIn kept v → VolumeIn fresh u
+    → sameBounds (boundsOf v) (boundsOf u) ≡ true → (l : List ℕ)
     → AllOf (λ b. inMain (boundsOf v) b ≡ true) l → AllOf (InBoth kept fresh) l
 main-in-both {v = v} {u = u} k f s l h =
     let p : v .areas .«main_end» ≡ u .areas .«main_end» = ap (λ (m : Bounds). m .end) (same-bounds (boundsOf v) (boundsOf u) s) in
-    all-map (λ b q. let r = in-main (boundsOf v) b q in let x = k .areasIn .inCard in let y = f .areasIn .inCard in (omega arith, omega arith)) l h
+    let x = k .areasIn .inCard in
+    let y = f .areasIn .inCard in
+    all-map (λ b q. let r = in-main (boundsOf v) b q in (omega arith, omega arith)) l h
 
 -- ---- the whole
 pub record ListsFit (m : Bounds) (nodes blocks : Listed) : Type 0 where
@@ -88,7 +91,7 @@ fits-count l h = let t = leb-true (l .count) (length (l .bytes) / 4) h in omega 
 
 -- what the code tests before it reads a number
 module _ (nodes blocks : Listed) where
-  abbrev Counted : Bool
+  abbrev pub Counted : Bool
   Counted = leb 1 (nodes .count) && countFits nodes && countFits blocks
 
   pub counts-held : Counted ≡ true → (4 * nodes .count ≤ length (nodes .bytes)) × (4 * blocks .count ≤ length (blocks .bytes))
@@ -99,14 +102,21 @@ module _ (m : Bounds) (nodes blocks : Listed) where
   unfolding listsInShape
   counts-refuse h = rw h
 
-  pub counts-pass : Counted nodes blocks ≡ true → listsInShape m nodes blocks ≡ (isRising (entries nodes) && isRising (entries blocks) && allInMain m (entries blocks))
+  pub counts-pass : Counted nodes blocks ≡ true → listsInShape m nodes blocks
+      ≡ (isRising (entries nodes) && isRising (entries blocks) && allInMain m (entries blocks))
   unfolding listsInShape
   counts-pass h = rw h
 
   pub lists-in-shape : ListsFit m nodes blocks → listsInShape m nodes blocks ≡ true
   unfolding listsInShape
   lists-in-shape f =
-      rw (le-leb 1 (nodes .count) (f .some), count-fits nodes (f .nodesHeld), count-fits blocks (f .blocksHeld), rising-test (entries nodes) (f .nodesRise), rising-test (entries blocks) (f .blocksRise))
+      rw (
+        le-leb 1 (nodes .count) (f .some),
+        count-fits nodes (f .nodesHeld),
+        count-fits blocks (f .blocksHeld),
+        rising-test (entries nodes) (f .nodesRise),
+        rising-test (entries blocks) (f .blocksRise),
+      )
       (main-test m (entries blocks) (f .inside))
 
   pub in-shape-lists : listsInShape m nodes blocks ≡ true → ListsFit m nodes blocks

@@ -22,7 +22,8 @@ all : (l : List ℕ) (n : ℕ) → numbers l 0 (n - 0) ≡ numbers l 0 n
 all l n = let e : n - 0 ≡ n = omega arith in ap (numbers l 0) e
 
 -- what holds of all that are left, at a turn: of the next, and of all left then
-pub all-next : (P : ℕ → Type 0) (l : List ℕ) (i n : ℕ) → i < n → AllOf P (numbers l i (n - i)) → P (le32 l (4 * i)) × AllOf P (numbers l (i + 1) (n - (i + 1)))
+pub all-next : (P : ℕ → Type 0) (l : List ℕ) (i n : ℕ) → i < n → AllOf P (numbers l i (n - i))
+    → P (le32 l (4 * i)) × AllOf P (numbers l (i + 1) (n - (i + 1)))
 all-next P l i n h a = rw (numbers-cons l i n h) at a
 
 pub all-left : (P : ℕ → Type 0) (l : List ℕ) (n : ℕ) → AllOf P (numbers l 0 n) → AllOf P (numbers l 0 (n - 0))

@@ -101,11 +101,11 @@ module _ (kept name : List ℕ) (index : ℕ) (lent : Lent) (past : PastOpening 
       let runs : Ran (Outcome Block) = pullRun (cardOf kept) v name index in
       let on : SameOn kept v fresh u nodes blocks = same-exactly-if .0 e in
       let listed : SameOn kept v fresh u (runs .seen .nodes) (runs .seen .blocks) =
-          record {
-            bounds = on .bounds;
-            tables = subst (AllOf _) (nodes-of-run came) (on .tables);
-            bytes = subst (AllOf _) (blocks-of-run came) (on .bytes);
-          } in
+      record {
+        bounds = on .bounds;
+        tables = subst (AllOf _) (nodes-of-run came) (on .tables);
+        bytes = subst (AllOf _) (blocks-of-run came) (on .bytes);
+      } in
       let same-runs = same-run kept v fresh u name index listed in
       let shape = call-in-shape fresh name index lent' (image-shaped fresh u freshOpens) (name-in-shape kept name index lent (came .shape)) takes in
       let second = call-opens fresh name index lent' (Opened u) shape freshOpens ∙ ap (λ (r : Ran (Outcome Block)). written r lent') same-runs in

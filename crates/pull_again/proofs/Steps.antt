@@ -122,12 +122,14 @@ same-opens kept fresh nodes blocks e = go (inShape (length kept) && inShape (len
     other : {c : Compared} → compared kept fresh nodes blocks ≡ c → (c .answer ≡ 15 → ⊥) → ⊥
     other f g = g (ap (λ (c : Compared). c .answer) (sym f) ∙ e)
 
-    listed : (v u : Volume) → openedImage kept ≡ Opened v → openedImage fresh ≡ Opened u → (b : Bool) → listsInShape (boundsOf v) nodes blocks ≡ b → Opens kept fresh nodes blocks
+    listed : (v u : Volume) → openedImage kept ≡ Opened v → openedImage fresh ≡ Opened u
+        → (b : Bool) → listsInShape (boundsOf v) nodes blocks ≡ b → Opens kept fresh nodes blocks
     listed v u p q true l = record { v = v; u = u; keptOpens = p; freshOpens = q; some = in-shape-lists _ _ _ l .some }
     listed v u p q false l =
         absurd (other (compared-opened kept fresh nodes blocks v u p q ∙ lists-refused (cardOf kept) v (cardOf fresh) u nodes blocks l) (λ f. omega arith))
 
-    go : (b : Bool) → inShape (length kept) && inShape (length fresh) ≡ b → (o : Opening) → openedImage kept ≡ o → (o' : Opening) → openedImage fresh ≡ o' → Opens kept fresh nodes blocks
+    go : (b : Bool) → inShape (length kept) && inShape (length fresh) ≡ b
+        → (o : Opening) → openedImage kept ≡ o → (o' : Opening) → openedImage fresh ≡ o' → Opens kept fresh nodes blocks
     go false s o p o' q = absurd (other (shape-refused kept fresh nodes blocks s) (λ f. omega arith))
     go true s (Refused n) p o' q =
         let few = refusals kept n p in
@@ -138,7 +140,8 @@ same-opens kept fresh nodes blocks e = go (inShape (length kept) && inShape (len
     go true s (Opened v) p (Opened u) q = listed v u p q (listsInShape (boundsOf v) nodes blocks) refl
 
 -- a pull with a node listed got past opening
-pub some-past : (image name : List ℕ) (index : ℕ) (lent : Lent) → 1 ≤ nodesLeft (pulled image name index lent) .count → PastOpening (pulled image name index lent)
+pub some-past : (image name : List ℕ) (index : ℕ) (lent : Lent) → 1 ≤ nodesLeft (pulled image name index lent) .count
+    → PastOpening (pulled image name index lent)
 some-past image name index lent some = go (ends image name index lent) some
   where
     outcome : (o : Outcome Block) → Ended Counted o → (answerOf o < 4) ⊎ (8 < answerOf o)

@@ -38,7 +38,9 @@ same-block-requires c κs =
 
 returns : tie.Need-returns Inv-loop μ-loop
 returns c =
-    sym (c .before .before .before .before .loop .inv .2 ∙ search-stops _ _ _ _ _ _ (c .before .before .before .loop-test .taken) (c .before .before .get32 .ensures) (c .before .same-block .ensures) (c .if1 .taken))
+    let k = c .before .before in
+    let told = search-stops _ _ _ _ _ _ (k .before .loop-test .taken) (k .get32 .ensures) (c .before .same-block .ensures) (c .if1 .taken) in
+    sym (k .before .before .loop .inv .2 ∙ told)
 
 add-i : tie.Need-add-i Inv-loop μ-loop
 add-i c = search needs
@@ -48,8 +50,10 @@ loop-less c = search needs
 
 loop-again : tie.Need-loop-again Inv-loop μ-loop
 loop-again c =
-    let k = c .before .before .before .loop-test .taken in
-    (omega arith, all-next _ _ _ _ k (c .before .before .before .before .loop .inv .1) .1, c .before .before .before .before .loop .inv .2 ∙ search-on _ _ _ _ _ _ k (c .before .before .get32 .ensures) (c .before .same-block .ensures) (c .if1 .left))
+    let k = c .before .before in
+    let more = k .before .loop-test .taken in
+    let told = search-on _ _ _ _ _ _ more (k .get32 .ensures) (c .before .same-block .ensures) (c .if1 .left) in
+    (omega arith, all-next _ _ _ _ more (k .before .before .loop .inv .1) .1, k .before .before .loop .inv .2 ∙ told)
 
 returns-2 : tie.Need-returns-2 Inv-loop μ-loop
 returns-2 c =

@@ -44,7 +44,8 @@ loop-less c = search needs
 
 loop-again : tie.Need-loop-again Inv-loop μ-loop
 loop-again c =
-    (omega arith, c .before .before .before .loop .inv .1 ∙ rises-on _ _ _ _ (c .before .before .loop-test .taken) (c .before .get322 .ensures) (c .if2 .left))
+    let k = c .before .before in
+    (omega arith, k .before .loop .inv .1 ∙ rises-on _ _ _ _ (k .loop-test .taken) (c .before .get322 .ensures) (c .if2 .left))
 
 returns-3 : tie.Need-returns-3 Inv-loop μ-loop
 returns-3 c =

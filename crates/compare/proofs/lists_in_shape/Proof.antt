@@ -1,19 +1,25 @@
-use mathlib.Core.Path.{sym, _∙_}
+use mathlib.Core.Path.{_≡_, sym, _∙_}
+use mathlib.Core.Bool.{true}
 use Prim.Native.Nat.{_*_, _≤_}
 use lib.ListN.{length}
 use denote.Ref.{now}
 use borrow.Author.Tests.{not-true, not-false}
 use borrow.Author.Needs.{needs}
 use Rattle.compare.specs.Lists.{listing}
-use Rattle.compare.proofs.Shapes.{counts-refuse, counts-pass, counts-held}
+use Rattle.compare.proofs.Shapes.{Counted, counts-refuse, counts-pass, counts-held}
 use Rattle.compare.proofs.lists_in_shape.Statement.{statement}
 use Rattle.compare.proofs.lists_in_shape.Tie as tie
 
 -- the counts passed, so each list is held by its slice
-held : (k : tie.Else1) → (4 * k .before .before .before .before .args .node-count ≤ length (now (k .before .before .before .before .args .nodes))) × (4 * k .before .before .before .before .args .block-count ≤ length (now (k .before .before .before .before .args .blocks)))
+passed : (k : tie.Else1) → let a = k .before .before .before .before .args in
+    Counted (listing (now (a .nodes)) (a .node-count)) (listing (now (a .blocks)) (a .block-count)) ≡ true
+passed k = sym (k .before .counts-fit .ensures) ∙ not-false _ (k .if1 .left)
+
+held : (k : tie.Else1) → let a = k .before .before .before .before .args in
+    (4 * a .node-count ≤ length (now (a .nodes))) × (4 * a .block-count ≤ length (now (a .blocks)))
 held k =
     let a = k .before .before .before .before .args in
-    counts-held (listing (now (a .nodes)) (a .node-count)) (listing (now (a .blocks)) (a .block-count)) (sym (k .before .counts-fit .ensures) ∙ not-false _ (k .if1 .left))
+    counts-held (listing (now (a .nodes)) (a .node-count)) (listing (now (a .blocks)) (a .block-count)) (passed k)
 
 counts-fit-requires : tie.Need-counts-fit-requires
 counts-fit-requires c κs = search needs
@@ -36,7 +42,8 @@ all-in-main-requires c κs =
 
 returns-2 : tie.Need-returns-2
 returns-2 c =
-    rw (c .before .before .is-rising .ensures, c .before .is-rising2 .ensures, c .all-in-main .ensures) (sym (counts-pass _ _ _ (sym (c .before .before .before .before .counts-fit .ensures) ∙ not-false _ (c .before .before .before .if1 .left))))
+    rw (c .before .before .is-rising .ensures, c .before .is-rising2 .ensures, c .all-in-main .ensures)
+    (sym (counts-pass _ _ _ (passed (c .before .before .before))))
 
 pub lists-in-shape-spec : {M : Type 1} → statement M
 lists-in-shape-spec =

@@ -37,7 +37,9 @@ same-node-requires c κs = search needs
 
 returns : tie.Need-returns Inv-loop μ-loop
 returns c =
-    sym (c .before .before .before .before .loop .inv .1 ∙ search-stops _ _ _ _ _ _ (c .before .before .before .loop-test .taken) (c .before .before .get32 .ensures) (c .before .same-node .ensures) (c .if1 .taken))
+    let k = c .before .before in
+    let told = search-stops _ _ _ _ _ _ (k .before .loop-test .taken) (k .get32 .ensures) (c .before .same-node .ensures) (c .if1 .taken) in
+    sym (k .before .before .loop .inv .1 ∙ told)
 
 add-i : tie.Need-add-i Inv-loop μ-loop
 add-i c = search needs
@@ -47,7 +49,9 @@ loop-less c = search needs
 
 loop-again : tie.Need-loop-again Inv-loop μ-loop
 loop-again c =
-    (omega arith, c .before .before .before .before .loop .inv .1 ∙ search-on _ _ _ _ _ _ (c .before .before .before .loop-test .taken) (c .before .before .get32 .ensures) (c .before .same-node .ensures) (c .if1 .left))
+    let k = c .before .before in
+    let told = search-on _ _ _ _ _ _ (k .before .loop-test .taken) (k .get32 .ensures) (c .before .same-node .ensures) (c .if1 .left) in
+    (omega arith, k .before .before .loop .inv .1 ∙ told)
 
 returns-2 : tie.Need-returns-2 Inv-loop μ-loop
 returns-2 c =
