@@ -1,5 +1,4 @@
 -- What is so of every compare, whatever the images, lists and counts. Stated over `compared`, the definition that the contract cites.
--- Assumes nothing.
 use Prim.Native.Nat.{ℕ, _≤_}
 use native.Mathlib.Omega.{arith}
 use mathlib.Core.Path.{_≡_, refl, _∙_}

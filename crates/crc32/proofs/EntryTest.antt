@@ -1,6 +1,5 @@
 -- The table's rule at all entries, from two tests that antt computes: the first row is eight steps of each byte, and each
 -- later entry is eight steps, taken by the first row, of the entry a row before it.
--- Assumes nothing.
 use mathlib.Core.Path.{_≡_, sym, ap, _∙_}
 use mathlib.Core.Bool.{Bool, true, false, _&&_}
 use mathlib.Core.List.{List, [], _∷_}

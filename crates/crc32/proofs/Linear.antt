@@ -1,5 +1,4 @@
 -- The steps of the checksum are linear for `bitXor`, so that the bytes of a value may be stepped apart: why a table works.
--- Assumes nothing.
 use mathlib.Core.Path.{_≡_, refl, sym, ap, ap₂, _∙_}
 use Prim.Native.Nat.{ℕ, zero, suc, _+_, _*_, _/_, _%_, _^_, _<_}
 use native.Mathlib.Nat.{mod-lt, zero-add, suc-add, mul-one}

@@ -6,7 +6,8 @@ use Rattle.name_hash.specs.declared.State.{State}
 use Rattle.name_hash.specs.declared.Key.{Key}
 use Rattle.name_hash.specs.Hash.{add32, delta, round, rounds}
 
-pub rounds-next : (i sum : ℕ) (k : Key) (s : State) → i < 16 → rounds (16 - i) sum k s ≡ rounds (16 - (i + 1)) (add32 sum delta) k (round k (add32 sum delta) s)
+pub rounds-next : (i sum : ℕ) (k : Key) (s : State) → i < 16
+    → rounds (16 - i) sum k s ≡ rounds (16 - (i + 1)) (add32 sum delta) k (round k (add32 sum delta) s)
 unfolding rounds
 rounds-next i sum k s l =
     let e : 16 - i ≡ suc (16 - (i + 1)) = omega arith in

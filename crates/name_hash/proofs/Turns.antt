@@ -15,7 +15,8 @@ use Rattle.name_hash.specs.Hash.{tea, keyOf, absorb, startState, isDots,
 abbrev pub absorbFrom : List ℕ → ℕ → State → State
 absorbFrom name at s = absorb (length name - at / 16) (drop at name) s
 
-pub absorb-next : (name : List ℕ) (at : ℕ) (s : State) → 16 < length name - at → absorbFrom name at s ≡ absorbFrom name (at + 16) (tea (keyOf (drop at name)) s)
+pub absorb-next : (name : List ℕ) (at : ℕ) (s : State) → 16 < length name - at
+    → absorbFrom name at s ≡ absorbFrom name (at + 16) (tea (keyOf (drop at name)) s)
 unfolding absorb
 absorb-next name at s h =
     let e : length name - at / 16 ≡ suc (length name - (at + 16) / 16) = omega arith in

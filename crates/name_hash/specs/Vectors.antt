@@ -38,6 +38,7 @@ unfolding halfRound round rounds tea pushAll keyOf absorb hashOf
 longest = refl
 
 -- the bounds of a name's shape
-shapes : (isName [] ≡ false) × (isName (replicate 255 120) ≡ true) × (isName (replicate 256 120) ≡ false) × (isName (97 ∷ 47 ∷ []) ≡ false) × (isName (97 ∷ 0 ∷ []) ≡ false)
+shapes : (isName [] ≡ false) × (isName (replicate 255 120) ≡ true) × (isName (replicate 256 120) ≡ false)
+    × (isName (97 ∷ 47 ∷ []) ≡ false) × (isName (97 ∷ 0 ∷ []) ≡ false)
 unfolding nameBytes
 shapes = (refl, refl, refl, refl, refl)

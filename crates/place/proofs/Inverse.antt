@@ -1,6 +1,5 @@
 -- Place and index lead to each other, so no two indexes share a place and every place with slots that there are has its index.
 -- Each law goes through the four tests of `placeOf` once, by `cases`.
--- Assumes nothing.
 use mathlib.Core.Path.{_≡_, refl, sym, ap, _∙_, subst}
 use mathlib.Core.Bool.{Bool, true, false}
 use Prim.Native.Nat.{ℕ, _+_, _-_, _*_, _/_, _%_, _<_, _≤_}
@@ -36,7 +35,8 @@ cases P A index inode direct indirect double past =
     (λ r. by-test P (index - A - 2036 - 2072648) 1054977832 _ _ (λ l. double (index - A - 2036 - 2072648) (omega arith) l) (λ s. past (omega arith)))))
 
 -- a number below an indirect node, taken apart again
-two-levels : (i n k s : ℕ) → i ≡ 1036324 * n + (1018 * k + s) → (k < 1018) × (s < 1018) → (i / 1036324 ≡ n) × (i % 1036324 / 1018 ≡ k) × (i % 1018 ≡ s)
+two-levels : (i n k s : ℕ) → i ≡ 1036324 * n + (1018 * k + s) → (k < 1018) × (s < 1018)
+    → (i / 1036324 ≡ n) × (i % 1036324 / 1018 ≡ k) × (i % 1018 ≡ s)
 two-levels i n k s e h = (omega arith, omega arith, omega arith)
 
 -- the slots on the way are there, whatever the index

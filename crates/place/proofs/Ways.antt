@@ -1,5 +1,5 @@
 -- What code that follows a way needs to know of it: the array gives the steps back, and each slot is one that there is.
--- Each law goes through the five kinds of places once. Assumes nothing.
+-- Each law goes through the five kinds of places once.
 use mathlib.Core.Path.{_≡_, refl, ap, _∙_}
 use Prim.Native.Nat.{ℕ, zero, suc, _≤_, _<_}
 use native.Mathlib.Omega.{arith}

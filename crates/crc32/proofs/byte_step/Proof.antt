@@ -1,5 +1,4 @@
 -- `crc32::byte_step` meets its contract: eight steps are one entry, and the rest shifted down.
--- Assumes nothing.
 use mathlib.Core.Path.{sym, ap, _∙_}
 use Prim.Native.Nat.{ℕ, _/_}
 use native.Mathlib.Omega.{arith}

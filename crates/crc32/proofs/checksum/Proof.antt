@@ -1,5 +1,4 @@
 -- `crc32::checksum` meets its contract. The constant is the table: the tests of its entries are computed here, once.
--- Assumes nothing.
 use mathlib.Core.Path.{refl}
 use Rattle.crc32.specs.Checksum.{crcBit, crcBits}
 use Rattle.crc32.proofs.EntryTest.{is-table}

@@ -1,5 +1,4 @@
 -- `crc32::over_bytes` meets its contract: the groups leave the rest, and nothing follows it.
--- Assumes nothing.
 use mathlib.Core.Path.{_≡_, sym, ap, _∙_}
 use Prim.Native.Nat.{_-_, _*_, _/_}
 use native.Mathlib.Omega.{arith}

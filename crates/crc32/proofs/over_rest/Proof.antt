@@ -1,5 +1,4 @@
 -- `crc32::over_rest` meets its contract. The invariant: what is left, from the value so far, gives the answer.
--- Assumes nothing.
 use mathlib.Core.Path.{_≡_, refl, sym, _∙_}
 use Prim.Native.Nat.{_-_, _≤_}
 use native.Mathlib.Omega.{arith}

@@ -1,6 +1,5 @@
 -- `crc32::over_words` meets its contract. The invariant: what is left, from the value so far, gives the answer, and the
 -- offset is a multiple of eight.
--- Assumes nothing.
 use mathlib.Core.Path.{_≡_, refl, ap, _∙_}
 use Prim.Native.Nat.{ℕ, _-_, _*_, _/_, _%_, _≤_}
 use native.Mathlib.Omega.{arith}

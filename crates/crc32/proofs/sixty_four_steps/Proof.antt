@@ -1,5 +1,4 @@
 -- `crc32::sixty_four_steps` meets its contract: the entries of eight bytes are the steps of their number.
--- Assumes nothing.
 use mathlib.Core.Path.{sym}
 use native.Mathlib.Nat.{div-div-eq-div-mul}
 use lib.Bits.{xor-zero-r}

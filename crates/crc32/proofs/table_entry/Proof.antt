@@ -1,5 +1,4 @@
 -- `crc32::table_entry` meets its contract: the table's rule at the row and the byte.
--- Assumes nothing.
 use Prim.Native.Nat.{_%_}
 use native.Mathlib.Omega.{arith}
 use borrow.Author.Needs.{needs}

@@ -1,5 +1,4 @@
 -- `crc32::word_step` meets its contract: eight bytes one by one are the steps of their number.
--- Assumes nothing.
 use mathlib.Core.Path.{sym, ap, _∙_}
 use Prim.Native.Nat.{ℕ}
 use lib.Bits.{bitXor}

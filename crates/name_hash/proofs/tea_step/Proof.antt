@@ -32,7 +32,8 @@ loop-again : tie.Need-loop-again Inv-loop μ-loop
 loop-again c =
     let b = c .before .before .before in
     let a = b .before .args in
-    (omega arith, b .loop .inv .1 ∙ rounds-next (b .loop .counter) (b .loop .sum) (a .k) (b .loop .t) (omega arith) ∙ rw (c .tea-round .ensures, c .before .add .ensures))
+    let next = rounds-next (b .loop .counter) (b .loop .sum) (a .k) (b .loop .t) (omega arith) in
+    (omega arith, b .loop .inv .1 ∙ next ∙ rw (c .tea-round .ensures, c .before .add .ensures))
 
 add-requires-2 : tie.Need-add-requires-2 Inv-loop μ-loop
 add-requires-2 c κs = tt

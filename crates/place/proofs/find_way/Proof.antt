@@ -1,9 +1,14 @@
 use mathlib.Core.Path.{refl, sym, _∙_}
+use Prim.Native.Nat.{_<_}
 use native.Mathlib.Omega.{arith}
 use Rattle.place.proofs.Inverse.{slots}
 use borrow.Author.Needs.{needs}
 use Rattle.place.proofs.find_way.Statement.{statement}
 use Rattle.place.proofs.find_way.Tie as tie
+
+-- the slots on the way through the double indirect node
+in-double : (k : tie.After-n3) → let g = k .n3 .given .0 in (g .0 < 1018) × (g .1 .0 < 1018) × (g .1 .1 .0 < 1018)
+in-double k = slots _ _ _ (sym (k .before .before .find-place .ensures) ∙ k .n3 .given .1)
 
 node-requires : tie.Need-node-requires
 node-requires c κs = search needs
@@ -69,22 +74,22 @@ node-requires-9 : tie.Need-node-requires-9
 node-requires-9 c κs = search needs
 
 mul-node-3 : tie.Need-mul-node-3
-mul-node-3 c = omega (arith, slots _ _ _ (sym (c .before .before .before .before .before .find-place .ensures) ∙ c .before .before .before .n3 .given .1))
+mul-node-3 c = omega (arith, in-double (c .before .before .before))
 
 add-node-6 : tie.Need-add-node-6
-add-node-6 c = omega (arith, slots _ _ _ (sym (c .before .before .before .before .before .find-place .ensures) ∙ c .before .before .before .n3 .given .1))
+add-node-6 c = omega (arith, in-double (c .before .before .before))
 
 node-requires-10 : tie.Need-node-requires-10
 node-requires-10 c κs = search needs
 
 mul-node-4 : tie.Need-mul-node-4
-mul-node-4 c = omega (arith, slots _ _ _ (sym (c .before .before .before .before .before .before .find-place .ensures) ∙ c .before .before .before .before .n3 .given .1))
+mul-node-4 c = omega (arith, in-double (c .before .before .before .before))
 
 add-node-7 : tie.Need-add-node-7
-add-node-7 c = omega (arith, slots _ _ _ (sym (c .before .before .before .before .before .before .find-place .ensures) ∙ c .before .before .before .before .n3 .given .1))
+add-node-7 c = omega (arith, in-double (c .before .before .before .before))
 
 add-node-8 : tie.Need-add-node-8
-add-node-8 c = omega (arith, slots _ _ _ (sym (c .before .before .before .before .before .before .find-place .ensures) ∙ c .before .before .before .before .n3 .given .1))
+add-node-8 c = omega (arith, in-double (c .before .before .before .before))
 
 node-requires-11 : tie.Need-node-requires-11
 node-requires-11 c κs = search needs
@@ -96,16 +101,27 @@ no-way-requires : tie.Need-no-way-requires
 no-way-requires c κs = search needs
 
 returns : tie.Need-returns
-returns c = rw (← c .before .before .before .before .find-place .ensures, c .before .before .s .given .1, c .node2 .ensures, c .before .before .before .before .before .node .ensures)
+returns c =
+    let k = c .before .before .before .before in
+    rw (← k .find-place .ensures, c .before .before .s .given .1, c .node2 .ensures, k .before .node .ensures)
 
 returns-2 : tie.Need-returns-2
-returns-2 c = rw (← c .before .before .before .before .before .find-place .ensures, c .before .before .before .n .given .1, c .node4 .ensures, c .before .node3 .ensures, c .before .before .before .before .before .before .node .ensures)
+returns-2 c =
+    let k = c .before .before .before in
+    let l = k .before .before in
+    rw (← l .find-place .ensures, k .n .given .1, c .node4 .ensures, c .before .node3 .ensures, l .before .node .ensures)
 
 returns-3 : tie.Need-returns-3
-returns-3 c = rw (← c .before .before .before .before .before .before .find-place .ensures, c .before .before .before .before .n2 .given .1, c .node7 .ensures, c .before .node6 .ensures, c .before .before .node5 .ensures, c .before .before .before .before .before .before .before .node .ensures)
+returns-3 c =
+    let k = c .before .before .before .before in
+    let l = k .before .before in
+    rw (← l .find-place .ensures, k .n2 .given .1, c .node7 .ensures, c .before .node6 .ensures, c .before .before .node5 .ensures, l .before .node .ensures)
 
 returns-4 : tie.Need-returns-4
-returns-4 c = rw (← c .before .before .before .before .before .before .before .find-place .ensures, c .before .before .before .before .before .n3 .given .1, c .node11 .ensures, c .before .node10 .ensures, c .before .before .node9 .ensures, c .before .before .before .node8 .ensures)
+returns-4 c =
+    let k = c .before .before .before in
+    let l = k .before .before in
+    rw (← l .before .before .find-place .ensures, l .n3 .given .1, c .node11 .ensures, c .before .node10 .ensures, c .before .before .node9 .ensures, k .node8 .ensures)
 
 returns-5 : tie.Need-returns-5
 returns-5 c = rw (← c .before .before .before .find-place .ensures, c .before .enum-told .given .1, c .no-way .ensures)
