@@ -115,5 +115,6 @@ sheet =
     ∷ []
 
 pub bench-sheet : List.map (λ l. l .computed) sheet ≡ List.map (λ l. l .stated) sheet
-unfolding topBit lowBit placeOf le16 le32 le64 sameAt bytesOf superblockOf logsPass unitsPass countsPass areasPass endsPass fieldsPass copyPasses found bucketsOf blocksOf firstOf wellFormed matches slotAt slotsFrom afterBlock
+unfolding topBit lowBit placeOf le16 le32 le64 sameAt bytesOf superblockOf logsPass unitsPass countsPass areasPass endsPass fieldsPass copyPasses
+    found bucketsOf blocksOf firstOf wellFormed matches slotAt slotsFrom afterBlock
 bench-sheet = refl

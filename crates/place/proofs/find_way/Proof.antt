@@ -121,7 +121,14 @@ returns-4 : tie.Need-returns-4
 returns-4 c =
     let k = c .before .before .before in
     let l = k .before .before in
-    rw (← l .before .before .find-place .ensures, l .n3 .given .1, c .node11 .ensures, c .before .node10 .ensures, c .before .before .node9 .ensures, k .node8 .ensures)
+    rw (
+      ← l .before .before .find-place .ensures,
+      l .n3 .given .1,
+      c .node11 .ensures,
+      c .before .node10 .ensures,
+      c .before .before .node9 .ensures,
+      k .node8 .ensures,
+    )
 
 returns-5 : tie.Need-returns-5
 returns-5 c = rw (← c .before .before .before .find-place .ensures, c .before .enum-told .given .1, c .no-way .ensures)
