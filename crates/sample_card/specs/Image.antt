@@ -1,0 +1,108 @@
+-- One small card, written out: 3,586 blocks, of which ten hold something. It has one file, "brake.log", of seven bytes.
+use Prim.Native.Nat.{ℕ, _+_, _-_}
+use mathlib.Core.List.{List, [], _∷_, _++_}
+use lib.ListN.{length, getD, replicate}
+use Rattle.field.specs.Card.{Card}
+use Rattle.walk.specs.Lists.{bytesOf}
+
+-- bytes that stand at an offset of a block
+pub record Part : Type 0 where
+  pub offset : ℕ
+  pub bytes : List ℕ
+
+abbrev pub at : ℕ → List ℕ → Part
+at offset bytes = record { offset = offset; bytes = bytes }
+
+-- 32-bit numbers at an offset
+abbrev pub numbersAt : ℕ → List ℕ → Part
+numbersAt offset numbers = at offset (bytesOf numbers)
+
+-- a block from a byte on: parts in rising order, zeros between and behind them
+unfoldable pub filled : ℕ → List Part → List ℕ
+filled from [] = replicate (4096 - from) 0
+filled from (p ∷ ps) = replicate (p .offset - from) 0 ++ (p .bytes ++ filled (p .offset + length (p .bytes)) ps)
+
+unfoldable pub zeros : List ℕ
+zeros = replicate 4096 0
+
+-- "brake.log"
+abbrev pub name : List ℕ
+name = 98 ∷ 114 ∷ 97 ∷ 107 ∷ 101 ∷ 46 ∷ 108 ∷ 111 ∷ 103 ∷ []
+
+-- "42 bar" and a line feed
+abbrev pub content : List ℕ
+content = 52 ∷ 50 ∷ 32 ∷ 98 ∷ 97 ∷ 114 ∷ 10 ∷ []
+
+-- the superblock: logs and units; the block count; segment counts (7: checkpoint 2, SIT 2, NAT 2, SSA 0, main 1); where segment 0
+-- and the areas start; and the three inode numbers
+unfoldable pub superblock : List ℕ
+superblock =
+    filled 0
+    (at 1024 (0x10 ∷ 0x20 ∷ 0xF5 ∷ 0xF2 ∷ [])
+    ∷ numbersAt 1032 (9 ∷ 3 ∷ 12 ∷ 9 ∷ 1 ∷ 1 ∷ [])
+    ∷ numbersAt 1060 (3586 ∷ 0 ∷ [])
+    ∷ numbersAt 1072 (7 ∷ 2 ∷ 2 ∷ 2 ∷ 0 ∷ 1 ∷ [])
+    ∷ numbersAt 1096 (2 ∷ 2 ∷ 1026 ∷ 2050 ∷ 3074 ∷ 3074 ∷ [])
+    ∷ numbersAt 1120 (3 ∷ 1 ∷ 2 ∷ [])
+    ∷ [])
+
+-- first and last block of the checkpoint pack: version 1; flags unmount and compact, three blocks, of which block 1 has the
+-- summaries; the sizes of the two maps, both empty; and the checksum
+unfoldable pub pack : List ℕ
+pack =
+    filled 0
+    (numbersAt 0 (1 ∷ 0 ∷ [])
+    ∷ numbersAt 132 (5 ∷ 3 ∷ 1 ∷ [])
+    ∷ numbersAt 156 (64 ∷ 64 ∷ 4092 ∷ [])
+    ∷ numbersAt 4092 (3931937229 ∷ [])
+    ∷ [])
+
+-- the NAT journal: one entry, for the root, inode 3, at block 3074
+unfoldable pub journal : List ℕ
+journal = filled 0 (at 0 (1 ∷ 0 ∷ []) ∷ numbersAt 2 (3 ∷ []) ∷ numbersAt 7 (3 ∷ 3074 ∷ []) ∷ [])
+
+-- the first block of the NAT: inode 4 at block 3076
+unfoldable pub table : List ℕ
+table = filled 0 (numbersAt 37 (4 ∷ 3076 ∷ []) ∷ [])
+
+-- the root: mode, size, depth 1, its first block, and the footer
+unfoldable pub root : List ℕ
+root = filled 0 (at 0 (0xED ∷ 0x41 ∷ []) ∷ numbersAt 16 (4096 ∷ 0 ∷ []) ∷ numbersAt 72 (1 ∷ []) ∷ numbersAt 360 (3075 ∷ []) ∷ numbersAt 4072 (3 ∷ 3 ∷ 0 ∷ []) ∷ [])
+
+-- a directory entry: hash, inode, the name's length, type
+abbrev pub entry : ℕ → ℕ → ℕ → ℕ → List ℕ
+entry hash ino long type = bytesOf (hash ∷ ino ∷ []) ++ long ∷ 0 ∷ type ∷ []
+
+-- the root's one block: ".", ".." and, in slots 2 and 3, "brake.log"
+unfoldable pub names : List ℕ
+names =
+    filled 0
+    (at 0 (15 ∷ [])
+    ∷ at 30 (entry 0 3 1 2 ++ (entry 0 3 2 2 ++ entry 3025346403 4 9 1))
+    ∷ at 2384 (46 ∷ [])
+    ∷ at 2392 (46 ∷ 46 ∷ [])
+    ∷ at 2400 name
+    ∷ [])
+
+-- the file: mode, size 7, its one block, and the footer
+unfoldable pub file : List ℕ
+file = filled 0 (at 0 (0xA4 ∷ 0x81 ∷ []) ∷ numbersAt 16 (7 ∷ 0 ∷ []) ∷ numbersAt 360 (3077 ∷ []) ∷ numbersAt 4072 (4 ∷ 4 ∷ 0 ∷ []) ∷ [])
+
+unfoldable pub data₀ : List ℕ
+data₀ = filled 0 (at 0 content ∷ [])
+
+-- all blocks in order: the pack starts at 2, the NAT at 2050, the main area at 3074
+unfoldable pub blocks : List (List ℕ)
+blocks =
+    superblock ∷ superblock ∷ pack ∷ journal ∷ pack ∷ (replicate 2045 zeros
+    ++ (table ∷ (replicate 1023 zeros
+    ++ (root ∷ names ∷ file ∷ data₀ ∷ replicate 508 zeros))))
+
+-- one list behind the other
+unfoldable pub joined : List (List ℕ) → List ℕ
+joined [] = []
+joined (b ∷ bs) = b ++ joined bs
+
+-- the card's bytes
+unfoldable pub image : List ℕ
+image = joined blocks
