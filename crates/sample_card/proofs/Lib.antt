@@ -1,1 +1,3 @@
-mod Try
+mod Checksum
+mod Opening
+mod Pulling

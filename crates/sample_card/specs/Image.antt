@@ -88,15 +88,19 @@ names =
 unfoldable pub file : List ℕ
 file = filled 0 (at 0 (0xA4 ∷ 0x81 ∷ []) ∷ numbersAt 16 (7 ∷ 0 ∷ []) ∷ numbersAt 360 (3077 ∷ []) ∷ numbersAt 4072 (4 ∷ 4 ∷ 0 ∷ []) ∷ [])
 
-unfoldable pub data₀ : List ℕ
-data₀ = filled 0 (at 0 content ∷ [])
+-- the file's block: behind its seven bytes stands one that isn't the file's
+unfoldable pub bytes₀ : List ℕ
+bytes₀ = filled 0 (at 0 content ∷ at 7 (255 ∷ []) ∷ [])
 
 -- all blocks in order: the pack starts at 2, the NAT at 2050, the main area at 3074
 unfoldable pub blocks : List (List ℕ)
 blocks =
     superblock ∷ superblock ∷ pack ∷ journal ∷ pack ∷ (replicate 2045 zeros
     ++ (table ∷ (replicate 1023 zeros
-    ++ (root ∷ names ∷ file ∷ data₀ ∷ replicate 508 zeros))))
+    ++ (root ∷ names ∷ file ∷ bytes₀ ∷ replicate 508 zeros))))
+
+abbrev pub card : Card
+card = record { blocks = 3586; block = λ b. getD blocks b [] }
 
 -- one list behind the other
 unfoldable pub joined : List (List ℕ) → List ℕ
