@@ -1,3 +1,5 @@
+mod Joined
 mod Checksum
 mod Opening
 mod Pulling
+pub mod Theorems

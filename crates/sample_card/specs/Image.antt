@@ -29,6 +29,10 @@ zeros = replicate 4096 0
 abbrev pub name : List ℕ
 name = 98 ∷ 114 ∷ 97 ∷ 107 ∷ 101 ∷ 46 ∷ 108 ∷ 111 ∷ 103 ∷ []
 
+-- "brake", which the card doesn't have
+abbrev pub missing : List ℕ
+missing = 98 ∷ 114 ∷ 97 ∷ 107 ∷ 101 ∷ []
+
 -- "42 bar" and a line feed
 abbrev pub content : List ℕ
 content = 52 ∷ 50 ∷ 32 ∷ 98 ∷ 97 ∷ 114 ∷ 10 ∷ []
@@ -92,12 +96,17 @@ file = filled 0 (at 0 (0xA4 ∷ 0x81 ∷ []) ∷ numbersAt 16 (7 ∷ 0 ∷ []) �
 unfoldable pub bytes₀ : List ℕ
 bytes₀ = filled 0 (at 0 content ∷ at 7 (255 ∷ []) ∷ [])
 
--- all blocks in order: the pack starts at 2, the NAT at 2050, the main area at 3074
+-- the main area: blocks 3074 to 3585
+abbrev pub mainArea : List (List ℕ)
+mainArea = root ∷ names ∷ file ∷ bytes₀ ∷ replicate 508 zeros
+
+-- from the NAT on, block 2050
+abbrev pub fromTable : List (List ℕ)
+fromTable = table ∷ (replicate 1023 zeros ++ mainArea)
+
+-- all blocks in order: two copies of the superblock, the checkpoint pack from block 2 on, and the rest
 unfoldable pub blocks : List (List ℕ)
-blocks =
-    superblock ∷ superblock ∷ pack ∷ journal ∷ pack ∷ (replicate 2045 zeros
-    ++ (table ∷ (replicate 1023 zeros
-    ++ (root ∷ names ∷ file ∷ bytes₀ ∷ replicate 508 zeros))))
+blocks = superblock ∷ superblock ∷ pack ∷ journal ∷ pack ∷ (replicate 2045 zeros ++ fromTable)
 
 abbrev pub card : Card
 card = record { blocks = 3586; block = λ b. getD blocks b [] }
