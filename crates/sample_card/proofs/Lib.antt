@@ -1,4 +1,5 @@
 mod Joined
+mod ZeroRuns
 mod Checksum
 mod Opening
 mod Pulling

@@ -19,7 +19,7 @@ use Rattle.checkpoint.specs.Journal.{journalIn, journalPlaced, journalAt}
 use Rattle.checkpoint.specs.Volume.{mapsReadable, journalReadable, openPack, opened}
 use Rattle.crc32.specs.Checksum.{checksumOf}
 use Rattle.walk.specs.Lists.{bytesOf}
-use Rattle.sample_card.specs.Image.{filled, superblock, pack, journal, table, root, names, file, bytes₀, blocks, zeros, card}
+use Rattle.sample_card.specs.Image.{filled, superblock, pack, journal, natBlock, rootInode, dentryBlock, fileInode, dataBlock, blocks, zeros, card}
 use Rattle.sample_card.specs.Volume.{areas, volume}
 use Rattle.sample_card.proofs.Checksum.{pack-sum}
 

@@ -21,21 +21,21 @@ use Rattle.directory.specs.Slot.{wellFormed, matches, slotAt, slotsFrom}
 use Rattle.directory.specs.Find.{fetchWalk, afterBlock, bucketWalk, levelsWalk, findWalk}
 use Rattle.pull.specs.Walk.{Block, atFile, fileWalk, atRoot, rootWalk, pullWalk}
 use Rattle.pull.specs.Pull.{pullRun}
-use Rattle.sample_card.specs.Image.{filled, superblock, pack, journal, table, root, names, file, bytes₀, blocks, zeros, card, name, missing}
+use Rattle.sample_card.specs.Image.{filled, superblock, pack, journal, natBlock, rootInode, dentryBlock, fileInode, dataBlock, blocks, zeros, card, name, missing}
 use Rattle.sample_card.specs.Volume.{areas, volume}
 
--- the root by the journal, the file by the table
+-- the root by the journal, the file by the natBlock
 pub entries : (tableAnswer card volume 3 ≡ Entry 3 3074) × (tableAnswer card volume 4 ≡ Entry 4 3076)
-unfolding blocks pack journal table filled bytesOf le16 le32 topBit entriesFrom inJournal inRange tableAddress inTable tableAnswer
+unfolding blocks pack journal natBlock filled bytesOf le16 le32 topBit entriesFrom inJournal inRange tableAddress inTable tableAnswer
 entries = (refl, refl)
 
 -- block 0 of the file; its block 1; a name that isn't there
 pub walks :
-    (pullRun card volume name 0 ≡ ran (ok (record { count = 7; content = held bytes₀ })) (record { nodes = 3 ∷ 4 ∷ []; blocks = 3074 ∷ 3075 ∷ 3076 ∷ 3077 ∷ [] }))
+    (pullRun card volume name 0 ≡ ran (ok (record { count = 7; content = held dataBlock })) (record { nodes = 3 ∷ 4 ∷ []; blocks = 3074 ∷ 3075 ∷ 3076 ∷ 3077 ∷ [] }))
     × (pullRun card volume name 1 ≡ ran (stop 3) (record { nodes = 3 ∷ 4 ∷ []; blocks = 3074 ∷ 3075 ∷ 3076 ∷ [] }))
     × (pullRun card volume missing 0 ≡ ran (stop 2) (record { nodes = 3 ∷ []; blocks = 3074 ∷ 3075 ∷ [] }))
 unfolding
-    blocks pack journal table root names file filled bytesOf le16 le32 le64 topBit lowBit sameAt halfRound round rounds tea pushAll keyOf absorb hashOf placeOf entriesFrom inJournal inRange tableAddress inTable tableAnswer
+    blocks pack journal natBlock rootInode dentryBlock fileInode filled bytesOf le16 le32 le64 topBit lowBit sameAt halfRound round rounds tea pushAll keyOf absorb hashOf placeOf entriesFrom inJournal inRange tableAddress inTable tableAnswer
     inodeOf notInline isDirectory isRegular addressesIn isPast countIn insert run bind onward andThen inMain belongs atBlock atEntry nodeWalk isHole dataWalk followWalk wayWalk blockWalk bucketsOf blocksOf firstOf bucketOf
     wellFormed matches slotAt slotsFrom fetchWalk afterBlock bucketWalk levelsWalk findWalk atFile fileWalk atRoot rootWalk pullWalk pullRun
 walks = (refl, refl, refl)

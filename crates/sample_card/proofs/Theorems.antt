@@ -17,7 +17,7 @@ use Rattle.walk.specs.Walk.{Ran, Outcome}
 use Rattle.pull.specs.Walk.{Block}
 use Rattle.pull.specs.Pull.{Lent, lending, Result, result, lentInShape, pulledFrom, written, pullRun, pulled}
 use Rattle.pull.proofs.Results.{call-in-shape, call-opens}
-use Rattle.sample_card.specs.Image.{filled, zeros, name, missing, content, superblock, pack, journal, table, root, names, file, bytes₀, mainArea, fromTable, blocks, card, joined, image}
+use Rattle.sample_card.specs.Image.{filled, zeros, name, missing, content, superblock, pack, journal, natBlock, rootInode, dentryBlock, fileInode, dataBlock, mainArea, fromNat, blocks, card, joined, image}
 use Rattle.sample_card.specs.Volume.{volume}
 use Rattle.sample_card.proofs.Joined.{Whole, whole-run, length-joined, block-joined}
 use Rattle.sample_card.proofs.Opening.{card-opens}
@@ -29,14 +29,28 @@ unfolding zeros
 zeros-length = refl
 
 main-whole : Whole mainArea
-unfolding root names file bytes₀ filled bytesOf
+unfolding rootInode dentryBlock fileInode dataBlock filled bytesOf
 main-whole = (refl, (refl, (refl, (refl, whole-run 508 zeros [] zeros-length tt))))
 
 blocks-whole : Whole blocks
-unfolding blocks superblock pack journal table filled bytesOf
-blocks-whole =
-    (refl, (refl, (refl, (refl, (refl, whole-run 2045 zeros fromTable zeros-length
-    (refl, whole-run 1023 zeros mainArea zeros-length main-whole))))))
+unfolding blocks superblock pack journal natBlock filled bytesOf
+blocks-whole = (
+  refl,
+  (
+    refl,
+    (
+      refl,
+      (
+        refl,
+        (
+          refl,
+          whole-run 2045 zeros fromNat zeros-length
+              (refl, whole-run 1023 zeros mainArea zeros-length main-whole),
+        ),
+      ),
+    ),
+  ),
+)
 
 image-length : length image ≡ 14688256
 unfolding image blocks
@@ -58,12 +72,12 @@ pub some-card-opens : openedImage image ≡ Opened volume
 unfolding openedImage
 some-card-opens = rw image-shape (ap opened image-card ∙ card-opens)
 
--- ---- a node lookup, by the journal and by the table
+-- ---- a node lookup, by the journal and by the natBlock
 pub a-lookup-answers-0 : (lookupOf image 3 ≡ record { answer = 0; inode = 3; address = 3074 }) × (lookupOf image 4 ≡ record { answer = 0; inode = 4; address = 3076 })
 unfolding lookupOf
 a-lookup-answers-0 =
     let found : (n : ℕ) → answered (tableAnswer (cardOf image) volume n) ≡ answered (tableAnswer card volume n) =
-        λ n. ap (λ (c : Card). answered (tableAnswer c volume n)) image-card in
+    λ n. ap (λ (c : Card). answered (tableAnswer c volume n)) image-card in
     rw some-card-opens (found 3 ∙ ap answered (entries .0), found 4 ∙ ap answered (entries .1))
 
 -- ---- pulls: the answer, the byte count, both lists and their counts, and the lent memory as it is left
@@ -85,7 +99,7 @@ module _ (lent : Lent) (fits : lentInShape lent ≡ true) where
 
   -- the file's first seven bytes, and zeros; nodes 3 and 4 were looked up, and four blocks of the main area read
   pub a-pull-answers-0 : pulled image name 0 lent ≡ leaves 0 7 (content ++ replicate 4089 0) (3 ∷ 4 ∷ []) (3074 ∷ 3075 ∷ 3076 ∷ 3077 ∷ []) lent
-  unfolding nameBytes bytes₀ filled
+  unfolding nameBytes dataBlock filled
   a-pull-answers-0 = walked name 0 _ refl (walks .0)
 
   pub past-the-end-answers-3 : pulled image name 1 lent ≡ leaves 3 0 (lent .block) (3 ∷ 4 ∷ []) (3074 ∷ 3075 ∷ 3076 ∷ []) lent
