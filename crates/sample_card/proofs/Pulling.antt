@@ -1,4 +1,4 @@
--- What the definitions compute of the card once it is open: table answers, and the walks of three pulls.
+-- What the definitions compute of the card once it is open: table answers, and the walks of four pulls.
 -- Assumes nothing.
 use mathlib.Core.Path.{_≡_, refl}
 use mathlib.Core.List.{[], _∷_}
@@ -14,7 +14,7 @@ use Rattle.inode.specs.Inode.{inodeOf, notInline, isDirectory, isRegular, addre
 use Rattle.walk.specs.Lists.{bytesOf, insert}
 use Rattle.walk.specs.Walk.{ran, run, bind, ok, stop, onward, andThen}
 use Rattle.node.specs.Node.{inMain, belongs, atBlock, atEntry, nodeWalk}
-use Rattle.node.specs.Block.{held, isHole, dataWalk, wayWalk, blockWalk}
+use Rattle.node.specs.Block.{hole, held, isHole, dataWalk, wayWalk, blockWalk}
 use Rattle.directory.specs.Level.{bucketsOf, blocksOf, firstOf, bucketOf}
 use Rattle.directory.specs.Slot.{wellFormed, matches, slotAt, slotsFrom}
 use Rattle.directory.specs.Find.{fetchWalk, afterBlock, bucketWalk, levelsWalk, findWalk}
@@ -28,10 +28,11 @@ pub entries : (tableAnswer card volume 3 ≡ Entry 3 3074) × (tableAnswer card 
 unfolding blocks pack journal natBlock filled bytesOf le16 le32 topBit entriesFrom inJournal inRange tableAddress inTable tableAnswer
 entries = (refl, refl)
 
--- block 0 of the file; block 1 of it; a name that isn't there
+-- block 1 of the file; its block 0, a hole; block 2, past its end; a name that isn't there
 pub walks :
-    (pullRun card volume name 0 ≡ ran (ok (record { count = 7; content = held dataBlock })) (record { nodes = 3 ∷ 4 ∷ []; blocks = 3074 ∷ 3075 ∷ 3076 ∷ 3077 ∷ [] }))
-    × (pullRun card volume name 1 ≡ ran (stop 3) (record { nodes = 3 ∷ 4 ∷ []; blocks = 3074 ∷ 3075 ∷ 3076 ∷ [] }))
+    (pullRun card volume name 1 ≡ ran (ok (record { count = 7; content = held dataBlock })) (record { nodes = 3 ∷ 4 ∷ []; blocks = 3074 ∷ 3075 ∷ 3076 ∷ 3077 ∷ [] }))
+    × (pullRun card volume name 0 ≡ ran (ok (record { count = 4096; content = hole })) (record { nodes = 3 ∷ 4 ∷ []; blocks = 3074 ∷ 3075 ∷ 3076 ∷ [] }))
+    × (pullRun card volume name 2 ≡ ran (stop 3) (record { nodes = 3 ∷ 4 ∷ []; blocks = 3074 ∷ 3075 ∷ 3076 ∷ [] }))
     × (pullRun card volume missing 0 ≡ ran (stop 2) (record { nodes = 3 ∷ []; blocks = 3074 ∷ 3075 ∷ [] }))
 unfolding
     blocks pack journal natBlock rootInode fileInode dentryBlock filled bytesOf
@@ -44,4 +45,4 @@ unfolding
     bucketsOf blocksOf firstOf bucketOf wellFormed matches slotAt slotsFrom
     fetchWalk afterBlock bucketWalk levelsWalk findWalk
     atFile fileWalk atRoot rootWalk pullWalk pullRun
-walks = (refl, refl, refl)
+walks = (refl, refl, refl, refl)

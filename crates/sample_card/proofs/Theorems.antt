@@ -51,17 +51,22 @@ module _ (lent : Lent) (fits : lentInShape lent ≡ true) where
       call-opens image n index lent (Opened volume) (call-in-shape image n index lent image-shape p fits) some-card-opens
       ∙ ap (λ (c : Card). written (pullRun c volume n index) lent) image-card ∙ ap (λ (q : Ran (Outcome Block)). written q lent) e
 
-  -- the file's seven bytes and zeros behind them; nodes 3 and 4 were looked up, and four blocks of the main area read
-  pub a-pull-answers-0 : pulled image name 0 lent ≡ leaves 0 7 (content ++ replicate 4089 0) (3 ∷ 4 ∷ []) (3074 ∷ 3075 ∷ 3076 ∷ 3077 ∷ []) lent
+  -- 0, "data": the seven bytes of the file's block 1, and zeros; nodes 3 and 4 were looked up, and four blocks of the main area read
+  pub a-pull-answers-0 : pulled image name 1 lent ≡ leaves 0 7 (content ++ replicate 4089 0) (3 ∷ 4 ∷ []) (3074 ∷ 3075 ∷ 3076 ∷ 3077 ∷ []) lent
   unfolding nameBytes dataBlock filled
-  a-pull-answers-0 = walked name 0 _ refl (walks .0)
+  a-pull-answers-0 = walked name 1 _ refl (walks .0)
 
-  -- 3, "index past the end"
-  pub past-the-end-answers-3 : pulled image name 1 lent ≡ leaves 3 0 (lent .block) (3 ∷ 4 ∷ []) (3074 ∷ 3075 ∷ 3076 ∷ []) lent
+  -- 1, "hole"
+  pub a-hole-answers-1 : pulled image name 0 lent ≡ leaves 1 4096 (replicate 4096 0) (3 ∷ 4 ∷ []) (3074 ∷ 3075 ∷ 3076 ∷ []) lent
   unfolding nameBytes
-  past-the-end-answers-3 = walked name 1 _ refl (walks .1)
+  a-hole-answers-1 = walked name 0 _ refl (walks .1)
 
   -- 2, "no such name"
   pub no-such-name-answers-2 : pulled image missing 0 lent ≡ leaves 2 0 (lent .block) (3 ∷ []) (3074 ∷ 3075 ∷ []) lent
   unfolding nameBytes
-  no-such-name-answers-2 = walked missing 0 _ refl (walks .2)
+  no-such-name-answers-2 = walked missing 0 _ refl (walks .3)
+
+  -- 3, "past the end"
+  pub past-the-end-answers-3 : pulled image name 2 lent ≡ leaves 3 0 (lent .block) (3 ∷ 4 ∷ []) (3074 ∷ 3075 ∷ 3076 ∷ []) lent
+  unfolding nameBytes
+  past-the-end-answers-3 = walked name 2 _ refl (walks .2)

@@ -1,5 +1,5 @@
--- One small card, written out: 3,586 blocks, of which ten hold something. Its root directory has one file, "brake.log", of seven
--- bytes. Offsets are document 01's.
+-- One small card, written out: 3,586 blocks, of which ten hold something. Its root directory has one file, "brake.log", of 4,103
+-- bytes: a hole, and seven bytes in its block 1. Offsets are document 01's.
 use Prim.Native.Nat.{ℕ, _+_, _-_}
 use mathlib.Core.List.{List, [], _∷_, _++_}
 use lib.ListN.{length, getD, replicate}
@@ -76,17 +76,17 @@ journal = filled 0 (at 0 (1 ∷ 0 ∷ []) ∷ numbersAt 2 (3 ∷ []) ∷ numbers
 unfoldable pub natBlock : List ℕ
 natBlock = filled 0 (numbersAt 37 (4 ∷ 3076 ∷ []) ∷ [])
 
--- an inode: mode, size, depth, the address of its one block, and the footer
-abbrev pub inode : List ℕ → ℕ → ℕ → ℕ → ℕ → List ℕ
-inode mode size depth address number =
+-- an inode: mode, size, depth, the addresses of its blocks, and the footer
+abbrev pub inode : List ℕ → ℕ → ℕ → List ℕ → ℕ → List ℕ
+inode mode size depth addresses number =
     filled 0
-    (at 0 mode ∷ numbersAt 16 (size ∷ 0 ∷ []) ∷ numbersAt 72 (depth ∷ []) ∷ numbersAt 360 (address ∷ []) ∷ numbersAt 4072 (number ∷ number ∷ 0 ∷ []) ∷ [])
+    (at 0 mode ∷ numbersAt 16 (size ∷ 0 ∷ []) ∷ numbersAt 72 (depth ∷ []) ∷ numbersAt 360 addresses ∷ numbersAt 4072 (number ∷ number ∷ 0 ∷ []) ∷ [])
 
 unfoldable pub rootInode : List ℕ
-rootInode = inode (0xED ∷ 0x41 ∷ []) 4096 1 3075 3
+rootInode = inode (0xED ∷ 0x41 ∷ []) 4096 1 (3075 ∷ []) 3
 
 unfoldable pub fileInode : List ℕ
-fileInode = inode (0xA4 ∷ 0x81 ∷ []) 7 0 3077 4
+fileInode = inode (0xA4 ∷ 0x81 ∷ []) 4103 0 (0 ∷ 3077 ∷ []) 4
 
 -- a directory entry: hash, inode number, the name's length, type
 abbrev pub entry : ℕ → ℕ → ℕ → ℕ → List ℕ
@@ -103,7 +103,7 @@ dentryBlock =
     ∷ at 2400 name
     ∷ [])
 
--- behind the file's seven bytes stands one that isn't the file's
+-- the file's block 1: behind its seven bytes stands one that isn't the file's
 unfoldable pub dataBlock : List ℕ
 dataBlock = filled 0 (at 0 content ∷ at 7 (0xFF ∷ []) ∷ [])
 
