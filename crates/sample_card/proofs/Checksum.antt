@@ -8,7 +8,7 @@ use lib.ListN.{take, drop, replicate}
 use Rattle.crc32.specs.Checksum.{start, crcBit, crcBits, crcFrom, checksumOf}
 use Rattle.crc32.proofs.Turns.{group-turn}
 use Rattle.walk.specs.Lists.{bytesOf}
-use Rattle.sample_card.specs.Image.{filled, pack}
+use Rattle.sample_card.specs.Image.{filled, checksum, pack}
 use Rattle.sample_card.proofs.ZeroRuns.{top, product, squared, from-zeros, by-product, by-squares}
 
 head-sum : crcFrom start (take 172 (take 4092 pack)) ≡ 3364409485
@@ -20,11 +20,11 @@ unfolding pack filled bytesOf
 tail = refl
 
 -- 3,920 bytes are 245 × 2 ^ 7 steps
-tail-sum : product 32 (squared 7 (crcBits 245 top)) 3364409485 ≡ 3931937229
+tail-sum : product 32 (squared 7 (crcBits 245 top)) 3364409485 ≡ checksum
 unfolding crcBit crcBits product squared
 tail-sum = refl
 
-pub pack-sum : checksumOf (take 4092 pack) ≡ 3931937229
+pub pack-sum : checksumOf (take 4092 pack) ≡ checksum
 pack-sum =
     group-turn 172 start 0 (take 4092 pack)
     ∙ ap₂ crcFrom head-sum tail

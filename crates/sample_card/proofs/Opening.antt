@@ -13,7 +13,7 @@ use Rattle.checkpoint.specs.Pack.{blockPasses, packPasses, chosen}
 use Rattle.checkpoint.specs.Journal.{journalIn, journalPlaced, journalAt}
 use Rattle.checkpoint.specs.Volume.{mapsReadable, journalReadable, openPack, opened}
 use Rattle.walk.specs.Lists.{bytesOf}
-use Rattle.sample_card.specs.Image.{filled, zeros, superblock, pack, journal, blocks, card}
+use Rattle.sample_card.specs.Image.{filled, zeros, superblock, checksum, pack, journal, blocks, card}
 use Rattle.sample_card.specs.Volume.{areas, volume}
 use Rattle.sample_card.proofs.Checksum.{pack-sum}
 
@@ -24,7 +24,7 @@ areas-found = refl
 -- ---- the packs
 
 -- version, total, the checksum's offset, and the checksum as it is stored
-pack-numbers : (le64 pack 0 ≡ 1) × (le32 pack 136 ≡ 3) × (le32 pack 164 ≡ 4092) × (le32 pack 4092 ≡ 3931937229)
+pack-numbers : (le64 pack 0 ≡ 1) × (le32 pack 136 ≡ 3) × (le32 pack 164 ≡ 4092) × (le32 pack 4092 ≡ checksum)
 unfolding pack filled bytesOf le16 le32 le64
 pack-numbers = (refl, refl, refl, refl)
 

@@ -57,6 +57,10 @@ superblock =
     ∷ numbersAt 1120 (3 ∷ 1 ∷ 2 ∷ [])
     ∷ [])
 
+-- the checksum that the pack's blocks hold
+abbrev pub checksum : ℕ
+checksum = 3931937229
+
 -- first and last block of the checkpoint pack: version 1; flags unmount and compact, three blocks, summaries in block 1; the sizes of
 -- the two maps, whose bits are all 0, and the checksum's offset; the checksum
 unfoldable pub pack : List ℕ
@@ -65,7 +69,7 @@ pack =
     (numbersAt 0 (1 ∷ 0 ∷ [])
     ∷ numbersAt 132 (5 ∷ 3 ∷ 1 ∷ [])
     ∷ numbersAt 156 (64 ∷ 64 ∷ 4092 ∷ [])
-    ∷ numbersAt 4092 (3931937229 ∷ [])
+    ∷ numbersAt 4092 (checksum ∷ [])
     ∷ [])
 
 -- the NAT journal has one entry: the root, inode 3, is at block 3074
