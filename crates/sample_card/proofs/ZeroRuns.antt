@@ -56,6 +56,7 @@ unfoldable pub product : ℕ → ℕ → ℕ → ℕ
 product zero t c = 0
 product (suc k) t c = bitXor (c / 2 ^ k % 2 * t) (crcBit (product k t c))
 
+-- For `by-product`: what the product is, of the k lowest digits.
 product-is : (n m c k j : ℕ) → j + k ≡ suc m → product k (crcBits n (2 ^ m)) c ≡ crcBits n (c % 2 ^ k * 2 ^ j)
 unfolding product
 product-is n m c zero j h = rw (mod-one c, zero-mul (2 ^ j)) (sym (nothing n))
@@ -83,7 +84,7 @@ bits-below (suc n) c h = bits-below n (crcBit c) (bit-below c h)
 pub by-product : (n c : ℕ) → c < 2 ^ 32 → crcBits n c ≡ product 32 (crcBits n top) c
 by-product n c h = sym (product-is n 31 c 32 0 refl ∙ ap (crcBits n) (mul-one (c % 2 ^ 32) ∙ mod-eq-of-lt h))
 
--- ---- squaring
+-- ---- squaring: each turn doubles the count of the steps
 unfoldable pub squared : ℕ → ℕ → ℕ
 squared zero t = t
 squared (suc k) t = squared k (product 32 t t)

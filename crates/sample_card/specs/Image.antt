@@ -86,9 +86,11 @@ inode mode size depth addresses number =
     filled 0
     (at 0 mode ∷ numbersAt 16 (size ∷ 0 ∷ []) ∷ numbersAt 72 (depth ∷ []) ∷ numbersAt 360 addresses ∷ numbersAt 4072 (number ∷ number ∷ 0 ∷ []) ∷ [])
 
+-- a directory of depth 1, with its block at 3075
 unfoldable pub rootInode : List ℕ
 rootInode = inode (0xED ∷ 0x41 ∷ []) 4096 1 (3075 ∷ []) 3
 
+-- a regular file; its block 0 is a hole, its block 1 is at 3077
 unfoldable pub fileInode : List ℕ
 fileInode = inode (0xA4 ∷ 0x81 ∷ []) 4103 0 (0 ∷ 3077 ∷ []) 4
 
