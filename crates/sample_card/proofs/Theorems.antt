@@ -6,11 +6,10 @@ use mathlib.Core.Path.{_≡_, refl, ap, _∙_}
 use mathlib.Core.Bool.{true}
 use mathlib.Core.List.{List, [], _∷_, _++_}
 use lib.ListN.{length, replicate}
-use Rattle.field.specs.Card.{Card, cardOf}
+use Rattle.field.specs.Card.{Card}
 use Rattle.checkpoint.specs.declared.Opening.the-variants.{Opened}
 use Rattle.checkpoint.specs.Volume.{opened, openedImage}
 use Rattle.name_hash.specs.Name.{nameBytes, isName}
-use Rattle.nat.specs.Table.{tableAnswer}
 use Rattle.nat.specs.Lookup.{answered, lookupOf}
 use Rattle.walk.specs.Lists.{over}
 use Rattle.walk.specs.Walk.{Ran, Outcome}

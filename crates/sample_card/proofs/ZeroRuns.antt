@@ -22,7 +22,7 @@ from-zeros (suc n) c =
 
 -- ---- steps of one digit
 
--- For `product-is`: one step before or after the others.
+-- For `one-more`: one step before or after the others.
 swap : (n x : ℕ) → crcBit (crcBits n x) ≡ crcBits n (crcBit x)
 unfolding crcBits
 swap zero x = refl
@@ -40,10 +40,12 @@ digit n zero x h = rw (zero-mul (crcBits n x), zero-mul x) (sym (nothing n))
 digit n (suc zero) x h = rw (one-mul (crcBits n x), one-mul x) refl
 digit n (suc (suc b)) x h = absurd (omega arith)
 
--- For `product-is`: one step of a value whose lowest digit is 0.
-halved : (r j : ℕ) → crcBit (r * 2 ^ suc j) ≡ r * 2 ^ j
+-- For `product-is`: one more step, where the lowest digit was 0 at first.
+one-more : (n r j : ℕ) → crcBit (crcBits n (r * 2 ^ suc j)) ≡ crcBits n (r * 2 ^ j)
 unfolding crcBits
-halved r j = ap crcBit (ap (λ (x : ℕ). r * x) (pow-suc 2 j) ∙ sym (mul-assoc r (2 ^ j) 2)) ∙ bits-shifted 1 (r * 2 ^ j)
+one-more n r j =
+    let e : r * 2 ^ suc j ≡ r * 2 ^ j * 2 = rw (pow-suc 2 j, mul-assoc) in
+    rw e (swap n (r * 2 ^ j * 2) ∙ ap (crcBits n) (bits-shifted 1 (r * 2 ^ j)))
 
 -- ---- the steps of a value as a product
 
@@ -68,7 +70,7 @@ product-is n m c (suc k) j h =
     let small : r * 2 ^ j < 2 ^ m = rw e (shl-lt k j (mod-lt c (pow-pos k))) in
     let apart : c % 2 ^ suc k * 2 ^ j ≡ b * 2 ^ m + r * 2 ^ j = rw (e, q, mod-pow-add c 1 k, add-mul, mul-assoc, pow-add) in
     ap₂ bitXor (digit n b (2 ^ m) (mod-lt (c / 2 ^ k) (lit< tt)))
-    (ap crcBit (product-is n m c k (suc j) (omega arith)) ∙ swap n (r * 2 ^ suc j) ∙ ap (crcBits n) (halved r j))
+    (ap crcBit (product-is n m c k (suc j) (omega arith)) ∙ one-more n r j)
     ∙ sym (bits-xor n (b * 2 ^ m) (r * 2 ^ j)) ∙ ap (crcBits n) (xor-shifted b m (r * 2 ^ j) small ∙ sym apart)
 
 -- For `by-product`: steps keep to 32 digits.
