@@ -1,0 +1,6 @@
+mod Joined
+mod ZeroRuns
+mod Checksum
+mod Opening
+mod Pulling
+pub mod Theorems

@@ -1,0 +1,48 @@
+-- What the definitions compute of the card once it is open: table answers, and the walks of four pulls.
+-- Assumes nothing.
+use mathlib.Core.Path.{_≡_, refl}
+use mathlib.Core.List.{[], _∷_}
+use Rattle.field.specs.Number.{le16, le32, le64}
+use Rattle.field.specs.Map.{topBit, lowBit}
+use Rattle.field.specs.Bytes.{sameAt}
+use Rattle.name_hash.specs.Hash.{halfRound, round, rounds, tea, pushAll, keyOf, absorb, hashOf}
+use Rattle.place.specs.Place.{placeOf}
+use Rattle.nat.specs.declared.TableAnswer.the-variants.{Entry}
+use Rattle.nat.specs.Entry.{entriesFrom, inJournal}
+use Rattle.nat.specs.Table.{inRange, tableAddress, inTable, tableAnswer}
+use Rattle.inode.specs.Inode.{inodeOf, notInline, isDirectory, isRegular, addressesIn, isPast, countIn}
+use Rattle.walk.specs.Lists.{bytesOf, insert}
+use Rattle.walk.specs.Walk.{ran, run, bind, ok, stop, onward, andThen}
+use Rattle.node.specs.Node.{inMain, belongs, atBlock, atEntry, nodeWalk}
+use Rattle.node.specs.Block.{hole, held, isHole, dataWalk, wayWalk, blockWalk}
+use Rattle.directory.specs.Level.{bucketsOf, blocksOf, firstOf, bucketOf}
+use Rattle.directory.specs.Slot.{wellFormed, matches, slotAt, slotsFrom}
+use Rattle.directory.specs.Find.{fetchWalk, afterBlock, bucketWalk, levelsWalk, findWalk}
+use Rattle.pull.specs.Walk.{atFile, fileWalk, atRoot, rootWalk, pullWalk}
+use Rattle.pull.specs.Pull.{pullRun}
+use Rattle.sample_card.specs.Image.{filled, name, missing, pack, journal, natBlock, rootInode, fileInode, dentryBlock, dataBlock, blocks, card}
+use Rattle.sample_card.specs.Volume.{volume}
+
+-- the root's from the journal, the file's from the table
+pub entries : (tableAnswer card volume 3 ≡ Entry 3 3074) × (tableAnswer card volume 4 ≡ Entry 4 3076)
+unfolding blocks pack journal natBlock filled bytesOf le16 le32 topBit entriesFrom inJournal inRange tableAddress inTable tableAnswer
+entries = (refl, refl)
+
+-- block 1 of the file; its block 0, a hole; block 2, past its end; a name that isn't there
+pub walks :
+    (pullRun card volume name 1 ≡ ran (ok (record { count = 7; content = held dataBlock })) (record { nodes = 3 ∷ 4 ∷ []; blocks = 3074 ∷ 3075 ∷ 3076 ∷ 3077 ∷ [] }))
+    × (pullRun card volume name 0 ≡ ran (ok (record { count = 4096; content = hole })) (record { nodes = 3 ∷ 4 ∷ []; blocks = 3074 ∷ 3075 ∷ 3076 ∷ [] }))
+    × (pullRun card volume name 2 ≡ ran (stop 3) (record { nodes = 3 ∷ 4 ∷ []; blocks = 3074 ∷ 3075 ∷ 3076 ∷ [] }))
+    × (pullRun card volume missing 0 ≡ ran (stop 2) (record { nodes = 3 ∷ []; blocks = 3074 ∷ 3075 ∷ [] }))
+unfolding
+    blocks pack journal natBlock rootInode fileInode dentryBlock filled bytesOf
+    le16 le32 le64 topBit lowBit sameAt
+    halfRound round rounds tea pushAll keyOf absorb hashOf
+    placeOf entriesFrom inJournal inRange tableAddress inTable tableAnswer
+    inodeOf notInline isDirectory isRegular addressesIn isPast countIn
+    insert run bind onward andThen
+    inMain belongs atBlock atEntry nodeWalk isHole dataWalk wayWalk blockWalk
+    bucketsOf blocksOf firstOf bucketOf wellFormed matches slotAt slotsFrom
+    fetchWalk afterBlock bucketWalk levelsWalk findWalk
+    atFile fileWalk atRoot rootWalk pullWalk pullRun
+walks = (refl, refl, refl, refl)

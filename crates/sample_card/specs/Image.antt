@@ -1,0 +1,141 @@
+-- One small card, written out: 3,586 blocks, of which ten hold something. Its root directory has one file, "brake.log", of 4,103
+-- bytes: a hole, and seven bytes in its block 1. Offsets are document 01's.
+use Prim.Native.Nat.{ℕ, _+_, _-_}
+use mathlib.Core.List.{List, [], _∷_, _++_}
+use lib.ListN.{length, getD, replicate}
+use Rattle.field.specs.Card.{Card}
+use Rattle.walk.specs.Lists.{bytesOf}
+
+-- ---- a block from its parts
+
+-- bytes that stand at an offset of a block
+pub record Part : Type 0 where
+  pub offset : ℕ
+  pub bytes : List ℕ
+
+abbrev pub at : ℕ → List ℕ → Part
+at offset bytes = record { offset = offset; bytes = bytes }
+
+-- 32-bit numbers from an offset on
+abbrev pub numbersAt : ℕ → List ℕ → Part
+numbersAt offset numbers = at offset (bytesOf numbers)
+
+-- a block from a byte on: parts in rising order, and zeros between and behind them
+unfoldable pub filled : ℕ → List Part → List ℕ
+filled from [] = replicate (4096 - from) 0
+filled from (p ∷ ps) = replicate (p .offset - from) 0 ++ (p .bytes ++ filled (p .offset + length (p .bytes)) ps)
+
+unfoldable pub zeros : List ℕ
+zeros = replicate 4096 0
+
+-- ---- names and content
+
+-- "brake.log"
+abbrev pub name : List ℕ
+name = 98 ∷ 114 ∷ 97 ∷ 107 ∷ 101 ∷ 46 ∷ 108 ∷ 111 ∷ 103 ∷ []
+
+-- "brake", which the card doesn't have
+abbrev pub missing : List ℕ
+missing = 98 ∷ 114 ∷ 97 ∷ 107 ∷ 101 ∷ []
+
+-- "42 bar" and a line feed
+abbrev pub content : List ℕ
+content = 52 ∷ 50 ∷ 32 ∷ 98 ∷ 97 ∷ 114 ∷ 10 ∷ []
+
+-- ---- the blocks
+
+-- the mark; logs and units; the block count; segment counts (7: checkpoint 2, SIT 2, NAT 2, SSA 0, main 1); where segment 0 and the
+-- five areas start; the three inode numbers
+unfoldable pub superblock : List ℕ
+superblock =
+    filled 0
+    (at 1024 (0x10 ∷ 0x20 ∷ 0xF5 ∷ 0xF2 ∷ [])
+    ∷ numbersAt 1032 (9 ∷ 3 ∷ 12 ∷ 9 ∷ 1 ∷ 1 ∷ [])
+    ∷ numbersAt 1060 (3586 ∷ 0 ∷ [])
+    ∷ numbersAt 1072 (7 ∷ 2 ∷ 2 ∷ 2 ∷ 0 ∷ 1 ∷ [])
+    ∷ numbersAt 1096 (2 ∷ 2 ∷ 1026 ∷ 2050 ∷ 3074 ∷ 3074 ∷ [])
+    ∷ numbersAt 1120 (3 ∷ 1 ∷ 2 ∷ [])
+    ∷ [])
+
+-- the checksum that the pack's blocks hold
+abbrev pub checksum : ℕ
+checksum = 3931937229
+
+-- first and last block of the checkpoint pack: version 1; flags unmount and compact, three blocks, summaries in block 1; the sizes of
+-- the two maps, whose bits are all 0, and the checksum's offset; the checksum
+unfoldable pub pack : List ℕ
+pack =
+    filled 0
+    (numbersAt 0 (1 ∷ 0 ∷ [])
+    ∷ numbersAt 132 (5 ∷ 3 ∷ 1 ∷ [])
+    ∷ numbersAt 156 (64 ∷ 64 ∷ 4092 ∷ [])
+    ∷ numbersAt 4092 (checksum ∷ [])
+    ∷ [])
+
+-- the NAT journal has one entry: the root, inode 3, is at block 3074
+unfoldable pub journal : List ℕ
+journal = filled 0 (at 0 (1 ∷ 0 ∷ []) ∷ numbersAt 2 (3 ∷ []) ∷ numbersAt 7 (3 ∷ 3074 ∷ []) ∷ [])
+
+-- the first block of the NAT has one more: the file, inode 4, is at block 3076
+unfoldable pub natBlock : List ℕ
+natBlock = filled 0 (numbersAt 37 (4 ∷ 3076 ∷ []) ∷ [])
+
+-- an inode: mode, size, depth, the addresses of its blocks, and the footer
+abbrev pub inode : List ℕ → ℕ → ℕ → List ℕ → ℕ → List ℕ
+inode mode size depth addresses number =
+    filled 0
+    (at 0 mode ∷ numbersAt 16 (size ∷ 0 ∷ []) ∷ numbersAt 72 (depth ∷ []) ∷ numbersAt 360 addresses ∷ numbersAt 4072 (number ∷ number ∷ 0 ∷ []) ∷ [])
+
+-- a directory of depth 1, with its block at 3075
+unfoldable pub rootInode : List ℕ
+rootInode = inode (0xED ∷ 0x41 ∷ []) 4096 1 (3075 ∷ []) 3
+
+-- a regular file; its block 0 is a hole, its block 1 is at 3077
+unfoldable pub fileInode : List ℕ
+fileInode = inode (0xA4 ∷ 0x81 ∷ []) 4103 0 (0 ∷ 3077 ∷ []) 4
+
+-- a directory entry: hash, inode number, the name's length, type
+abbrev pub entry : ℕ → ℕ → ℕ → ℕ → List ℕ
+entry hash ino long type = bytesOf (hash ∷ ino ∷ []) ++ (long ∷ 0 ∷ type ∷ [])
+
+-- the root's one block: "." and ".." in slots 0 and 1, "brake.log" in slots 2 and 3
+unfoldable pub dentryBlock : List ℕ
+dentryBlock =
+    filled 0
+    (at 0 (0xF ∷ [])
+    ∷ at 30 (entry 0 3 1 2 ++ (entry 0 3 2 2 ++ entry 3025346403 4 9 1))
+    ∷ at 2384 (46 ∷ [])
+    ∷ at 2392 (46 ∷ 46 ∷ [])
+    ∷ at 2400 name
+    ∷ [])
+
+-- the file's block 1: behind its seven bytes stands one that isn't the file's
+unfoldable pub dataBlock : List ℕ
+dataBlock = filled 0 (at 0 content ∷ at 7 (0xFF ∷ []) ∷ [])
+
+-- ---- the card
+
+-- the main area: blocks 3074 to 3585
+abbrev pub mainArea : List (List ℕ)
+mainArea = rootInode ∷ dentryBlock ∷ fileInode ∷ dataBlock ∷ replicate 508 zeros
+
+-- from the NAT on, block 2050
+abbrev pub fromNat : List (List ℕ)
+fromNat = natBlock ∷ (replicate 1023 zeros ++ mainArea)
+
+-- all blocks in order: both copies of the superblock, the checkpoint pack from block 2 on, and the rest
+unfoldable pub blocks : List (List ℕ)
+blocks = superblock ∷ superblock ∷ pack ∷ journal ∷ pack ∷ (replicate 2045 zeros ++ fromNat)
+
+-- one block behind the other
+unfoldable pub joined : List (List ℕ) → List ℕ
+joined [] = []
+joined (b ∷ bs) = b ++ joined bs
+
+-- the card's bytes
+unfoldable pub image : List ℕ
+image = joined blocks
+
+-- the same by its blocks
+abbrev pub card : Card
+card = record { blocks = 3586; block = λ b. getD blocks b [] }

@@ -1,0 +1,22 @@
+-- What opening finds on the card.
+use Rattle.superblock.specs.declared.Areas.{Areas}
+use Rattle.checkpoint.specs.declared.Volume.{Volume}
+
+abbrev pub areas : Areas
+areas =
+    record {
+      checkpoint = 2;
+      sit = 1026;
+      «sit_segments» = 2;
+      nat = 2050;
+      «nat_segments» = 2;
+      ssa = 3074;
+      «ssa_segments» = 0;
+      main = 3074;
+      «main_segments» = 1;
+      «main_end» = 3586;
+    }
+
+-- compact: the journal is at byte 0 of block 1 of the pack; the NAT map stands behind the SIT map's 64 bytes
+abbrev pub volume : Volume
+volume = record { areas = areas; pack = 2; total = 3; flags = 5; «nat_map» = 256; «journal_block» = 3; «journal_at» = 0 }
