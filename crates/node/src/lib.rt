@@ -1,9 +1,8 @@
 // A node of a file, and the data block of an index of a file.
 // What each means is in specs/: Node, Block, Found.
 ghost use mathlib.Core.Path.{_≡_};
-ghost use Prim.Native.Nat.{_+_, _<_, _≤_};
-ghost use lib.ListN.{take, drop};
-ghost use Rattle.field.specs.Number.{le32};
+ghost use Prim.Native.Nat.{_<_, _≤_};
+ghost use lib.ListN.{length, take, drop};
 ghost use Rattle.field.specs.Card.{cardOf};
 ghost use Rattle.checkpoint.specs.Volume.{VolumeIn};
 ghost use Rattle.walk.specs.Walk.{viewOf, lent, Walked, Room};
@@ -73,19 +72,11 @@ pub fn in_main(v: checkpoint::Volume, address: u32) -> bool
     (areas.main <= address) & (address < areas.main_end)
 }
 
-// Whether the block at an address ends with the numbers of the node that is asked for.
-fn belongs_at(
-    image: &[u8],
-    address: u32,
-    number: u32,
-    ino: u32,
-    place: u32,
-    table_inode: u32,
-) -> bool
-    requires { ⌜ address < cardOf (now image) .blocks ⌝ }
-    ensures { λ r. ⌜ r ≡ belongs number ino place «table_inode» (cardOf (now (image .entry)) .block address) ⌝ }
+// Whether a block ends with the numbers of the node that is asked for.
+pub fn belongs(block: &[u8], number: u32, ino: u32, place: u32, table_inode: u32) -> bool
+    requires { ⌜ length (now block) ≡ 4096 ⌝ }
+    ensures { λ r. ⌜ r ≡ belongs number ino place «table_inode» (now (block .entry)) ⌝ }
 {
-    let block = field::block_at(image, address);
     let own = field::get32(block, 4072);
     let file = field::get32(block, 4076);
     let flag = field::get32(block, 4080);
@@ -123,7 +114,8 @@ pub fn node_step(
         return node_came(Found::Stop(10), looked, bc);
     }
     let read = walk::insert(blocks, bc, address);
-    if !belongs_at(image, address, number, ino, place, table_inode) {
+    let block = field::block_at(image, address);
+    if !belongs(block, number, ino, place, table_inode) {
         return node_came(Found::Stop(11), looked, read);
     }
     node_came(Found::At(address), looked, read)
@@ -163,14 +155,6 @@ fn data_at(
     data_came(Data::At(address), nc, read)
 }
 
-// The number at a byte of the block at an address.
-fn number_at(image: &[u8], address: u32, at: usize) -> u32
-    requires { ⌜ (address < cardOf (now image) .blocks) × (at + 4 ≤ 4096) ⌝ }
-    ensures { λ r. ⌜ r ≡ le32 (cardOf (now (image .entry)) .block address) at ⌝ }
-{
-    field::get32(field::block_at(image, address), at)
-}
-
 // From the number in the inode through the nodes that follow it on the way, to the data block.
 fn follow(
     image: &[u8],
@@ -208,7 +192,9 @@ fn follow(
         let found = came.found;
         next = match found {
             Found::Stop(answer) => return data_came(Data::Stop(answer), nn, bb),
-            Found::At(address) => number_at(image, address, 4 * (step.slot as usize)),
+            Found::At(address) => {
+                field::get32(field::block_at(image, address), 4 * (step.slot as usize))
+            }
         };
         i += 1;
     }
@@ -242,10 +228,11 @@ pub fn data_block(
     let steps = way.steps;
     let first = steps[0];
     let slot = first.slot as usize;
+    let inode = field::block_at(image, file.inode);
     if way.length == 1 {
-        let address = number_at(image, file.inode, 360 + 4 * slot);
+        let address = field::get32(inode, 360 + 4 * slot);
         return data_at(image, v, nodes, blocks, nc, bc, address);
     }
-    let number = number_at(image, file.inode, 4052 + 4 * slot);
+    let number = field::get32(inode, 4052 + 4 * slot);
     follow(image, v, nodes, blocks, nc, bc, file.ino, number, way)
 }
