@@ -159,24 +159,24 @@ fn follow(
 {
     let steps = way.steps;
     let length = way.length as usize;
-    let mut here = counts;
+    let mut listed = counts;
     let mut next = number;
     let mut i: usize = 1;
     while i < length {
         if next == 0 {
-            return DataStep { data: Data::Hole, counts: here };
+            return DataStep { data: Data::Hole, counts: listed };
         }
         let step = steps[i];
-        let came = node_step(image, v, nodes, blocks, here, next, ino, step.number);
-        here = came.counts;
+        let came = node_step(image, v, nodes, blocks, listed, next, ino, step.number);
+        listed = came.counts;
         let found = came.found;
         next = match found {
-            Found::Stop(answer) => return DataStep { data: Data::Stop(answer), counts: here },
+            Found::Stop(answer) => return DataStep { data: Data::Stop(answer), counts: listed },
             Found::At(address) => field::get32(field::block_at(image, address), 4 * (step.slot as usize)),
         };
         i += 1;
     }
-    data_at(image, v, nodes, blocks, here, next)
+    data_at(image, v, nodes, blocks, listed, next)
 }
 
 // The data block of an index of a file.
