@@ -4,11 +4,12 @@ use mathlib.Core.Bool.{true}
 use mathlib.Core.List.{List}
 use borrow.Author.Tests.{not-true, not-false}
 use Rattle.field.specs.Card.{cardOf}
+use Rattle.field.proofs.Blocks.{length-of-block}
 use Rattle.nat.specs.declared.TableAnswer.{TableAnswer}
 use Rattle.nat.specs.declared.TableAnswer.the-variants.{Entry}
 use Rattle.walk.specs.Walk.{viewOf, Walk, Outcome, Lent, lent}
 use Rattle.walk.proofs.Reached.{Reached, reached-start, reached-to, reached-look, reached-read, reached-done}
-use Rattle.node.specs.Node.{boundsOf, inMain, nodeWalk, atEntry, atBlock}
+use Rattle.node.specs.Node.{boundsOf, inMain, belongs, nodeWalk, atEntry, atBlock}
 use Rattle.node.proofs.Cases.{node-look, entry-range, entry-zero, entry-outside, entry-inside, block-own, block-foreign}
 use Rattle.node.proofs.Sizes.{in-card}
 use borrow.Author.Needs.{needs}
@@ -60,12 +61,18 @@ in-image : (k : tie.Else2) → address-of (entry-at k) < cardOf (started k .args
 in-image k = in-card _ (inside k) (started k .pre .1)
 
 -- the block was listed and read
-block-read : (c : tie.After-belongs-at) → let k = c .before .before .before .before .before in let a = started k .args in
+block-read : (c : tie.After-block-at) → let k = c .before .before .before .before .before in let a = started k .args in
     Here (started k) (atBlock (a .number) (a .ino) (a .place) (inode-of (entry-at k)) (cardOf (a .image .now) .block (address-of (entry-at k))))
     (lent (left-at (entry-at k .before .before) .nodes) (c .before .before .before .insert2 .last .0) (left-at (entry-at k .before .before) .nodeCount) (c .before .before .before .insert2 .result))
 block-read c =
     let k = c .before .before .before .before .before in
     reached-read (reached-to (has (entry-at k)) (entry-inside _ _ _ _ _ _ (k .before .before .if1 .left) (inside k))) (c .before .before .before .insert2 .ensures)
+
+-- whether it belongs is said of the bytes that the card has there
+belongs-there : (k : tie.After-belongs) → let e = k .before .before .before .before .before .before in let a = started e .args in
+    k .belongs .result
+    ≡ belongs (a .number) (a .ino) (a .place) (inode-of (entry-at e)) (cardOf (a .image .now) .block (address-of (entry-at e)))
+belongs-there k = rw (k .before .block-at .ensures) at (k .belongs .ensures)
 
 insert-requires : tie.Need-insert-requires
 insert-requires c κs = search needs
@@ -115,9 +122,11 @@ returns-3 c =
 insert-requires-2 : tie.Need-insert-requires-2
 insert-requires-2 c κs = search needs
 
-belongs-at-requires : tie.Need-belongs-at-requires
-belongs-at-requires c κs =
-    in-image (c .before .before .before .before)
+block-at-requires : tie.Need-block-at-requires
+block-at-requires c κs = in-image (c .before .before .before .before)
+
+belongs-requires : tie.Need-belongs-requires
+belongs-requires c κs = length-of-block _ _ (in-image (c .before .before .before .before .before)) (c .block-at .ensures)
 
 node-came-requires-4 : tie.Need-node-came-requires-4
 node-came-requires-4 c κs = search needs
@@ -130,7 +139,7 @@ same-length-5 c = search needs
 
 returns-4 : tie.Need-returns-4
 returns-4 c =
-    rw (c .node-came4 .ensures) (reached-done (reached-to (block-read (c .before .before)) (block-foreign _ _ _ _ _ (sym (c .before .before .belongs-at .ensures) ∙ not-true _ (c .before .if3 .taken)))), tt)
+    rw (c .node-came4 .ensures) (reached-done (reached-to (block-read (c .before .before .before)) (block-foreign _ _ _ _ _ (sym (belongs-there (c .before .before)) ∙ not-true _ (c .before .if3 .taken)))), tt)
 
 node-came-requires-5 : tie.Need-node-came-requires-5
 node-came-requires-5 c κs = search needs
@@ -143,7 +152,7 @@ same-length-7 c = search needs
 
 returns-5 : tie.Need-returns-5
 returns-5 c =
-    rw (c .node-came5 .ensures) (reached-done (reached-to (block-read (c .before .before)) (block-own _ _ _ _ _ (sym (c .before .before .belongs-at .ensures) ∙ not-false _ (c .before .if3 .left)))), in-image (c .before .before .before .before .before .before .before))
+    rw (c .node-came5 .ensures) (reached-done (reached-to (block-read (c .before .before .before)) (block-own _ _ _ _ _ (sym (belongs-there (c .before .before)) ∙ not-false _ (c .before .if3 .left)))), in-image (c .before .before .before .before .before .before .before .before))
 
 pub node-step-spec : {M : Type 1} → statement M
 node-step-spec =
@@ -164,7 +173,8 @@ node-step-spec =
     same-length-3
     returns-3
     insert-requires-2
-    belongs-at-requires
+    block-at-requires
+    belongs-requires
     node-came-requires-4
     same-length-4
     same-length-5
