@@ -74,7 +74,7 @@ fn block_of(
         (lent (now (nodes .exit)) (now (blocks .exit)) (r .nodes) (r .blocks)) ⌝ }
     ensures { λ r. ⌜ DataIn (cardOf (now (image .entry))) (r .data) × (r .count ≤ 4096) ⌝ }
 {
-    let i = inode::inode_at(image, at);
+    let i = inode::inode_of(field::block_at(image, at));
     if !inode::is_regular(i) {
         return came(node::Data::Stop(12), 0, nc, bc);
     }
@@ -147,7 +147,7 @@ fn find_in(
         (lent (now (nodes .entry)) (now (blocks .entry)) nc bc) (entryOf (r .entry))
         (lent (now (nodes .exit)) (now (blocks .exit)) (r .nodes) (r .blocks)) ⌝ }
 {
-    let i = inode::inode_at(image, at);
+    let i = inode::inode_of(field::block_at(image, at));
     if !inode::is_directory(i) {
         return sought(directory::Entry::Stop(12), nc, bc);
     }
@@ -263,7 +263,7 @@ fn deliver(image: &[u8], data: node::Data, count: usize, buffer: &mut [u8]) -> D
             }
         }
         node::Data::At(at) => {
-            buffer::put_block(image, at, count, buffer);
+            buffer::put_block(field::block_at(image, at), count, buffer);
             Delivered {
                 answer: 0,
                 count: bytes,
