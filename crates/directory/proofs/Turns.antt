@@ -5,7 +5,7 @@ use Prim.Native.Nat.{ℕ, suc, _+_, _-_, _≤_, _<_}
 use native.Mathlib.Omega.{arith}
 use mathlib.Core.Path.{_≡_, refl, sym, ap, subst}
 use mathlib.Core.List.{List}
-use Rattle.walk.specs.Walk.{View, Walk, done, Outcome, ok, stop, andThen, Lent, Walked, Fits}
+use Rattle.walk.specs.Walk.{View, Walk, done, Outcome, ok, stop, andThen, Lists, Walked, Fits}
 use Rattle.walk.proofs.Reached.{Reached, reached-start, reached-to, reached-on, reached-then, reached-stop, reached-done, reached-all}
 use Rattle.walk.proofs.Fits.{fits-at, fits-first}
 use Rattle.node.specs.Block.{Fetched, hole, held}
@@ -20,11 +20,11 @@ levelsLeft d w depth level = levelsWalk d w (depth - level) level
 abbrev pub bucketLeft : Directory → Wanted → ℕ → ℕ → ℕ → Walk (Outcome ℕ)
 bucketLeft d w depth level k = bucketWalk d w level (levelsLeft d w depth (level + 1)) (blocksOf level - k) k
 
-pub record Levels (v : View) (d : Directory) (w : Wanted) (depth : ℕ) (s : Lent) (level first : ℕ) (t : Lent) : Type 0 where
+pub record Levels (v : View) (d : Directory) (w : Wanted) (depth : ℕ) (s : Lists) (level first : ℕ) (t : Lists) : Type 0 where
   pub at : Reached v (findWalk d w depth) s (levelsLeft d w depth level) t
   pub starts : first ≡ firstOf level
 
-pub record Bucket (v : View) (d : Directory) (w : Wanted) (depth level : ℕ) (s : Lent) (k : ℕ) (t : Lent) : Type 0 where
+pub record Bucket (v : View) (d : Directory) (w : Wanted) (depth level : ℕ) (s : Lists) (k : ℕ) (t : Lists) : Type 0 where
   pub at : Reached v (bucketLeft d w depth level 0) s (bucketLeft d w depth level k) t
 
 -- ---- the trees, one step on
@@ -65,16 +65,16 @@ module _ (w : Wanted) (rest : Walk (Outcome ℕ)) where
   after-held block o e = ap (afterSlots rest) e
 
 -- ---- the loop over levels
-pub levels-start : {v : View} {s : Lent} (d : Directory) (w : Wanted) (depth : ℕ) → Levels v d w depth s 0 0 s
+pub levels-start : {v : View} {s : Lists} (d : Directory) (w : Wanted) (depth : ℕ) → Levels v d w depth s 0 0 s
 unfolding findWalk firstOf
 levels-start {v = v} {s = s} d w depth =
     let p : depth - 0 ≡ depth = omega arith in
     record { at = rw p (reached-start v _ s); starts = refl }
 
-pub bucket-start : {v : View} (d : Directory) (w : Wanted) (depth level : ℕ) {s : Lent} → Bucket v d w depth level s 0 s
+pub bucket-start : {v : View} (d : Directory) (w : Wanted) (depth level : ℕ) {s : Lists} → Bucket v d w depth level s 0 s
 bucket-start d w depth level = record { at = reached-start _ _ _ }
 
-module _ {v : View} {d : Directory} {w : Wanted} {depth level first : ℕ} {s t : Lent} (go : Levels v d w depth s level first t) where
+module _ {v : View} {d : Directory} {w : Wanted} {depth level first : ℕ} {s t : Lists} (go : Levels v d w depth s level first t) where
   pub levels-end : depth ≤ level → Walked v (findWalk d w depth) s (stop 2) t
   levels-end h = reached-done (reached-to (go .at) (levels-over d w depth level h))
 
@@ -83,10 +83,10 @@ module _ {v : View} {d : Directory} {w : Wanted} {depth level first : ℕ} {s t 
     at-bucket = reached-to (go .at) (levels-step d w depth level h)
 
     -- out of both loops
-    pub levels-out : {x : Outcome ℕ} {u : Lent} → Walked v (bucketLeft d w depth level 0) t x u → Walked v (findWalk d w depth) s x u
+    pub levels-out : {x : Outcome ℕ} {u : Lists} → Walked v (bucketLeft d w depth level 0) t x u → Walked v (findWalk d w depth) s x u
     levels-out out = reached-all at-bucket out
 
-    module _ {k : ℕ} {u : Lent} (turn : Bucket v d w depth level t k u) where
+    module _ {k : ℕ} {u : Lists} (turn : Bucket v d w depth level t k u) where
       -- the bucket's next block fits, as the search does
       pub block-fits : k < blocksOf level → {i : ℕ} → i ≡ bucketOf level (w .hash) + k → Fits v (findWalk d w depth) s → Fits v (fetchWalk d i) u
       block-fits more e fits =
@@ -98,8 +98,8 @@ module _ {v : View} {d : Directory} {w : Wanted} {depth level first : ℕ} {s t 
       levels-next over e = record { at = reached-to (reached-on at-bucket (turn .at)) (bucket-over d w depth level k over); starts = e }
 
 -- ---- the loop over the blocks of a bucket: block k was fetched
-module _ {v : View} {d : Directory} {w : Wanted} {depth level k : ℕ} {s t : Lent} (turn : Bucket v d w depth level s k t) (more : k < blocksOf level)
-    {i : ℕ} (e : i ≡ bucketOf level (w .hash) + k) {x : Outcome Fetched} {u : Lent} (step : Walked v (fetchWalk d i) t x u) where
+module _ {v : View} {d : Directory} {w : Wanted} {depth level k : ℕ} {s t : Lists} (turn : Bucket v d w depth level s k t) (more : k < blocksOf level)
+    {i : ℕ} (e : i ≡ bucketOf level (w .hash) + k) {x : Outcome Fetched} {u : Lists} (step : Walked v (fetchWalk d i) t x u) where
   abbrev rest : Walk (Outcome ℕ)
   rest = bucketLeft d w depth level (k + 1)
 

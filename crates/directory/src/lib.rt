@@ -6,7 +6,7 @@ ghost use lib.ListN.{length};
 ghost use Rattle.field.specs.Map.{lowBit};
 ghost use Rattle.field.specs.Card.{cardOf};
 ghost use Rattle.checkpoint.specs.Volume.{VolumeIn};
-ghost use Rattle.walk.specs.Walk.{imageView, lent, Walked, Fits};
+ghost use Rattle.walk.specs.Walk.{imageView, lists, Walked, Fits};
 ghost use Rattle.node.specs.Found.{dataOf, DataIn, FileIn};
 ghost use Rattle.directory.specs.Slot.{wanted, slotAt};
 ghost use Rattle.directory.specs.Level.{bucketsOf, blocksOf, firstOf, levelOf};
@@ -118,17 +118,20 @@ fn fetch(
     file: node::File,
     index: usize,
 ) -> node::DataStep
-    requires { ⌜ Fits (imageView (now image) v) (fetchWalk (directoryOf (cardOf (now image)) v file) index) (lent (now nodes) (now blocks) counts) ⌝ }
+    requires { ⌜ Fits (imageView (now image) v) (fetchWalk (directoryOf (cardOf (now image)) v file) index) (lists (now nodes) (now blocks) counts) ⌝ }
     requires { ⌜ VolumeIn (cardOf (now image)) v ⌝ }
     requires { ⌜ FileIn (cardOf (now image)) file ⌝ }
     ensures { λ r. ⌜ Walked (imageView (now (image .entry)) v) (fetchWalk (directoryOf (cardOf (now (image .entry))) v file) index)
-        (lent (now (nodes .entry)) (now (blocks .entry)) counts) (dataOf (cardOf (now (image .entry))) (r .data))
-        (lent (now (nodes .exit)) (now (blocks .exit)) (r .counts)) ⌝ }
+        (lists (now (nodes .entry)) (now (blocks .entry)) counts) (dataOf (cardOf (now (image .entry))) (r .data))
+        (lists (now (nodes .exit)) (now (blocks .exit)) (r .counts)) ⌝ }
     ensures { λ r. ⌜ DataIn (cardOf (now (image .entry))) (r .data) ⌝ }
 {
     let last = file.addresses as usize + 1057052515;
     if last < index {
-        return node::DataStep { data: node::Data::Hole, counts };
+        return node::DataStep {
+            data: node::Data::Hole,
+            counts,
+        };
     }
     node::data_block(image, v, nodes, blocks, counts, file, index as u32)
 }
@@ -147,12 +150,12 @@ pub fn find(
     name: &[u8],
 ) -> EntryStep
     requires { ⌜ Fits (imageView (now image) v) (findWalk (directoryOf (cardOf (now image)) v file) (wanted hash (now name)) depth)
-        (lent (now nodes) (now blocks) counts) ⌝ }
+        (lists (now nodes) (now blocks) counts) ⌝ }
     requires { ⌜ VolumeIn (cardOf (now image)) v ⌝ }
     requires { ⌜ FileIn (cardOf (now image)) file × (depth ≤ 63) ⌝ }
     ensures { λ r. ⌜ Walked (imageView (now (image .entry)) v)
         (findWalk (directoryOf (cardOf (now (image .entry))) v file) (wanted hash (now (name .entry))) depth)
-        (lent (now (nodes .entry)) (now (blocks .entry)) counts) (entryOf (r .entry)) (lent (now (nodes .exit)) (now (blocks .exit)) (r .counts)) ⌝ }
+        (lists (now (nodes .entry)) (now (blocks .entry)) counts) (entryOf (r .entry)) (lists (now (nodes .exit)) (now (blocks .exit)) (r .counts)) ⌝ }
 {
     let mut listed = counts;
     let mut level: usize = 0;
@@ -193,5 +196,8 @@ pub fn find(
         first = here.after;
         level += 1;
     };
-    EntryStep { entry, counts: listed }
+    EntryStep {
+        entry,
+        counts: listed,
+    }
 }

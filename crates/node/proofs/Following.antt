@@ -9,7 +9,7 @@ use lib.Seq.{length-take-le, drop-cons, getD-take}
 use Rattle.field.specs.Number.{le32}
 use Rattle.place.specs.declared.Step.{Step}
 use Rattle.place.specs.Way.{step}
-use Rattle.walk.specs.Walk.{View, Walk, Outcome, ok, stop, andThen, Lent, Walked, Fits}
+use Rattle.walk.specs.Walk.{View, Walk, Outcome, ok, stop, andThen, Lists, Walked, Fits}
 use Rattle.walk.proofs.Reached.{Reached, reached-start, reached-to, reached-then, reached-stop, reached-done, reached-all}
 use Rattle.walk.proofs.Fits.{fits-at, fits-first}
 use Rattle.node.specs.Node.{Bounds, nodeWalk}
@@ -36,12 +36,12 @@ abbrev stepAt : Course → ℕ → Step
 stepAt w i = getD (w .steps) i (step 0 0)
 
 -- the walk has come to the number `next` and to step i
-pub record Following (v : View) (w : Course) (s : Lent) (i next : ℕ) (t : Lent) : Type 0 where
+pub record Following (v : View) (w : Course) (s : Lists) (i next : ℕ) (t : Lists) : Type 0 where
   pub way : WayIn (w .steps) (w .most)
   pub at : Reached v (courseWalk w) s (left w i next) t
   pub from : 1 ≤ i
 
-pub following-start : {v : View} (w : Course) {s : Lent} → WayIn (w .steps) (w .most) → Following v w s 1 (w .number) s
+pub following-start : {v : View} (w : Course) {s : Lists} → WayIn (w .steps) (w .most) → Following v w s 1 (w .number) s
 following-start w way = record { way = way; at = reached-start _ _ _; from = omega arith }
 
 way-over : (steps : List Step) (most i : ℕ) → most ≤ i → drop i (take most steps) ≡ []
@@ -54,7 +54,7 @@ way-step : (steps : List Step) (most i : ℕ) → i < most → most ≤ length s
 way-step steps most i h whole =
     drop-cons (take most steps) i (step 0 0) (rw (length-take-le most steps whole) h) ∙ rw (add-one i, getD-take most steps i (step 0 0) h)
 
-module _ {v : View} {w : Course} {s : Lent} {i next : ℕ} {t : Lent} (go : Following v w s i next t) where
+module _ {v : View} {w : Course} {s : Lists} {i next : ℕ} {t : Lists} (go : Following v w s i next t) where
   -- the way is over, and the number is an address
   module _ (h : w .most ≤ i) where
     at-data : Reached v (courseWalk w) s (dataWalk (w .bounds) next) t
@@ -65,7 +65,7 @@ module _ {v : View} {w : Course} {s : Lent} {i next : ℕ} {t : Lent} (go : Foll
     pub following-last : Fits v (courseWalk w) s → Fits v (dataWalk (w .bounds) next) t
     following-last fits = fits-at fits at-data
 
-    pub following-end : {x : Outcome Fetched} {u : Lent} → Walked v (dataWalk (w .bounds) next) t x u → Walked v (courseWalk w) s x u
+    pub following-end : {x : Outcome Fetched} {u : Lists} → Walked v (dataWalk (w .bounds) next) t x u → Walked v (courseWalk w) s x u
     following-end walked = reached-all at-data walked
 
   -- the way goes on
@@ -96,7 +96,7 @@ module _ {v : View} {w : Course} {s : Lent} {i next : ℕ} {t : Lent} (go : Foll
       pub following-fits : Fits v (courseWalk w) s → Fits v (nodeWalk (w .bounds) next (w .ino) (stepAt w i .number)) t
       following-fits fits = fits-first after (fits-at fits at-node)
 
-      module _ {x : Outcome (List ℕ)} {u : Lent} (node : Walked v (nodeWalk (w .bounds) next (w .ino) (stepAt w i .number)) t x u) where
+      module _ {x : Outcome (List ℕ)} {u : Lists} (node : Walked v (nodeWalk (w .bounds) next (w .ino) (stepAt w i .number)) t x u) where
         pub following-stop : {e : ℕ} → x ≡ stop e → Walked v (courseWalk w) s (stop e) u
         following-stop q = reached-stop after at-node node q
 

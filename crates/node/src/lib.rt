@@ -4,7 +4,7 @@ ghost use mathlib.Core.Path.{_≡_};
 ghost use lib.ListN.{length};
 ghost use Rattle.field.specs.Card.{cardOf};
 ghost use Rattle.checkpoint.specs.Volume.{VolumeIn};
-ghost use Rattle.walk.specs.Walk.{imageView, lent, Walked, Fits};
+ghost use Rattle.walk.specs.Walk.{imageView, lists, Walked, Fits};
 ghost use Rattle.node.specs.Node.{boundsOf, inMain, belongs, nodeWalk};
 ghost use Rattle.node.specs.Block.{isHole, dataWalk, followWalk};
 ghost use Rattle.node.specs.Found.{foundOf, FoundIn, dataOf, DataIn, WayIn, afterInode, FileIn, fileBlockWalk};
@@ -70,11 +70,11 @@ pub fn node_step(
     ino: u32,
     place: u32,
 ) -> NodeStep
-    requires { ⌜ Fits (imageView (now image) v) (nodeWalk (boundsOf v) number ino place) (lent (now nodes) (now blocks) counts) ⌝ }
+    requires { ⌜ Fits (imageView (now image) v) (nodeWalk (boundsOf v) number ino place) (lists (now nodes) (now blocks) counts) ⌝ }
     requires { ⌜ VolumeIn (cardOf (now image)) v ⌝ }
     ensures { λ r. ⌜ Walked (imageView (now (image .entry)) v) (nodeWalk (boundsOf v) number ino place)
-        (lent (now (nodes .entry)) (now (blocks .entry)) counts) (foundOf (cardOf (now (image .entry))) (r .found))
-        (lent (now (nodes .exit)) (now (blocks .exit)) (r .counts)) ⌝ }
+        (lists (now (nodes .entry)) (now (blocks .entry)) counts) (foundOf (cardOf (now (image .entry))) (r .found))
+        (lists (now (nodes .exit)) (now (blocks .exit)) (r .counts)) ⌝ }
     ensures { λ r. ⌜ FoundIn (cardOf (now (image .entry))) (r .found) ⌝ }
 {
     let looked = walk::Counts {
@@ -83,13 +83,22 @@ pub fn node_step(
     };
     let entry = nat::table_answer(image, v, number);
     let nat::TableAnswer::Entry(table_inode, address) = entry else {
-        return NodeStep { found: Found::Stop(9), counts: looked };
+        return NodeStep {
+            found: Found::Stop(9),
+            counts: looked,
+        };
     };
     if address == 0 {
-        return NodeStep { found: Found::Stop(9), counts: looked };
+        return NodeStep {
+            found: Found::Stop(9),
+            counts: looked,
+        };
     }
     if !in_main(v, address) {
-        return NodeStep { found: Found::Stop(10), counts: looked };
+        return NodeStep {
+            found: Found::Stop(10),
+            counts: looked,
+        };
     }
     let read = walk::Counts {
         nodes: looked.nodes,
@@ -97,9 +106,15 @@ pub fn node_step(
     };
     let block = field::block_at(image, address);
     if !belongs(block, number, ino, place, table_inode) {
-        return NodeStep { found: Found::Stop(11), counts: read };
+        return NodeStep {
+            found: Found::Stop(11),
+            counts: read,
+        };
     }
-    NodeStep { found: Found::At(address), counts: read }
+    NodeStep {
+        found: Found::At(address),
+        counts: read,
+    }
 }
 
 // Whether an address stands for a block of zeros.
@@ -118,24 +133,33 @@ fn data_at(
     counts: walk::Counts,
     address: u32,
 ) -> DataStep
-    requires { ⌜ Fits (imageView (now image) v) (dataWalk (boundsOf v) address) (lent (now nodes) (now blocks) counts) ⌝ }
+    requires { ⌜ Fits (imageView (now image) v) (dataWalk (boundsOf v) address) (lists (now nodes) (now blocks) counts) ⌝ }
     requires { ⌜ VolumeIn (cardOf (now image)) v ⌝ }
     ensures { λ r. ⌜ Walked (imageView (now (image .entry)) v) (dataWalk (boundsOf v) address)
-        (lent (now (nodes .entry)) (now (blocks .entry)) counts) (dataOf (cardOf (now (image .entry))) (r .data))
-        (lent (now (nodes .exit)) (now (blocks .exit)) (r .counts)) ⌝ }
+        (lists (now (nodes .entry)) (now (blocks .entry)) counts) (dataOf (cardOf (now (image .entry))) (r .data))
+        (lists (now (nodes .exit)) (now (blocks .exit)) (r .counts)) ⌝ }
     ensures { λ r. ⌜ DataIn (cardOf (now (image .entry))) (r .data) ⌝ }
 {
     if is_hole(address) {
-        return DataStep { data: Data::Hole, counts };
+        return DataStep {
+            data: Data::Hole,
+            counts,
+        };
     }
     if !in_main(v, address) {
-        return DataStep { data: Data::Stop(13), counts };
+        return DataStep {
+            data: Data::Stop(13),
+            counts,
+        };
     }
     let read = walk::Counts {
         nodes: counts.nodes,
         blocks: walk::insert(blocks, counts.blocks, address),
     };
-    DataStep { data: Data::At(address), counts: read }
+    DataStep {
+        data: Data::At(address),
+        counts: read,
+    }
 }
 
 // From the number in the inode through the nodes that follow it on the way, to the data block.
@@ -149,12 +173,12 @@ fn follow(
     number: u32,
     way: place::Way,
 ) -> DataStep
-    requires { ⌜ Fits (imageView (now image) v) (followWalk (boundsOf v) ino (afterInode way) number) (lent (now nodes) (now blocks) counts) ⌝ }
+    requires { ⌜ Fits (imageView (now image) v) (followWalk (boundsOf v) ino (afterInode way) number) (lists (now nodes) (now blocks) counts) ⌝ }
     requires { ⌜ VolumeIn (cardOf (now image)) v ⌝ }
     requires { ⌜ WayIn (way .steps) (way .length) ⌝ }
     ensures { λ r. ⌜ Walked (imageView (now (image .entry)) v) (followWalk (boundsOf v) ino (afterInode way) number)
-        (lent (now (nodes .entry)) (now (blocks .entry)) counts) (dataOf (cardOf (now (image .entry))) (r .data))
-        (lent (now (nodes .exit)) (now (blocks .exit)) (r .counts)) ⌝ }
+        (lists (now (nodes .entry)) (now (blocks .entry)) counts) (dataOf (cardOf (now (image .entry))) (r .data))
+        (lists (now (nodes .exit)) (now (blocks .exit)) (r .counts)) ⌝ }
     ensures { λ r. ⌜ DataIn (cardOf (now (image .entry))) (r .data) ⌝ }
 {
     let steps = way.steps;
@@ -164,15 +188,24 @@ fn follow(
     let mut i: usize = 1;
     while i < length {
         if next == 0 {
-            return DataStep { data: Data::Hole, counts: listed };
+            return DataStep {
+                data: Data::Hole,
+                counts: listed,
+            };
         }
         let step = steps[i];
         let came = node_step(image, v, nodes, blocks, listed, next, ino, step.number);
         listed = came.counts;
         let found = came.found;
         next = match found {
-            Found::Stop(answer) => return DataStep { data: Data::Stop(answer), counts: listed },
-            Found::At(address) => field::get32(field::block_at(image, address), 4 * (step.slot as usize)),
+            Found::Stop(answer) => return DataStep {
+                data: Data::Stop(answer),
+                counts: listed,
+            },
+            Found::At(address) => field::get32(
+                field::block_at(image, address),
+                4 * (step.slot as usize),
+            ),
         };
         i += 1;
     }
@@ -189,17 +222,20 @@ pub fn data_block(
     file: File,
     index: u32,
 ) -> DataStep
-    requires { ⌜ Fits (imageView (now image) v) (fileBlockWalk (cardOf (now image)) v file index) (lent (now nodes) (now blocks) counts) ⌝ }
+    requires { ⌜ Fits (imageView (now image) v) (fileBlockWalk (cardOf (now image)) v file index) (lists (now nodes) (now blocks) counts) ⌝ }
     requires { ⌜ VolumeIn (cardOf (now image)) v ⌝ }
     requires { ⌜ FileIn (cardOf (now image)) file ⌝ }
     ensures { λ r. ⌜ Walked (imageView (now (image .entry)) v) (fileBlockWalk (cardOf (now (image .entry))) v file index)
-        (lent (now (nodes .entry)) (now (blocks .entry)) counts) (dataOf (cardOf (now (image .entry))) (r .data))
-        (lent (now (nodes .exit)) (now (blocks .exit)) (r .counts)) ⌝ }
+        (lists (now (nodes .entry)) (now (blocks .entry)) counts) (dataOf (cardOf (now (image .entry))) (r .data))
+        (lists (now (nodes .exit)) (now (blocks .exit)) (r .counts)) ⌝ }
     ensures { λ r. ⌜ DataIn (cardOf (now (image .entry))) (r .data) ⌝ }
 {
     let way = place::find_way(file.addresses, index);
     if way.length == 0 {
-        return DataStep { data: Data::Hole, counts };
+        return DataStep {
+            data: Data::Hole,
+            counts,
+        };
     }
     let steps = way.steps;
     let first = steps[0];

@@ -7,13 +7,13 @@ use mathlib.Core.List.{List}
 use lib.ListN.{length}
 use Rattle.walk.specs.Lists.{numbers, Holds}
 use Rattle.walk.specs.Walk.{View, sawNode, sawBlock, Walk, look, read, Ran, run, bind, Within, Outcome, onward, andThen}
-use Rattle.walk.specs.Walk.{Lent, lent, listed, none, Fits}
+use Rattle.walk.specs.Walk.{Lists, lists, listed, none, Fits}
 use Rattle.walk.proofs.Runs.{run-bind, run-more}
 use Rattle.walk.proofs.Sizes.{few-listed}
 use Rattle.walk.proofs.Reached.{Reached}
 
 -- ---- what is asked next fits
-module _ {A : Type 0} {v : View} {s : Lent} where
+module _ {A : Type 0} {v : View} {s : Lists} where
   pub fits-look : {n : ℕ} {k : _} → Fits {A = A} v (look n k) s → Holds n (s .nodes) (s .counts .nodes)
   unfolding run
   fits-look {n = n} {k = k} h =
@@ -29,7 +29,7 @@ module _ {A : Type 0} {v : View} {s : Lent} where
       record { room = omega arith; rising = h .rising .1 }
 
 -- ---- the first part of a walk
-fits-part : {A B : Type 0} {v : View} {s : Lent} (p : Walk A) (f : A → Walk B) → Fits v (bind p f) s → Fits v p s
+fits-part : {A B : Type 0} {v : View} {s : Lists} (p : Walk A) (f : A → Walk B) → Fits v (bind p f) s → Fits v p s
 fits-part {v = v} {s = s} p f h =
     let e = run-bind v (listed s) p f in
     let a = ap (λ (o : Ran _). length (o .seen .nodes)) e in
@@ -39,12 +39,12 @@ fits-part {v = v} {s = s} p f h =
     let q = h .forBlocks in
     record { rising = h .rising; forNodes = omega arith; forBlocks = omega arith }
 
-pub fits-first : {A B : Type 0} {v : View} {s : Lent} {p : Walk (Outcome A)} (f : A → Walk (Outcome B)) → Fits v (andThen p f) s → Fits v p s
+pub fits-first : {A B : Type 0} {v : View} {s : Lists} {p : Walk (Outcome A)} (f : A → Walk (Outcome B)) → Fits v (andThen p f) s → Fits v p s
 unfolding andThen
 fits-first {p = p} f h = fits-part p (onward f) h
 
 -- ---- from place to place: what is left fits
-pub fits-at : {A : Type 0} {v : View} {w r : Walk A} {s t : Lent} → Fits v w s → Reached v w s r t → Fits v r t
+pub fits-at : {A : Type 0} {v : View} {w r : Walk A} {s t : Lists} → Fits v w s → Reached v w s r t → Fits v r t
 fits-at h at =
     let a = ap (λ (o : Ran _). length (o .seen .nodes)) (at .goes) in
     let b = ap (λ (o : Ran _). length (o .seen .blocks)) (at .goes) in
@@ -56,7 +56,7 @@ fits-at h at =
 
 -- ---- by size, at the start
 pub fits-start : {A : Type 0} {P : ℕ → Type 0} {Q : A → Type 0} (v : View) {w : Walk A} {nodes blocks : List ℕ} {ns bs : ℕ}
-    → Within P Q ns bs w → 4 * ns ≤ length nodes → 4 * bs ≤ length blocks → Fits v w (lent nodes blocks none)
+    → Within P Q ns bs w → 4 * ns ≤ length nodes → 4 * bs ≤ length blocks → Fits v w (lists nodes blocks none)
 unfolding numbers
 fits-start v {w = w} size p q =
     let most = few-listed v w size in

@@ -114,30 +114,30 @@ andThen w f = bind w (onward f)
 -- ---- walks over lent bytes
 
 -- two lent byte slices, and how many numbers at the front of each are listed
-pub record Lent : Type 0 where
+pub record Lists : Type 0 where
   pub nodes : List ℕ
   pub blocks : List ℕ
   pub counts : Counts
 
-abbrev pub lent : List ℕ → List ℕ → Counts → Lent
-lent nodes blocks counts = record { nodes = nodes; blocks = blocks; counts = counts }
+abbrev pub lists : List ℕ → List ℕ → Counts → Lists
+lists nodes blocks counts = record { nodes = nodes; blocks = blocks; counts = counts }
 
-abbrev pub listed : Lent → Seen
+abbrev pub listed : Lists → Seen
 listed s = record { nodes = numbers (s .nodes) 0 (s .counts .nodes); blocks = numbers (s .blocks) 0 (s .counts .blocks) }
 
 -- nothing is listed yet
 abbrev pub none : Counts
 none = record { nodes = 0; blocks = 0 }
 
-abbrev pub NodesGrown : Lent → Lent → Type 0
+abbrev pub NodesGrown : Lists → Lists → Type 0
 NodesGrown s t = Grown (s .nodes) (s .counts .nodes) (t .nodes) (t .counts .nodes)
 
-abbrev pub BlocksGrown : Lent → Lent → Type 0
+abbrev pub BlocksGrown : Lists → Lists → Type 0
 BlocksGrown s t = Grown (s .blocks) (s .counts .blocks) (t .blocks) (t .counts .blocks)
 
 -- What a function that walks w comes to, over the slices s that it was lent: the value x, and the slices as t has them. The two
 -- lists at their front are the run's; all behind them is untouched.
-pub record Walked {A : Type 0} (v : View) (w : Walk A) (s : Lent) (x : A) (t : Lent) : Type 0 where
+pub record Walked {A : Type 0} (v : View) (w : Walk A) (s : Lists) (x : A) (t : Lists) : Type 0 where
   pub came : run v (listed s) w ≡ ran x (listed t)
   pub nodesGrown : NodesGrown s t
   pub blocksGrown : BlocksGrown s t
@@ -146,7 +146,7 @@ abbrev pub BothRise : Seen → Type 0
 BothRise s = Rising (s .nodes) × Rising (s .blocks)
 
 -- What a function that walks w needs of the slices s that it is lent: both lists rise, and as w leaves them they fit.
-pub record Fits {A : Type 0} (v : View) (w : Walk A) (s : Lent) : Type 0 where
+pub record Fits {A : Type 0} (v : View) (w : Walk A) (s : Lists) : Type 0 where
   pub rising : BothRise (listed s)
   pub forNodes : 4 * length (run v (listed s) w .seen .nodes) ≤ length (s .nodes)
   pub forBlocks : 4 * length (run v (listed s) w .seen .blocks) ≤ length (s .blocks)

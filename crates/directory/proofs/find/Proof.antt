@@ -8,7 +8,7 @@ use mathlib.Core.List.{List}
 use borrow.Author.Needs.{needs}
 use Rattle.field.specs.Card.{Card, cardOf}
 use Rattle.field.proofs.Blocks.{length-of-block}
-use Rattle.walk.specs.Walk.{imageView, lent, ok}
+use Rattle.walk.specs.Walk.{imageView, lists, ok}
 use Rattle.node.specs.Block.{held}
 use Rattle.node.specs.Found.{dataOf, DataIn}
 use Rattle.directory.specs.declared.Level.{Level}
@@ -34,7 +34,7 @@ abbrev μ-slots : tie.MeasureT-slots
 abbrev Inv-bucket : tie.InvT-bucket
 Inv-bucket image v nodes₀ blocks₀ file depth hash name listed₀ level first here count bucket k₀ nodes blocks listed k =
     Bucket (imageView image v) (directoryOf (cardOf image) v file) (wanted hash name) depth level
-    (lent nodes₀ blocks₀ listed₀) k (lent nodes blocks listed)
+    (lists nodes₀ blocks₀ listed₀) k (lists nodes blocks listed)
 
 abbrev μ-bucket : tie.MeasureT-bucket
 μ-bucket image v nodes₀ blocks₀ file depth hash name listed₀ level first here count bucket k₀ nodes blocks listed k =
@@ -43,7 +43,7 @@ abbrev μ-bucket : tie.MeasureT-bucket
 abbrev Inv-levels : tie.InvT-levels
 Inv-levels image v nodes₀ blocks₀ file depth hash name listed₀ level₀ first₀ nodes blocks listed level first =
     Levels (imageView image v) (directoryOf (cardOf image) v file) (wanted hash name) depth
-    (lent nodes₀ blocks₀ listed₀) level first (lent nodes blocks listed)
+    (lists nodes₀ blocks₀ listed₀) level first (lists nodes blocks listed)
 
 abbrev μ-levels : tie.MeasureT-levels
 μ-levels image v nodes₀ blocks₀ file depth hash name listed₀ level₀ first₀ nodes blocks listed level first =

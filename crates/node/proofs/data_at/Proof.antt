@@ -2,7 +2,7 @@
 use mathlib.Core.Path.{_≡_, sym, _∙_}
 use mathlib.Core.Bool.{true}
 use borrow.Author.Tests.{not-true, not-false}
-use Rattle.walk.specs.Walk.{imageView, read, lent}
+use Rattle.walk.specs.Walk.{imageView, read, lists}
 use Rattle.walk.proofs.Reached.{Reached, reached-start, reached-to, reached-read, reached-done}
 use Rattle.walk.proofs.Fits.{fits-read, fits-at}
 use Rattle.node.specs.Node.{boundsOf, inMain}
@@ -23,7 +23,7 @@ start-of k = asked-of k .before .before .before .before
 inside : (k : tie.Else2) → inMain (boundsOf (start-of k .args .v)) (start-of k .args .address) ≡ true
 inside k = sym (k .before .in-main .ensures) ∙ not-false _ (k .if2 .left)
 
-to-read : (k : tie.Else2) → let a = start-of k .args in let s = lent (a .nodes .now) (a .blocks .now) (a .counts) in
+to-read : (k : tie.Else2) → let a = start-of k .args in let s = lists (a .nodes .now) (a .blocks .now) (a .counts) in
     Reached (imageView (a .image .now) (a .v)) (dataWalk (boundsOf (a .v)) (a .address)) s (read (a .address) holding) s
 to-read k =
     let held = sym (asked-of k .is-hole .ensures) ∙ k .before .before .if1 .left in

@@ -4,7 +4,7 @@ use mathlib.Core.Path.{_≡_}
 use lib.ListN.{length}
 use Rattle.field.proofs.Blocks.{length-of-block}
 use Rattle.place.proofs.Ways.{way-few, way-node-slots, way-inode-slot, way-number-slot}
-use Rattle.walk.specs.Walk.{imageView, Walk, Outcome, lent}
+use Rattle.walk.specs.Walk.{imageView, Walk, Outcome, lists}
 use Rattle.walk.proofs.Reached.{Reached, reached-start, reached-to, reached-done, reached-all}
 use Rattle.walk.proofs.Fits.{fits-at}
 use Rattle.node.specs.Node.{boundsOf}
@@ -33,7 +33,7 @@ whole k = length-of-block _ _ (start-of k .pre .1 .1 .0) (k .block-at .ensures)
 abbrev Here : tie.Start → Walk (Outcome Fetched) → Type 0
 Here s rest =
     let a = s .args in
-    let t = lent (a .nodes .now) (a .blocks .now) (a .counts) in
+    let t = lists (a .nodes .now) (a .blocks .now) (a .counts) in
     Reached (imageView (a .image .now) (a .v)) (fileBlockWalk (cardOf (a .image .now)) (a .v) (a .file) (a .index)) t rest t
 
 -- the number read in the inode is one of its block

@@ -8,7 +8,7 @@ use Rattle.field.specs.Card.{cardOf}
 use Rattle.field.proofs.Blocks.{length-of-block}
 use Rattle.nat.specs.declared.TableAnswer.{TableAnswer}
 use Rattle.nat.specs.declared.TableAnswer.the-variants.{Entry}
-use Rattle.walk.specs.Walk.{imageView, Walk, done, read, Outcome, ok, Lent, lent}
+use Rattle.walk.specs.Walk.{imageView, Walk, done, read, Outcome, ok, Lists, lists}
 use Rattle.walk.proofs.Reached.{Reached, reached-start, reached-to, reached-look, reached-read, reached-done}
 use Rattle.walk.proofs.Fits.{fits-look, fits-read, fits-at}
 use Rattle.node.specs.Node.{boundsOf, inMain, belongs, nodeWalk, atEntry, atBlock}
@@ -54,20 +54,20 @@ read-of k = k .before .before .before
 -- ---- how far the walk has come there
 
 -- what is left of it is `rest`, and the slices are as t has them
-abbrev Here : tie.Start → Walk (Outcome (List ℕ)) → Lent → Type 0
+abbrev Here : tie.Start → Walk (Outcome (List ℕ)) → Lists → Type 0
 Here s rest t =
     let a = s .args in
     Reached (imageView (a .image .now) (a .v)) (nodeWalk (boundsOf (a .v)) (a .number) (a .ino) (a .place))
-    (lent (a .nodes .now) (a .blocks .now) (a .counts)) rest t
+    (lists (a .nodes .now) (a .blocks .now) (a .counts)) rest t
 
 abbrev at-entry : tie.Start → TableAnswer → Walk (Outcome (List ℕ))
 at-entry s = let a = s .args in atEntry (boundsOf (a .v)) (a .number) (a .ino) (a .place)
 
-abbrev left-at : tie.After-table-answer → Lent
+abbrev left-at : tie.After-table-answer → Lists
 left-at k =
     let a = start-of k .args in
     let listed = listing k .insert in
-    lent (listed .last .0) (a .blocks .now) (record { nodes = listed .result; blocks = a .counts .blocks })
+    lists (listed .last .0) (a .blocks .now) (record { nodes = listed .result; blocks = a .counts .blocks })
 
 looked : (k : tie.After-table-answer) → Here (start-of k) (at-entry (start-of k) (k .table-answer .result)) (left-at k)
 looked k =
@@ -89,10 +89,10 @@ at-block k = let a = begun k .args in atBlock (a .number) (a .ino) (a .place) (i
 to-read : (k : tie.Else2) → Here (begun k) (read (address-of (entry-of k)) (at-block k)) (left-at (looked-of (entry-of k)))
 to-read k = reached-to (has (entry-of k)) (entry-inside _ _ _ _ _ _ (k .before .before .if1 .left) (inside k))
 
-abbrev left-then : tie.After-insert2 → Lent
+abbrev left-then : tie.After-insert2 → Lists
 left-then k =
     let t = left-at (looked-of (entry-of (inside-of k))) in
-    lent (t .nodes) (k .insert2 .last .0) (record { nodes = t .counts .nodes; blocks = k .insert2 .result })
+    lists (t .nodes) (k .insert2 .last .0) (record { nodes = t .counts .nodes; blocks = k .insert2 .result })
 
 block-read : (c : tie.After-block-at) → let k = inside-of (read-of c) in
     Here (begun k) (at-block k (c .block-at .result .now)) (left-then (read-of c))
