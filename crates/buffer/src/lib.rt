@@ -1,9 +1,8 @@
 // The block buffer that a pull fills.
 ghost use mathlib.Core.Path.{_≡_};
 ghost use mathlib.Core.List.{_++_};
-ghost use Prim.Native.Nat.{_-_, _≤_, _<_};
+ghost use Prim.Native.Nat.{_-_, _≤_};
 ghost use lib.ListN.{length, take, replicate};
-ghost use Rattle.field.specs.Card.{cardOf};
 
 pub fn clear(bytes: &mut [u8])
     ensures { λ _. ⌜ now (bytes .exit) ≡ replicate (length (now (bytes .entry))) 0 ⌝ }
@@ -16,11 +15,10 @@ pub fn clear(bytes: &mut [u8])
 }
 
 // The first bytes of a block, then zeros.
-pub fn put_block(image: &[u8], b: u32, count: usize, buffer: &mut [u8])
-    requires { ⌜ (b < cardOf (now image) .blocks) × (count ≤ 4096) × (length (now buffer) ≡ 4096) ⌝ }
-    ensures { λ _. ⌜ now (buffer .exit) ≡ take count (cardOf (now (image .entry)) .block b) ++ replicate (4096 - count) 0 ⌝ }
+pub fn put_block(block: &[u8], count: usize, buffer: &mut [u8])
+    requires { ⌜ (length (now block) ≡ 4096) × (count ≤ 4096) × (length (now buffer) ≡ 4096) ⌝ }
+    ensures { λ _. ⌜ now (buffer .exit) ≡ take count (now (block .entry)) ++ replicate (4096 - count) 0 ⌝ }
 {
-    let block = field::block_at(image, b);
     bytes::copy(&block[..count], buffer);
     clear(&mut buffer[count..]);
 }

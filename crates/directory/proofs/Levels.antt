@@ -1,4 +1,4 @@
--- The levels of a directory: their sizes, and that those from 29 on lie past the last index. Assumes nothing.
+-- The levels of a directory: their sizes, and that those from 29 on lie past the last index.
 use Prim.Native.Nat.{ℕ, zero, suc, _+_, _-_, _*_, _%_, _^_, _≤_, _<_}
 use native.Mathlib.Omega.{arith}
 use native.Mathlib.Nat.{mul-le-mul, mod-lt}

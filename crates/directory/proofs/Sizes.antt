@@ -1,5 +1,5 @@
 -- How much the search asks at most: three nodes and four blocks for each block of a bucket, of which levels 0 to 28 have 58 and
--- later ones none. Each block that it reads lies in the main area. Assumes nothing.
+-- later ones none. Each block that it reads lies in the main area.
 use Prim.Native.Nat.{ℕ, zero, suc, _+_, _-_, _*_, _≤_, _<_}
 use native.Mathlib.Omega.{arith}
 use mathlib.Core.Path.{_≡_, refl, sym, subst}

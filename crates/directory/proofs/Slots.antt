@@ -1,5 +1,4 @@
 -- What a slot is, case by case, and the loop over the slots of a block: its invariant with a start, a turn, the ways out and an end.
--- Assumes nothing.
 use Prim.Native.Nat.{ℕ, zero, suc, _+_, _-_, _*_, _≤_, _<_}
 use native.Mathlib.Omega.{arith}
 use mathlib.Core.Path.{_≡_, refl, ap, _∙_}

@@ -1,20 +1,17 @@
 -- The loops of the search over levels and over the blocks of a bucket: their invariants, each with a start, a turn, the ways out and
 -- an end. The loop over blocks starts anew in each level, so its invariant goes from where that loop began, and `levels-out` joins
--- the two. Assumes nothing.
-use Prim.Native.Nat.{ℕ, suc, _+_, _-_, _*_, _≤_, _<_}
+-- the two.
+use Prim.Native.Nat.{ℕ, suc, _+_, _-_, _≤_, _<_}
 use native.Mathlib.Omega.{arith}
-use mathlib.Core.Path.{_≡_, refl, ap, subst}
-use mathlib.Core.Logic.{⊎-elim}
+use mathlib.Core.Path.{_≡_, refl, sym, ap, subst}
 use mathlib.Core.List.{List}
-use Rattle.place.specs.Place.{lastIndex}
-use Rattle.walk.specs.Walk.{View, Walk, done, Outcome, ok, stop, andThen, Lent, Walked, Room}
-use Rattle.walk.proofs.Reached.{Reached, reached-start, reached-to, reached-on, reached-then, reached-stop, reached-done, reached-all, room-less, walked-room}
+use Rattle.walk.specs.Walk.{View, Walk, done, Outcome, ok, stop, andThen, Lists, Walked, Fits}
+use Rattle.walk.proofs.Reached.{Reached, reached-start, reached-to, reached-on, reached-then, reached-stop, reached-done, reached-all}
+use Rattle.walk.proofs.Fits.{fits-at, fits-first}
 use Rattle.node.specs.Block.{Fetched, hole, held}
 use Rattle.directory.specs.Slot.{Wanted, Sought, absent, found, malformed, inBlock}
 use Rattle.directory.specs.Level.{blocksOf, firstOf, bucketOf}
 use Rattle.directory.specs.Find.{Directory, fetchWalk, afterSlots, afterBlock, bucketWalk, levelsWalk, findWalk}
-use Rattle.directory.proofs.Levels.{blocks-low, early-or-late, bucket-past}
-use Rattle.directory.proofs.Sizes.{left, fetch-within, fetch-none}
 
 -- the search from a level on, and from a block of a level's bucket on
 abbrev pub levelsLeft : Directory → Wanted → ℕ → ℕ → Walk (Outcome ℕ)
@@ -23,15 +20,12 @@ levelsLeft d w depth level = levelsWalk d w (depth - level) level
 abbrev pub bucketLeft : Directory → Wanted → ℕ → ℕ → ℕ → Walk (Outcome ℕ)
 bucketLeft d w depth level k = bucketWalk d w level (levelsLeft d w depth (level + 1)) (blocksOf level - k) k
 
-pub record Levels (v : View) (d : Directory) (w : Wanted) (depth : ℕ) (s : Lent) (level first : ℕ) (t : Lent) : Type 0 where
+pub record Levels (v : View) (d : Directory) (w : Wanted) (depth : ℕ) (s : Lists) (level first : ℕ) (t : Lists) : Type 0 where
   pub at : Reached v (findWalk d w depth) s (levelsLeft d w depth level) t
   pub starts : first ≡ firstOf level
-  pub room : Room (3 * left level) (4 * left level) t
 
-pub record Bucket (v : View) (d : Directory) (w : Wanted) (depth level : ℕ) (s : Lent) (k : ℕ) (t : Lent) : Type 0 where
+pub record Bucket (v : View) (d : Directory) (w : Wanted) (depth level : ℕ) (s : Lists) (k : ℕ) (t : Lists) : Type 0 where
   pub at : Reached v (bucketLeft d w depth level 0) s (bucketLeft d w depth level k) t
-  pub within : k ≤ blocksOf level
-  pub room : Room (3 * (left level - k)) (4 * (left level - k)) t
 
 -- ---- the trees, one step on
 module _ (d : Directory) (w : Wanted) (depth level : ℕ) where
@@ -48,7 +42,8 @@ module _ (d : Directory) (w : Wanted) (depth level : ℕ) where
       let p : depth - level ≡ 0 = omega arith in
       rw p
 
-  bucket-step : (k : ℕ) → k < blocksOf level → bucketLeft d w depth level k ≡ andThen (fetchWalk d (bucketOf level (w .hash) + k)) (afterBlock w (bucketLeft d w depth level (k + 1)))
+  bucket-step : (k : ℕ) → k < blocksOf level
+      → bucketLeft d w depth level k ≡ andThen (fetchWalk d (bucketOf level (w .hash) + k)) (afterBlock w (bucketLeft d w depth level (k + 1)))
   unfolding bucketWalk
   bucket-step k h =
       let p : blocksOf level - k ≡ suc (blocksOf level - (k + 1)) = omega arith in
@@ -70,84 +65,65 @@ module _ (w : Wanted) (rest : Walk (Outcome ℕ)) where
   after-held block o e = ap (afterSlots rest) e
 
 -- ---- the loop over levels
-pub levels-start : {v : View} {s : Lent} (d : Directory) (w : Wanted) (depth : ℕ) → Room 174 232 s → Levels v d w depth s 0 0 s
+pub levels-start : {v : View} {s : Lists} (d : Directory) (w : Wanted) (depth : ℕ) → Levels v d w depth s 0 0 s
 unfolding findWalk firstOf
-levels-start {v = v} {s = s} d w depth room =
+levels-start {v = v} {s = s} d w depth =
     let p : depth - 0 ≡ depth = omega arith in
-    record { at = rw p (reached-start v _ s); starts = refl; room = room }
+    record { at = rw p (reached-start v _ s); starts = refl }
 
-module _ {v : View} {d : Directory} {w : Wanted} {depth level first : ℕ} {s t : Lent} (go : Levels v d w depth s level first t) where
+pub bucket-start : {v : View} (d : Directory) (w : Wanted) (depth level : ℕ) {s : Lists} → Bucket v d w depth level s 0 s
+bucket-start d w depth level = record { at = reached-start _ _ _ }
+
+module _ {v : View} {d : Directory} {w : Wanted} {depth level first : ℕ} {s t : Lists} (go : Levels v d w depth s level first t) where
   pub levels-end : depth ≤ level → Walked v (findWalk d w depth) s (stop 2) t
   levels-end h = reached-done (reached-to (go .at) (levels-over d w depth level h))
-
-  pub bucket-start : Bucket v d w depth level t 0 t
-  bucket-start = record { at = reached-start v _ t; within = omega arith; room = room-less (omega arith) (omega arith) (go .room) }
 
   module _ (h : level < depth) where
     at-bucket : Reached v (findWalk d w depth) s (bucketLeft d w depth level 0) t
     at-bucket = reached-to (go .at) (levels-step d w depth level h)
 
     -- out of both loops
-    pub levels-out : {x : Outcome ℕ} {u : Lent} → Walked v (bucketLeft d w depth level 0) t x u → Walked v (findWalk d w depth) s x u
+    pub levels-out : {x : Outcome ℕ} {u : Lists} → Walked v (bucketLeft d w depth level 0) t x u → Walked v (findWalk d w depth) s x u
     levels-out out = reached-all at-bucket out
 
-    -- the bucket is done: on to the next level
-    pub levels-next : {k next : ℕ} {u : Lent} → Bucket v d w depth level t k u → blocksOf level ≤ k → next ≡ firstOf (level + 1) → Levels v d w depth s (level + 1) next u
-    levels-next {k = k} turn over e =
-        let most = turn .within in
-        record {
-          at = reached-to (reached-on at-bucket (turn .at)) (bucket-over d w depth level k over);
-          starts = e;
-          room = ⊎-elim
-              (λ early. let two = blocks-low level (omega arith) in room-less (omega arith) (omega arith) (turn .room))
-              (λ late. room-less (omega arith) (omega arith) (turn .room)) (early-or-late level);
-        }
+    module _ {k : ℕ} {u : Lists} (turn : Bucket v d w depth level t k u) where
+      -- the bucket's next block fits, as the search does
+      pub block-fits : k < blocksOf level → {i : ℕ} → i ≡ bucketOf level (w .hash) + k → Fits v (findWalk d w depth) s → Fits v (fetchWalk d i) u
+      block-fits more e fits =
+          let here = reached-to (reached-on at-bucket (turn .at)) (bucket-step d w depth level k more) in
+          subst (λ (j : ℕ). Fits v (fetchWalk d j) u) (sym e) (fits-first _ (fits-at fits here))
 
--- ---- the loop over the blocks of a bucket
-module _ {v : View} {d : Directory} {w : Wanted} {depth level k : ℕ} {s t : Lent} (turn : Bucket v d w depth level s k t) (more : k < blocksOf level) where
-  module _ (few : d .addresses ≤ 923) {i : ℕ} (e : i ≡ bucketOf level (w .hash) + k) where
-    -- there is room for a block, unless its index is past the last
-    pub bucket-room : i ≤ lastIndex (d .addresses) → Room 3 4 t
-    bucket-room near =
-        ⊎-elim (λ early. let two = blocks-low level (omega arith) in room-less (omega arith) (omega arith) (turn .room))
-        (λ late. let far = bucket-past level (w .hash) few late in absurd (omega arith)) (early-or-late level)
+      -- the bucket is done: on to the next level
+      pub levels-next : blocksOf level ≤ k → {next : ℕ} → next ≡ firstOf (level + 1) → Levels v d w depth s (level + 1) next u
+      levels-next over e = record { at = reached-to (reached-on at-bucket (turn .at)) (bucket-over d w depth level k over); starts = e }
 
-  module _ {i : ℕ} (e : i ≡ bucketOf level (w .hash) + k) {x : Outcome Fetched} {u : Lent} (step : Walked v (fetchWalk d i) t x u) where
-    fetched : Walked v (fetchWalk d (bucketOf level (w .hash) + k)) t x u
-    fetched = subst (λ (j : ℕ). Walked v (fetchWalk d j) t x u) e step
+-- ---- the loop over the blocks of a bucket: block k was fetched
+module _ {v : View} {d : Directory} {w : Wanted} {depth level k : ℕ} {s t : Lists} (turn : Bucket v d w depth level s k t) (more : k < blocksOf level)
+    {i : ℕ} (e : i ≡ bucketOf level (w .hash) + k) {x : Outcome Fetched} {u : Lists} (step : Walked v (fetchWalk d i) t x u) where
+  abbrev rest : Walk (Outcome ℕ)
+  rest = bucketLeft d w depth level (k + 1)
 
-    at-fetch : Reached v (bucketLeft d w depth level 0) s (andThen (fetchWalk d (bucketOf level (w .hash) + k)) (afterBlock w (bucketLeft d w depth level (k + 1)))) t
-    at-fetch = reached-to (turn .at) (bucket-step d w depth level k more)
+  fetched : Walked v (fetchWalk d (bucketOf level (w .hash) + k)) t x u
+  fetched = subst (λ (j : ℕ). Walked v (fetchWalk d j) t x u) e step
 
-    pub bucket-stop : {answer : ℕ} → x ≡ stop answer → Walked v (bucketLeft d w depth level 0) s (stop answer) u
-    bucket-stop q = reached-stop _ at-fetch fetched q
+  at-fetch : Reached v (bucketLeft d w depth level 0) s (andThen (fetchWalk d (bucketOf level (w .hash) + k)) (afterBlock w rest)) t
+  at-fetch = reached-to (turn .at) (bucket-step d w depth level k more)
 
-    module _ {block : List ℕ} (q : x ≡ ok (held block)) where
-      at-slots : (o : Sought) → inBlock block w ≡ o → Reached v (bucketLeft d w depth level 0) s (afterSlots (bucketLeft d w depth level (k + 1)) o) u
-      at-slots o f = reached-to (reached-then _ at-fetch fetched q) (after-held w _ block o f)
+  pub bucket-stop : {answer : ℕ} → x ≡ stop answer → Walked v (bucketLeft d w depth level 0) s (stop answer) u
+  bucket-stop q = reached-stop _ at-fetch fetched q
 
-      pub bucket-found : {ino : ℕ} → inBlock block w ≡ found ino → Walked v (bucketLeft d w depth level 0) s (ok ino) u
-      bucket-found f = reached-done (at-slots _ f)
+  pub bucket-hole : x ≡ ok hole → Bucket v d w depth level s (k + 1) u
+  bucket-hole q = record { at = reached-to (reached-then _ at-fetch fetched q) (after-hole w _) }
 
-      pub bucket-malformed : inBlock block w ≡ malformed → Walked v (bucketLeft d w depth level 0) s (stop 14) u
-      bucket-malformed f = reached-done (at-slots _ f)
+  module _ {block : List ℕ} (q : x ≡ ok (held block)) where
+    at-slots : (o : Sought) → inBlock block w ≡ o → Reached v (bucketLeft d w depth level 0) s (afterSlots rest o) u
+    at-slots o f = reached-to (reached-then _ at-fetch fetched q) (after-held w _ block o f)
 
-    module _ (few : d .addresses ≤ 923) where
-      room-next : Room (3 * (left level - (k + 1))) (4 * (left level - (k + 1))) u
-      room-next =
-          ⊎-elim
-          (λ early.
-          let two = blocks-low level (omega arith) in
-          walked-room (fetch-within d i) step _ _ (room-less (omega arith) (omega arith) (turn .room)))
-          (λ late.
-          let far = bucket-past level (w .hash) few late in
-          walked-room (fetch-none d i (omega arith)) step _ _ (room-less (omega arith) (omega arith) (turn .room))) (early-or-late level)
+    pub bucket-absent : inBlock block w ≡ absent → Bucket v d w depth level s (k + 1) u
+    bucket-absent f = record { at = at-slots absent f }
 
-      next : Reached v (bucketLeft d w depth level 0) s (bucketLeft d w depth level (k + 1)) u → Bucket v d w depth level s (k + 1) u
-      next at = record { at = at; within = omega arith; room = room-next }
+    pub bucket-found : {ino : ℕ} → inBlock block w ≡ found ino → Walked v (bucketLeft d w depth level 0) s (ok ino) u
+    bucket-found f = reached-done (at-slots _ f)
 
-      pub bucket-hole : x ≡ ok hole → Bucket v d w depth level s (k + 1) u
-      bucket-hole q = next (reached-to (reached-then _ at-fetch fetched q) (after-hole w _))
-
-      pub bucket-absent : {block : List ℕ} → x ≡ ok (held block) → inBlock block w ≡ absent → Bucket v d w depth level s (k + 1) u
-      bucket-absent q f = next (at-slots q absent f)
+    pub bucket-malformed : inBlock block w ≡ malformed → Walked v (bucketLeft d w depth level 0) s (stop 14) u
+    bucket-malformed f = reached-done (at-slots _ f)

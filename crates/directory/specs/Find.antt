@@ -2,7 +2,10 @@
 use Prim.Native.Nat.{ℕ, zero, suc, _+_}
 use mathlib.Core.List.{List}
 use Rattle.walk.specs.Walk.{Walk, done, Outcome, ok, stop, andThen}
-use Rattle.node.specs.Node.{Bounds}
+use Rattle.field.specs.Card.{Card}
+use Rattle.checkpoint.specs.declared.Volume.{Volume}
+use Rattle.node.specs.declared.File.{File}
+use Rattle.node.specs.Node.{Bounds, boundsOf}
 use Rattle.node.specs.Block.{Fetched, hole, held, blockWalk}
 use Rattle.directory.specs.declared.Entry.{Entry}
 use Rattle.directory.specs.declared.Entry.the-variants.{Found, Stop}
@@ -18,6 +21,10 @@ pub record Directory : Type 0 where
 
 abbrev pub directory : Bounds → ℕ → List ℕ → ℕ → Directory
 directory m ino inode A = record { bounds = m; ino = ino; inode = inode; addresses = A }
+
+-- the directory that the code has as a file of an opened card
+abbrev pub directoryOf : Card → Volume → File → Directory
+directoryOf card v file = directory (boundsOf v) (file .ino) (card .block (file .inode)) (file .addresses)
 
 unfoldable pub fetchWalk : Directory → ℕ → Walk (Outcome Fetched)
 fetchWalk d index = blockWalk (d .bounds) (d .ino) (d .inode) (d .addresses) index

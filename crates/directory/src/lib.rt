@@ -5,14 +5,12 @@ ghost use Prim.Native.Nat.{_<_, _≤_};
 ghost use lib.ListN.{length};
 ghost use Rattle.field.specs.Map.{lowBit};
 ghost use Rattle.field.specs.Card.{cardOf};
-ghost use Rattle.place.specs.Place.{lastIndex};
 ghost use Rattle.checkpoint.specs.Volume.{VolumeIn};
-ghost use Rattle.walk.specs.Walk.{viewOf, lent, Walked, Room};
-ghost use Rattle.node.specs.Node.{boundsOf};
-ghost use Rattle.node.specs.Found.{dataOf, DataIn};
+ghost use Rattle.walk.specs.Walk.{imageView, lists, Walked, Fits};
+ghost use Rattle.node.specs.Found.{dataOf, DataIn, FileIn};
 ghost use Rattle.directory.specs.Slot.{wanted, slotAt};
 ghost use Rattle.directory.specs.Level.{bucketsOf, blocksOf, firstOf, levelOf};
-ghost use Rattle.directory.specs.Find.{directory, fetchWalk, findWalk, entryOf};
+ghost use Rattle.directory.specs.Find.{directoryOf, fetchWalk, findWalk, entryOf};
 
 // What one slot of a directory block holds: nothing, the name's inode number, another entry and how many slots it has, or an
 // entry that doesn't fit.
@@ -39,8 +37,7 @@ pub enum Entry {
 // What was found, and how many nodes and blocks are listed then.
 pub struct EntryStep {
     pub entry: Entry,
-    pub nodes: usize,
-    pub blocks: usize,
+    pub counts: walk::Counts,
 }
 
 // A slot's bit in the block's map: the order of a directory map's bits is chosen here alone.
@@ -111,35 +108,32 @@ fn level_at(level: usize, first: usize, hash: u32) -> Level
     }
 }
 
-// The block of an index of a directory. Past the last index there is none, and no room is asked for.
+// The block of an index of a directory. Past the last index there is none.
 fn fetch(
     image: &[u8],
     v: checkpoint::Volume,
     nodes: &mut [u8],
     blocks: &mut [u8],
-    nc: usize,
-    bc: usize,
+    counts: walk::Counts,
     file: node::File,
     index: usize,
 ) -> node::DataStep
-    requires { ⌜ (index ≤ lastIndex (file .addresses) → Room 3 4 (lent (now nodes) (now blocks) nc bc)) ⌝ }
+    requires { ⌜ Fits (imageView (now image) v) (fetchWalk (directoryOf (cardOf (now image)) v file) index) (lists (now nodes) (now blocks) counts) ⌝ }
     requires { ⌜ VolumeIn (cardOf (now image)) v ⌝ }
-    requires { ⌜ (file .inode < cardOf (now image) .blocks) × (file .addresses ≤ 923) ⌝ }
-    ensures { λ r. ⌜ Walked (viewOf (cardOf (now (image .entry))) v)
-        (fetchWalk (directory (boundsOf v) (file .ino) (cardOf (now (image .entry)) .block (file .inode)) (file .addresses)) index)
-        (lent (now (nodes .entry)) (now (blocks .entry)) nc bc) (dataOf (cardOf (now (image .entry))) (r .data))
-        (lent (now (nodes .exit)) (now (blocks .exit)) (r .nodes) (r .blocks)) ⌝ }
+    requires { ⌜ FileIn (cardOf (now image)) file ⌝ }
+    ensures { λ r. ⌜ Walked (imageView (now (image .entry)) v) (fetchWalk (directoryOf (cardOf (now (image .entry))) v file) index)
+        (lists (now (nodes .entry)) (now (blocks .entry)) counts) (dataOf (cardOf (now (image .entry))) (r .data))
+        (lists (now (nodes .exit)) (now (blocks .exit)) (r .counts)) ⌝ }
     ensures { λ r. ⌜ DataIn (cardOf (now (image .entry))) (r .data) ⌝ }
 {
     let last = file.addresses as usize + 1057052515;
     if last < index {
         return node::DataStep {
             data: node::Data::Hole,
-            nodes: nc,
-            blocks: bc,
+            counts,
         };
     }
-    node::data_block(image, v, nodes, blocks, nc, bc, file, index as u32)
+    node::data_block(image, v, nodes, blocks, counts, file, index as u32)
 }
 
 // The name sought in a directory: levels 0 to depth - 1, in each the blocks of the hash's bucket in order, in each block its
@@ -149,24 +143,21 @@ pub fn find(
     v: checkpoint::Volume,
     nodes: &mut [u8],
     blocks: &mut [u8],
-    nc: usize,
-    bc: usize,
+    counts: walk::Counts,
     file: node::File,
     depth: usize,
     hash: u32,
     name: &[u8],
 ) -> EntryStep
-    requires { ⌜ Room 174 232 (lent (now nodes) (now blocks) nc bc) ⌝ }
+    requires { ⌜ Fits (imageView (now image) v) (findWalk (directoryOf (cardOf (now image)) v file) (wanted hash (now name)) depth)
+        (lists (now nodes) (now blocks) counts) ⌝ }
     requires { ⌜ VolumeIn (cardOf (now image)) v ⌝ }
-    requires { ⌜ (file .inode < cardOf (now image) .blocks) × (file .addresses ≤ 923) × (depth ≤ 63) ⌝ }
-    ensures { λ r. ⌜ Walked (viewOf (cardOf (now (image .entry))) v)
-        (findWalk (directory (boundsOf v) (file .ino) (cardOf (now (image .entry)) .block (file .inode)) (file .addresses))
-        (wanted hash (now (name .entry))) depth)
-        (lent (now (nodes .entry)) (now (blocks .entry)) nc bc) (entryOf (r .entry))
-        (lent (now (nodes .exit)) (now (blocks .exit)) (r .nodes) (r .blocks)) ⌝ }
+    requires { ⌜ FileIn (cardOf (now image)) file × (depth ≤ 63) ⌝ }
+    ensures { λ r. ⌜ Walked (imageView (now (image .entry)) v)
+        (findWalk (directoryOf (cardOf (now (image .entry))) v file) (wanted hash (now (name .entry))) depth)
+        (lists (now (nodes .entry)) (now (blocks .entry)) counts) (entryOf (r .entry)) (lists (now (nodes .exit)) (now (blocks .exit)) (r .counts)) ⌝ }
 {
-    let mut nn = nc;
-    let mut bb = bc;
+    let mut listed = counts;
     let mut level: usize = 0;
     let mut first: usize = 0;
     let entry = 'levels: loop {
@@ -178,10 +169,9 @@ pub fn find(
         let bucket = here.bucket;
         let mut k: usize = 0;
         'bucket: while k < count {
-            let step = fetch(image, v, nodes, blocks, nn, bb, file, bucket + k);
+            let step = fetch(image, v, nodes, blocks, listed, file, bucket + k);
             k += 1;
-            nn = step.nodes;
-            bb = step.blocks;
+            listed = step.counts;
             let data = step.data;
             let at = match data {
                 node::Data::Hole => continue 'bucket,
@@ -208,7 +198,6 @@ pub fn find(
     };
     EntryStep {
         entry,
-        nodes: nn,
-        blocks: bb,
+        counts: listed,
     }
 }

@@ -2,8 +2,8 @@
 // What each means is in specs/Inode.antt.
 ghost use mathlib.Core.Path.{_≡_};
 ghost use mathlib.Core.Bool.{false};
-ghost use Prim.Native.Nat.{_≤_, _<_};
-ghost use Rattle.field.specs.Card.{cardOf};
+ghost use Prim.Native.Nat.{_≤_};
+ghost use lib.ListN.{length};
 ghost use Rattle.inode.specs.Inode.{inodeOf, notInline, isDirectory, isRegular, addressesIn, isPast, countIn};
 
 // What is read of an inode.
@@ -15,11 +15,10 @@ pub struct Inode {
     pub level: u8,
 }
 
-pub fn inode_at(image: &[u8], b: u32) -> Inode
-    requires { ⌜ b < cardOf (now image) .blocks ⌝ }
-    ensures { λ r. ⌜ r ≡ inodeOf (cardOf (now (image .entry)) .block b) ⌝ }
+pub fn inode_of(block: &[u8]) -> Inode
+    requires { ⌜ length (now block) ≡ 4096 ⌝ }
+    ensures { λ r. ⌜ r ≡ inodeOf (now (block .entry)) ⌝ }
 {
-    let block = field::block_at(image, b);
     Inode {
         mode: field::get16(block, 0),
         inline: block[3],

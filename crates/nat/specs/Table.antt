@@ -35,11 +35,13 @@ natMapOf card v = drop (v .«nat_map») (card .block (v .pack))
 unfoldable pub tableAddress : Card → Volume → ℕ → ℕ
 tableAddress card v b = copyAddress (v .areas .nat) b (topBit (natMapOf card v) b)
 
+-- the entry of a number in its table block: "455 entries of 9 bytes"
+unfoldable pub entryIn : List ℕ → ℕ → TableAnswer
+entryIn block number = Entry (inodeAt block (9 * (number % 455))) (addressAt block (9 * (number % 455)))
+
 -- what the table says of a number
 unfoldable pub inTable : Card → Volume → ℕ → TableAnswer
-inTable card v number =
-    let block : List ℕ = card .block (tableAddress card v (tableBlock number)) in
-    Entry (inodeAt block (9 * (number % 455))) (addressAt block (9 * (number % 455)))
+inTable card v number = entryIn (card .block (tableAddress card v (tableBlock number))) number
 
 -- "The first journal entry with the number decides. Otherwise table block .."
 abbrev pub orTable : InJournal → TableAnswer → TableAnswer

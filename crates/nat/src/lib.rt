@@ -8,7 +8,7 @@ ghost use Rattle.field.specs.Number.{le16};
 ghost use Rattle.field.specs.Card.{cardOf};
 ghost use Rattle.checkpoint.specs.Volume.{VolumeIn, journalOf};
 ghost use Rattle.nat.specs.Entry.{inodeAt, addressAt, inJournal};
-ghost use Rattle.nat.specs.Table.{inRange, copyAddress, tableAddress, inTable, orTable, tableAnswer};
+ghost use Rattle.nat.specs.Table.{inRange, copyAddress, tableAddress, entryIn, inTable, orTable, tableAnswer};
 
 // What a journal says of a node number: inode and address, or nothing.
 pub enum InJournal {
@@ -94,12 +94,11 @@ fn table_address(image: &[u8], v: checkpoint::Volume, b: u32) -> u32
     copy_address(areas, b, bit as u32)
 }
 
-fn table_entry(image: &[u8], v: checkpoint::Volume, number: u32) -> TableAnswer
-    requires { ⌜ VolumeIn (cardOf (now image)) v ⌝ }
-    requires { ⌜ inRange v number ≡ true ⌝ }
-    ensures { λ r. ⌜ r ≡ inTable (cardOf (now (image .entry))) v number ⌝ }
+// The entry of a number in its table block.
+pub fn table_entry(block: &[u8], number: u32) -> TableAnswer
+    requires { ⌜ length (now block) ≡ 4096 ⌝ }
+    ensures { λ r. ⌜ r ≡ entryIn (now (block .entry)) number ⌝ }
 {
-    let block = field::block_at(image, table_address(image, v, number / 455));
     let at = 9 * (number % 455) as usize;
     TableAnswer::Entry(inode_at(block, at), address_at(block, at))
 }
@@ -112,7 +111,10 @@ fn or_table(image: &[u8], v: checkpoint::Volume, number: u32, said: InJournal) -
 {
     match said {
         InJournal::Held(inode, address) => TableAnswer::Entry(inode, address),
-        InJournal::Absent => table_entry(image, v, number),
+        InJournal::Absent => {
+            let address = table_address(image, v, number / 455);
+            table_entry(field::block_at(image, address), number)
+        }
     }
 }
 

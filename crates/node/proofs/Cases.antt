@@ -1,4 +1,4 @@
--- The trees of a node, of a data block and of the way to it, by cases: no run and no list is named. Assumes nothing.
+-- The trees of a node, of a data block and of the way to it, by cases: no run and no list is named.
 use Prim.Native.Nat.{ℕ, _+_, _*_}
 use native.Mathlib.Omega.{arith}
 use mathlib.Core.Path.{_≡_, refl, _∙_}

@@ -1,81 +1,106 @@
--- The invariant of the loop over the nodes of a way, and its laws: what is left is the way from step i on. Assumes nothing.
-use Prim.Native.Nat.{ℕ, _+_, _-_, _*_, _≤_, _<_}
+-- The invariant of the loop over the nodes of a way, and its laws: what is left is the way from step i on.
+use Prim.Native.Nat.{ℕ, _+_, _*_, _≤_, _<_}
 use native.Mathlib.Omega.{arith}
 use native.Mathlib.Numerals.{add-one}
-use mathlib.Core.Path.{_≡_, refl, sym, ap, _∙_}
+use mathlib.Core.Path.{_≡_, sym, ap, _∙_}
 use mathlib.Core.List.{List, [], _∷_}
 use lib.ListN.{length, take, drop, getD, length-take, drop-of-length-le}
 use lib.Seq.{length-take-le, drop-cons, getD-take}
 use Rattle.field.specs.Number.{le32}
 use Rattle.place.specs.declared.Step.{Step}
 use Rattle.place.specs.Way.{step}
-use Rattle.walk.specs.Walk.{View, Outcome, ok, stop, Lent, Walked, Room}
-use Rattle.walk.proofs.Reached.{Reached, reached-start, reached-to, reached-then, reached-stop, reached-done, reached-all, room-less, walked-room}
+use Rattle.walk.specs.Walk.{View, Walk, Outcome, ok, stop, andThen, Lists, Walked, Fits}
+use Rattle.walk.proofs.Reached.{Reached, reached-start, reached-to, reached-then, reached-stop, reached-done, reached-all}
+use Rattle.walk.proofs.Fits.{fits-at, fits-first}
 use Rattle.node.specs.Node.{Bounds, nodeWalk}
 use Rattle.node.specs.Block.{Fetched, hole, dataWalk, followWalk}
 use Rattle.node.specs.Found.{WayIn}
 use Rattle.node.proofs.Cases.{follow-end, follow-hole, follow-node}
-use Rattle.node.proofs.Sizes.{node-within}
 
--- begun with a number and the way from step 1 on, the walk has come to the number `next` and to step i
-pub record Following (v : View) (m : Bounds) (ino : ℕ) (steps : List Step) (most number : ℕ) (s : Lent) (i next : ℕ) (t : Lent) : Type 0 where
-  pub way : WayIn steps most
-  pub at : Reached v (followWalk m ino (drop 1 (take most steps)) number) s (followWalk m ino (drop i (take most steps)) next) t
-  pub within : (1 ≤ i) × (i ≤ 4)
-  pub room : Room (4 - i) (5 - i) t
+-- a way of `most` steps, followed from a number in the inode
+pub record Course : Type 0 where
+  pub bounds : Bounds
+  pub ino : ℕ
+  pub steps : List Step
+  pub most : ℕ
+  pub number : ℕ
 
-pub following-start : {v : View} (m : Bounds) (ino : ℕ) {steps : List Step} {most : ℕ} (number : ℕ) {s : Lent} → WayIn steps most → Room 3 4 s
-    → Following v m ino steps most number s 1 number s
-following-start m ino number way room = record { way = way; at = reached-start _ _ _; within = (omega arith, omega arith); room = room }
+-- what is left of it from step i on, where the number is `next`
+abbrev left : Course → ℕ → ℕ → Walk (Outcome Fetched)
+left w i next = followWalk (w .bounds) (w .ino) (drop i (take (w .most) (w .steps))) next
+
+abbrev pub courseWalk : Course → Walk (Outcome Fetched)
+courseWalk w = left w 1 (w .number)
+
+abbrev stepAt : Course → ℕ → Step
+stepAt w i = getD (w .steps) i (step 0 0)
+
+-- the walk has come to the number `next` and to step i
+pub record Following (v : View) (w : Course) (s : Lists) (i next : ℕ) (t : Lists) : Type 0 where
+  pub way : WayIn (w .steps) (w .most)
+  pub at : Reached v (courseWalk w) s (left w i next) t
+  pub from : 1 ≤ i
+
+pub following-start : {v : View} (w : Course) {s : Lists} → WayIn (w .steps) (w .most) → Following v w s 1 (w .number) s
+following-start w way = record { way = way; at = reached-start _ _ _; from = omega arith }
 
 way-over : (steps : List Step) (most i : ℕ) → most ≤ i → drop i (take most steps) ≡ []
 way-over steps most i h =
     let l : length (take most steps) ≤ i = rw (length-take most steps) (omega arith) in
     drop-of-length-le (take most steps) l
 
-way-step : (steps : List Step) (most i : ℕ) → i < most → most ≤ length steps → drop i (take most steps) ≡ getD steps i (step 0 0) ∷ drop (i + 1) (take most steps)
+way-step : (steps : List Step) (most i : ℕ) → i < most → most ≤ length steps
+    → drop i (take most steps) ≡ getD steps i (step 0 0) ∷ drop (i + 1) (take most steps)
 way-step steps most i h whole =
     drop-cons (take most steps) i (step 0 0) (rw (length-take-le most steps whole) h) ∙ rw (add-one i, getD-take most steps i (step 0 0) h)
 
-module _ {v : View} {m : Bounds} {ino : ℕ} {steps : List Step} {most number : ℕ} {s : Lent} {i next : ℕ} {t : Lent} (go : Following v m ino steps most number s i next t) where
+module _ {v : View} {w : Course} {s : Lists} {i next : ℕ} {t : Lists} (go : Following v w s i next t) where
   -- the way is over, and the number is an address
-  pub following-last : Room 0 1 t
-  following-last = let in-way = go .within in room-less (omega arith) (omega arith) (go .room)
+  module _ (h : w .most ≤ i) where
+    at-data : Reached v (courseWalk w) s (dataWalk (w .bounds) next) t
+    at-data =
+        let over = ap (λ (r : List Step). followWalk (w .bounds) (w .ino) r next) (way-over (w .steps) (w .most) i h) in
+        reached-to (go .at) (over ∙ follow-end (w .bounds) (w .ino) next)
 
-  pub following-end : most ≤ i → {x : Outcome Fetched} {u : Lent} → Walked v (dataWalk m next) t x u → Walked v (followWalk m ino (drop 1 (take most steps)) number) s x u
-  following-end h left =
-      reached-all (reached-to (go .at) (ap (λ (r : List Step). followWalk m ino r next) (way-over steps most i h) ∙ follow-end m ino next)) left
+    pub following-last : Fits v (courseWalk w) s → Fits v (dataWalk (w .bounds) next) t
+    following-last fits = fits-at fits at-data
+
+    pub following-end : {x : Outcome Fetched} {u : Lists} → Walked v (dataWalk (w .bounds) next) t x u → Walked v (courseWalk w) s x u
+    following-end walked = reached-all at-data walked
 
   -- the way goes on
-  module _ (h : i < most) where
+  module _ (h : i < w .most) where
     pub following-few : i < 4
     following-few = let few = go .way .few in omega arith
 
-    pub following-slot : getD steps i (step 0 0) .slot < 1018
-    following-slot = go .way .slots i (go .within .0) h
+    pub following-slot : stepAt w i .slot < 1018
+    following-slot = go .way .slots i (go .from) h
 
-    pub following-room : Room 1 1 t
-    following-room = let few = following-few in room-less (omega arith) (omega arith) (go .room)
-
-    here : Reached v (followWalk m ino (drop 1 (take most steps)) number) s (followWalk m ino (getD steps i (step 0 0) ∷ drop (i + 1) (take most steps)) next) t
+    here : Reached v (courseWalk w) s (followWalk (w .bounds) (w .ino) (stepAt w i ∷ drop (i + 1) (take (w .most) (w .steps))) next) t
     here =
         let whole = go .way .whole in
         let few = go .way .few in
-        reached-to (go .at) (ap (λ (r : List Step). followWalk m ino r next) (way-step steps most i h (omega arith)))
+        reached-to (go .at) (ap (λ (r : List Step). followWalk (w .bounds) (w .ino) r next) (way-step (w .steps) (w .most) i h (omega arith)))
 
-    pub following-hole : next ≡ 0 → Walked v (followWalk m ino (drop 1 (take most steps)) number) s (ok hole) t
-    following-hole z = reached-done (reached-to here (follow-hole m ino next _ _ z))
+    pub following-hole : next ≡ 0 → Walked v (courseWalk w) s (ok hole) t
+    following-hole z = reached-done (reached-to here (follow-hole (w .bounds) (w .ino) next _ _ z))
 
-    module _ (z : next ≡ 0 → ⊥) {x : Outcome (List ℕ)} {u : Lent} (node : Walked v (nodeWalk m next ino (getD steps i (step 0 0) .number)) t x u) where
-      pub following-stop : {e : ℕ} → x ≡ stop e → Walked v (followWalk m ino (drop 1 (take most steps)) number) s (stop e) u
-      following-stop q = reached-stop _ (reached-to here (follow-node m ino next _ _ z)) node q
+    -- through a node
+    module _ (z : next ≡ 0 → ⊥) where
+      abbrev after : List ℕ → Walk (Outcome Fetched)
+      after block = left w (i + 1) (le32 block (4 * stepAt w i .slot))
 
-      pub following-next : {block : List ℕ} {n : ℕ} → x ≡ ok block → n ≡ le32 block (4 * getD steps i (step 0 0) .slot) → Following v m ino steps most number s (i + 1) n u
-      following-next q e =
-          let few = following-few in
-          record {
-            way = go .way;
-            at = reached-to (reached-then _ (reached-to here (follow-node m ino next _ _ z)) node q) (ap (followWalk m ino (drop (i + 1) (take most steps))) (sym e));
-            within = (omega arith, omega arith);
-            room = walked-room (node-within m next ino _) node (4 - (i + 1)) (5 - (i + 1)) (room-less (omega arith) (omega arith) (go .room));
-          }
+      at-node : Reached v (courseWalk w) s (andThen (nodeWalk (w .bounds) next (w .ino) (stepAt w i .number)) after) t
+      at-node = reached-to here (follow-node (w .bounds) (w .ino) next _ _ z)
+
+      pub following-fits : Fits v (courseWalk w) s → Fits v (nodeWalk (w .bounds) next (w .ino) (stepAt w i .number)) t
+      following-fits fits = fits-first after (fits-at fits at-node)
+
+      module _ {x : Outcome (List ℕ)} {u : Lists} (node : Walked v (nodeWalk (w .bounds) next (w .ino) (stepAt w i .number)) t x u) where
+        pub following-stop : {e : ℕ} → x ≡ stop e → Walked v (courseWalk w) s (stop e) u
+        following-stop q = reached-stop after at-node node q
+
+        pub following-next : {block : List ℕ} {n : ℕ} → x ≡ ok block → n ≡ le32 block (4 * stepAt w i .slot) → Following v w s (i + 1) n u
+        following-next q e =
+            let on = reached-then after at-node node q in
+            record { way = go .way; at = reached-to on (ap (left w (i + 1)) (sym e)); from = omega arith }

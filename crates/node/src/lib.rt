@@ -1,15 +1,13 @@
 // A node of a file, and the data block of an index of a file.
 // What each means is in specs/: Node, Block, Found.
 ghost use mathlib.Core.Path.{_≡_};
-ghost use Prim.Native.Nat.{_+_, _<_, _≤_};
-ghost use lib.ListN.{take, drop};
-ghost use Rattle.field.specs.Number.{le32};
+ghost use lib.ListN.{length};
 ghost use Rattle.field.specs.Card.{cardOf};
 ghost use Rattle.checkpoint.specs.Volume.{VolumeIn};
-ghost use Rattle.walk.specs.Walk.{viewOf, lent, Walked, Room};
+ghost use Rattle.walk.specs.Walk.{imageView, lists, Walked, Fits};
 ghost use Rattle.node.specs.Node.{boundsOf, inMain, belongs, nodeWalk};
-ghost use Rattle.node.specs.Block.{isHole, dataWalk, followWalk, blockWalk};
-ghost use Rattle.node.specs.Found.{foundOf, FoundIn, dataOf, DataIn, WayIn};
+ghost use Rattle.node.specs.Block.{isHole, dataWalk, followWalk};
+ghost use Rattle.node.specs.Found.{foundOf, FoundIn, dataOf, DataIn, WayIn, afterInode, FileIn, fileBlockWalk};
 
 // The block of a node, or the answer that ends the walk.
 pub enum Found {
@@ -27,14 +25,12 @@ pub enum Data {
 // What was found, and how many nodes and blocks are listed then.
 pub struct NodeStep {
     pub found: Found,
-    pub nodes: usize,
-    pub blocks: usize,
+    pub counts: walk::Counts,
 }
 
 pub struct DataStep {
     pub data: Data,
-    pub nodes: usize,
-    pub blocks: usize,
+    pub counts: walk::Counts,
 }
 
 // A file: its inode number, the block of its inode, and how many addresses the inode holds.
@@ -42,27 +38,6 @@ pub struct File {
     pub ino: u32,
     pub inode: u32,
     pub addresses: u32,
-}
-
-// The two results as one line each, where the code returns them.
-fn node_came(found: Found, nodes: usize, blocks: usize) -> NodeStep
-    ensures { λ r. ⌜ r ≡ record { found = found; nodes = nodes; blocks = blocks } ⌝ }
-{
-    NodeStep {
-        found,
-        nodes,
-        blocks,
-    }
-}
-
-fn data_came(data: Data, nodes: usize, blocks: usize) -> DataStep
-    ensures { λ r. ⌜ r ≡ record { «data» = «data»; nodes = nodes; blocks = blocks } ⌝ }
-{
-    DataStep {
-        data,
-        nodes,
-        blocks,
-    }
 }
 
 // Whether an address lies in the main area.
@@ -73,19 +48,11 @@ pub fn in_main(v: checkpoint::Volume, address: u32) -> bool
     (areas.main <= address) & (address < areas.main_end)
 }
 
-// Whether the block at an address ends with the numbers of the node that is asked for.
-fn belongs_at(
-    image: &[u8],
-    address: u32,
-    number: u32,
-    ino: u32,
-    place: u32,
-    table_inode: u32,
-) -> bool
-    requires { ⌜ address < cardOf (now image) .blocks ⌝ }
-    ensures { λ r. ⌜ r ≡ belongs number ino place «table_inode» (cardOf (now (image .entry)) .block address) ⌝ }
+// Whether a block ends with the numbers of the node that is asked for.
+pub fn belongs(block: &[u8], number: u32, ino: u32, place: u32, table_inode: u32) -> bool
+    requires { ⌜ length (now block) ≡ 4096 ⌝ }
+    ensures { λ r. ⌜ r ≡ belongs number ino place «table_inode» (now (block .entry)) ⌝ }
 {
-    let block = field::block_at(image, address);
     let own = field::get32(block, 4072);
     let file = field::get32(block, 4076);
     let flag = field::get32(block, 4080);
@@ -98,35 +65,56 @@ pub fn node_step(
     v: checkpoint::Volume,
     nodes: &mut [u8],
     blocks: &mut [u8],
-    nc: usize,
-    bc: usize,
+    counts: walk::Counts,
     number: u32,
     ino: u32,
     place: u32,
 ) -> NodeStep
-    requires { ⌜ Room 1 1 (lent (now nodes) (now blocks) nc bc) ⌝ }
+    requires { ⌜ Fits (imageView (now image) v) (nodeWalk (boundsOf v) number ino place) (lists (now nodes) (now blocks) counts) ⌝ }
     requires { ⌜ VolumeIn (cardOf (now image)) v ⌝ }
-    ensures { λ r. ⌜ Walked (viewOf (cardOf (now (image .entry))) v) (nodeWalk (boundsOf v) number ino place)
-        (lent (now (nodes .entry)) (now (blocks .entry)) nc bc) (foundOf (cardOf (now (image .entry))) (r .found))
-        (lent (now (nodes .exit)) (now (blocks .exit)) (r .nodes) (r .blocks)) ⌝ }
+    ensures { λ r. ⌜ Walked (imageView (now (image .entry)) v) (nodeWalk (boundsOf v) number ino place)
+        (lists (now (nodes .entry)) (now (blocks .entry)) counts) (foundOf (cardOf (now (image .entry))) (r .found))
+        (lists (now (nodes .exit)) (now (blocks .exit)) (r .counts)) ⌝ }
     ensures { λ r. ⌜ FoundIn (cardOf (now (image .entry))) (r .found) ⌝ }
 {
-    let looked = walk::insert(nodes, nc, number);
+    let looked = walk::Counts {
+        nodes: walk::insert(nodes, counts.nodes, number),
+        blocks: counts.blocks,
+    };
     let entry = nat::table_answer(image, v, number);
     let nat::TableAnswer::Entry(table_inode, address) = entry else {
-        return node_came(Found::Stop(9), looked, bc);
+        return NodeStep {
+            found: Found::Stop(9),
+            counts: looked,
+        };
     };
     if address == 0 {
-        return node_came(Found::Stop(9), looked, bc);
+        return NodeStep {
+            found: Found::Stop(9),
+            counts: looked,
+        };
     }
     if !in_main(v, address) {
-        return node_came(Found::Stop(10), looked, bc);
+        return NodeStep {
+            found: Found::Stop(10),
+            counts: looked,
+        };
     }
-    let read = walk::insert(blocks, bc, address);
-    if !belongs_at(image, address, number, ino, place, table_inode) {
-        return node_came(Found::Stop(11), looked, read);
+    let read = walk::Counts {
+        nodes: looked.nodes,
+        blocks: walk::insert(blocks, looked.blocks, address),
+    };
+    let block = field::block_at(image, address);
+    if !belongs(block, number, ino, place, table_inode) {
+        return NodeStep {
+            found: Found::Stop(11),
+            counts: read,
+        };
     }
-    node_came(Found::At(address), looked, read)
+    NodeStep {
+        found: Found::At(address),
+        counts: read,
+    }
 }
 
 // Whether an address stands for a block of zeros.
@@ -142,33 +130,36 @@ fn data_at(
     v: checkpoint::Volume,
     nodes: &mut [u8],
     blocks: &mut [u8],
-    nc: usize,
-    bc: usize,
+    counts: walk::Counts,
     address: u32,
 ) -> DataStep
-    requires { ⌜ Room 0 1 (lent (now nodes) (now blocks) nc bc) ⌝ }
+    requires { ⌜ Fits (imageView (now image) v) (dataWalk (boundsOf v) address) (lists (now nodes) (now blocks) counts) ⌝ }
     requires { ⌜ VolumeIn (cardOf (now image)) v ⌝ }
-    ensures { λ r. ⌜ Walked (viewOf (cardOf (now (image .entry))) v) (dataWalk (boundsOf v) address)
-        (lent (now (nodes .entry)) (now (blocks .entry)) nc bc) (dataOf (cardOf (now (image .entry))) (r .data))
-        (lent (now (nodes .exit)) (now (blocks .exit)) (r .nodes) (r .blocks)) ⌝ }
+    ensures { λ r. ⌜ Walked (imageView (now (image .entry)) v) (dataWalk (boundsOf v) address)
+        (lists (now (nodes .entry)) (now (blocks .entry)) counts) (dataOf (cardOf (now (image .entry))) (r .data))
+        (lists (now (nodes .exit)) (now (blocks .exit)) (r .counts)) ⌝ }
     ensures { λ r. ⌜ DataIn (cardOf (now (image .entry))) (r .data) ⌝ }
 {
     if is_hole(address) {
-        return data_came(Data::Hole, nc, bc);
+        return DataStep {
+            data: Data::Hole,
+            counts,
+        };
     }
     if !in_main(v, address) {
-        return data_came(Data::Stop(13), nc, bc);
+        return DataStep {
+            data: Data::Stop(13),
+            counts,
+        };
     }
-    let read = walk::insert(blocks, bc, address);
-    data_came(Data::At(address), nc, read)
-}
-
-// The number at a byte of the block at an address.
-fn number_at(image: &[u8], address: u32, at: usize) -> u32
-    requires { ⌜ (address < cardOf (now image) .blocks) × (at + 4 ≤ 4096) ⌝ }
-    ensures { λ r. ⌜ r ≡ le32 (cardOf (now (image .entry)) .block address) at ⌝ }
-{
-    field::get32(field::block_at(image, address), at)
+    let read = walk::Counts {
+        nodes: counts.nodes,
+        blocks: walk::insert(blocks, counts.blocks, address),
+    };
+    DataStep {
+        data: Data::At(address),
+        counts: read,
+    }
 }
 
 // From the number in the inode through the nodes that follow it on the way, to the data block.
@@ -177,42 +168,48 @@ fn follow(
     v: checkpoint::Volume,
     nodes: &mut [u8],
     blocks: &mut [u8],
-    nc: usize,
-    bc: usize,
+    counts: walk::Counts,
     ino: u32,
     number: u32,
     way: place::Way,
 ) -> DataStep
-    requires { ⌜ Room 3 4 (lent (now nodes) (now blocks) nc bc) ⌝ }
+    requires { ⌜ Fits (imageView (now image) v) (followWalk (boundsOf v) ino (afterInode way) number) (lists (now nodes) (now blocks) counts) ⌝ }
     requires { ⌜ VolumeIn (cardOf (now image)) v ⌝ }
     requires { ⌜ WayIn (way .steps) (way .length) ⌝ }
-    ensures { λ r. ⌜ Walked (viewOf (cardOf (now (image .entry))) v) (followWalk (boundsOf v) ino (drop 1 (take (way .length) (way .steps))) number)
-        (lent (now (nodes .entry)) (now (blocks .entry)) nc bc) (dataOf (cardOf (now (image .entry))) (r .data))
-        (lent (now (nodes .exit)) (now (blocks .exit)) (r .nodes) (r .blocks)) ⌝ }
+    ensures { λ r. ⌜ Walked (imageView (now (image .entry)) v) (followWalk (boundsOf v) ino (afterInode way) number)
+        (lists (now (nodes .entry)) (now (blocks .entry)) counts) (dataOf (cardOf (now (image .entry))) (r .data))
+        (lists (now (nodes .exit)) (now (blocks .exit)) (r .counts)) ⌝ }
     ensures { λ r. ⌜ DataIn (cardOf (now (image .entry))) (r .data) ⌝ }
 {
     let steps = way.steps;
     let length = way.length as usize;
-    let mut nn = nc;
-    let mut bb = bc;
+    let mut listed = counts;
     let mut next = number;
     let mut i: usize = 1;
     while i < length {
         if next == 0 {
-            return data_came(Data::Hole, nn, bb);
+            return DataStep {
+                data: Data::Hole,
+                counts: listed,
+            };
         }
         let step = steps[i];
-        let came = node_step(image, v, nodes, blocks, nn, bb, next, ino, step.number);
-        nn = came.nodes;
-        bb = came.blocks;
+        let came = node_step(image, v, nodes, blocks, listed, next, ino, step.number);
+        listed = came.counts;
         let found = came.found;
         next = match found {
-            Found::Stop(answer) => return data_came(Data::Stop(answer), nn, bb),
-            Found::At(address) => number_at(image, address, 4 * (step.slot as usize)),
+            Found::Stop(answer) => return DataStep {
+                data: Data::Stop(answer),
+                counts: listed,
+            },
+            Found::At(address) => field::get32(
+                field::block_at(image, address),
+                4 * (step.slot as usize),
+            ),
         };
         i += 1;
     }
-    data_at(image, v, nodes, blocks, nn, bb, next)
+    data_at(image, v, nodes, blocks, listed, next)
 }
 
 // The data block of an index of a file.
@@ -221,31 +218,33 @@ pub fn data_block(
     v: checkpoint::Volume,
     nodes: &mut [u8],
     blocks: &mut [u8],
-    nc: usize,
-    bc: usize,
+    counts: walk::Counts,
     file: File,
     index: u32,
 ) -> DataStep
-    requires { ⌜ Room 3 4 (lent (now nodes) (now blocks) nc bc) ⌝ }
+    requires { ⌜ Fits (imageView (now image) v) (fileBlockWalk (cardOf (now image)) v file index) (lists (now nodes) (now blocks) counts) ⌝ }
     requires { ⌜ VolumeIn (cardOf (now image)) v ⌝ }
-    requires { ⌜ (file .inode < cardOf (now image) .blocks) × (file .addresses ≤ 923) ⌝ }
-    ensures { λ r. ⌜ Walked (viewOf (cardOf (now (image .entry))) v)
-        (blockWalk (boundsOf v) (file .ino) (cardOf (now (image .entry)) .block (file .inode)) (file .addresses) index)
-        (lent (now (nodes .entry)) (now (blocks .entry)) nc bc) (dataOf (cardOf (now (image .entry))) (r .data))
-        (lent (now (nodes .exit)) (now (blocks .exit)) (r .nodes) (r .blocks)) ⌝ }
+    requires { ⌜ FileIn (cardOf (now image)) file ⌝ }
+    ensures { λ r. ⌜ Walked (imageView (now (image .entry)) v) (fileBlockWalk (cardOf (now (image .entry))) v file index)
+        (lists (now (nodes .entry)) (now (blocks .entry)) counts) (dataOf (cardOf (now (image .entry))) (r .data))
+        (lists (now (nodes .exit)) (now (blocks .exit)) (r .counts)) ⌝ }
     ensures { λ r. ⌜ DataIn (cardOf (now (image .entry))) (r .data) ⌝ }
 {
     let way = place::find_way(file.addresses, index);
     if way.length == 0 {
-        return data_came(Data::Hole, nc, bc);
+        return DataStep {
+            data: Data::Hole,
+            counts,
+        };
     }
     let steps = way.steps;
     let first = steps[0];
     let slot = first.slot as usize;
+    let inode = field::block_at(image, file.inode);
     if way.length == 1 {
-        let address = number_at(image, file.inode, 360 + 4 * slot);
-        return data_at(image, v, nodes, blocks, nc, bc, address);
+        let address = field::get32(inode, 360 + 4 * slot);
+        return data_at(image, v, nodes, blocks, counts, address);
     }
-    let number = number_at(image, file.inode, 4052 + 4 * slot);
-    follow(image, v, nodes, blocks, nc, bc, file.ino, number, way)
+    let number = field::get32(inode, 4052 + 4 * slot);
+    follow(image, v, nodes, blocks, counts, file.ino, number, way)
 }

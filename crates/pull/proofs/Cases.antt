@@ -1,13 +1,13 @@
 -- The trees of a file and of the root by cases: no run and no list is named. Then what the code found as what the walk comes to.
--- Assumes nothing.
 use Prim.Native.Nat.{ℕ}
-use mathlib.Core.Path.{_≡_, refl, subst}
+use mathlib.Core.Path.{_≡_, refl}
 use mathlib.Core.Bool.{true, false}
 use mathlib.Core.List.{List}
 use borrow.Author.Tests.{eq-eqb, ne-eqb}
 use Rattle.field.specs.Card.{Card}
-use Rattle.walk.specs.Walk.{View, Walk, done, Outcome, ok, stop, andThen, Lent, Walked}
-use Rattle.walk.proofs.Reached.{reached-start, reached-then, reached-stop, reached-done}
+use Rattle.walk.specs.Walk.{View, Walk, done, Outcome, ok, stop, andThen, Lists, Walked, Fits}
+use Rattle.walk.proofs.Reached.{reached-start, reached-then, reached-stop, reached-done, reached-all}
+use Rattle.walk.proofs.Fits.{fits-at}
 use Rattle.inode.specs.declared.Inode.{Inode}
 use Rattle.inode.specs.Inode.{inodeOf, isDirectory, isRegular, addressesIn, isPast, countIn}
 use Rattle.node.specs.Node.{Bounds}
@@ -16,9 +16,9 @@ use Rattle.node.specs.Found.{dataOf}
 use Rattle.node.specs.declared.Data.{Data}
 use Rattle.node.specs.declared.Data.the-variants as d
 use Rattle.name_hash.specs.Hash.{hashOf}
-use Rattle.directory.specs.Slot.{Wanted, wanted}
+use Rattle.directory.specs.Slot.{wanted}
 use Rattle.directory.specs.Find.{directory, findWalk}
-use Rattle.pull.specs.Walk.{rootIno, counted, atFile, atRoot, rootWalk, blockFound}
+use Rattle.pull.specs.Walk.{rootIno, counted, atFile, atRoot, blockFound}
 
 -- ---- a file, once its inode is read
 module _ (m : Bounds) (index ino : ℕ) (inode : List ℕ) {i : Inode} (read : i ≡ inodeOf inode) where
@@ -36,28 +36,36 @@ module _ (m : Bounds) (index ino : ℕ) (inode : List ℕ) {i : Inode} (read : i
   file-block A count r p a c = rw (← read, r, p, a, c)
 
 -- ---- the root, once its inode is read
-module _ (m : Bounds) (w : Wanted) (inode : List ℕ) {i : Inode} (read : i ≡ inodeOf inode) where
-  pub root-other : isDirectory i ≡ false → atRoot m w inode ≡ done (stop 12)
+module _ (m : Bounds) (name inode : List ℕ) {i : Inode} (read : i ≡ inodeOf inode) where
+  pub root-other : isDirectory i ≡ false → atRoot m name inode ≡ done (stop 12)
   unfolding atRoot
   root-other r = rw (← read, r)
 
-  pub root-empty : isDirectory i ≡ true → i .size ≡ 0 → atRoot m w inode ≡ done (stop 2)
+  pub root-empty : isDirectory i ≡ true → i .size ≡ 0 → atRoot m name inode ≡ done (stop 2)
   unfolding atRoot
   root-empty r z = rw (← read, r, eq-eqb _ _ z)
 
-  pub root-search : (A : ℕ) → isDirectory i ≡ true → (i .size ≡ 0 → ⊥) → A ≡ addressesIn i
-      → atRoot m w inode ≡ findWalk (directory m rootIno inode A) w (i .depth)
+  pub root-search : (A hash : ℕ) → isDirectory i ≡ true → (i .size ≡ 0 → ⊥) → A ≡ addressesIn i → hash ≡ hashOf name
+      → atRoot m name inode ≡ findWalk (directory m rootIno inode A) (wanted hash name) (i .depth)
   unfolding atRoot
-  root-search A r z a = rw (← read, r, ne-eqb _ _ z, a)
+  root-search A hash r z a h = rw (← read, r, ne-eqb _ _ z, a, h)
 
 -- ---- a data block with its count
-pub counted-walked : (card : Card) (found : Data) (count : ℕ) {v : View} {p : Walk (Outcome Fetched)} {s t : Lent}
+pub counted-walked : (card : Card) (found : Data) (count : ℕ) {v : View} {p : Walk (Outcome Fetched)} {s t : Lists}
     → Walked v p s (dataOf card found) t → Walked v (andThen p (counted count)) s (blockFound card found count) t
 counted-walked card d.Hole count left = reached-done (reached-then (counted count) (reached-start _ _ _) left refl)
 counted-walked card (d.At address) count left = reached-done (reached-then (counted count) (reached-start _ _ _) left refl)
 counted-walked card (d.Stop answer) count left = reached-stop (counted count) (reached-start _ _ _) left refl
 
--- ---- the name's hash, under the name of what the code computed
-pub hashed-walked : (m : Bounds) (name : List ℕ) (hash : ℕ) {v : View} {s t : Lent} {x : Outcome ℕ} → hash ≡ hashOf name
-    → Walked v (rootWalk m (wanted hash name)) s x t → Walked v (rootWalk m (wanted (hashOf name) name)) s x t
-hashed-walked m name hash {v} {s} {t} {x} e left = subst (λ (h : ℕ). Walked v (rootWalk m (wanted h name)) s x t) e left
+-- ---- one walk and then another, each done by a function
+module _ {A B : Type 0} {v : View} {p : Walk (Outcome A)} {s t : Lists} {x : Outcome A} (f : A → Walk (Outcome B)) (first : Walked v p s x t) where
+  -- the first stopped, and so do both
+  pub both-stop : {answer : ℕ} → x ≡ stop answer → Walked v (andThen p f) s (stop answer) t
+  both-stop e = reached-stop f (reached-start _ _ _) first e
+
+  -- the first came to a value, so the second goes on
+  pub second-fits : {a : A} → x ≡ ok a → Fits v (andThen p f) s → Fits v (f a) t
+  second-fits e fits = fits-at fits (reached-then f (reached-start _ _ _) first e)
+
+  pub both-walked : {a : A} {y : Outcome B} {u : Lists} → x ≡ ok a → Walked v (f a) t y u → Walked v (andThen p f) s y u
+  both-walked e second = reached-all (reached-then f (reached-start _ _ _) first e) second

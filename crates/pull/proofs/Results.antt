@@ -1,5 +1,4 @@
 -- From a walk over lent lists to a pull's result: every number and every lent byte. Then the call's shape, taken apart.
--- Assumes nothing.
 use Prim.Native.Nat.{ℕ, _*_, _/_, _≤_, _<_}
 use native.Mathlib.Omega.{arith}
 use mathlib.Core.Path.{_≡_, refl, sym, ap, _∙_}
@@ -15,14 +14,15 @@ use Rattle.checkpoint.specs.declared.Volume.{Volume}
 use Rattle.checkpoint.specs.declared.Opening.{Opening}
 use Rattle.checkpoint.specs.Volume.{openedImage}
 use Rattle.name_hash.specs.Name.{isName}
-use Rattle.name_hash.specs.Hash.{hashOf}
-use Rattle.walk.specs.Walk as walk
+use Rattle.walk.specs.declared.Counts.{Counts}
+use Rattle.walk.specs.Walk.{View, viewOf, Outcome, lists, none, Walked, Fits}
+use Rattle.walk.proofs.Fits.{fits-start}
 use Rattle.walk.proofs.Written.{left-value, left-counts, left-nodes, left-blocks}
-use Rattle.node.specs.Node.{boundsOf}
-use Rattle.directory.specs.Slot.{wanted}
+use Rattle.node.specs.Node.{Bounds, boundsOf}
 use Rattle.pull.specs.declared.Pulled.{Pulled}
 use Rattle.pull.specs.Walk.{Block, pullWalk}
-use Rattle.pull.specs.Pull.{Lent, lending, Result, result, lentInShape, callInShape, answerOf, countOf, bufferAfter, refused, written, pullRun, pulledFrom, pulled}
+use Rattle.pull.specs.Pull.{mostNodes, mostBlocks, Lent, lending, Result, result, lentInShape, callInShape}
+use Rattle.pull.specs.Pull.{answerOf, countOf, bufferAfter, refusedPull, written, pullRun, pulledFrom, pulled}
 use Rattle.pull.proofs.Sizes.{pull-within}
 
 -- ---- the lent memory
@@ -31,45 +31,47 @@ module _ (lent : Lent) (h : lentInShape lent ≡ true) where
   unfolding lentInShape
   block-room = needed-eq (λ e. rw e refl) h
 
-  nodes-fit : 179 ≤ length (lent .nodes) / 4
+  nodes-fit : mostNodes ≤ length (lent .nodes) / 4
   unfolding lentInShape
   nodes-fit = needed-le (λ e. rw (e, and-false) refl) h
 
-  blocks-fit : 238 ≤ length (lent .blocks) / 4
+  blocks-fit : mostBlocks ≤ length (lent .blocks) / 4
   unfolding lentInShape
   blocks-fit = needed-le (λ e. rw (e, and-false) refl) h
 
-  pub nodes-room : 4 * 179 ≤ length (lent .nodes)
-  nodes-room = let f = nodes-fit in omega arith
-
-  pub blocks-room : 4 * 238 ≤ length (lent .blocks)
-  blocks-room = let f = blocks-fit in omega arith
+  -- so every pull fits, begun with empty lists: this is where a walk's questions are counted
+  pub pull-fits : (v : View) (m : Bounds) (name : List ℕ) (index : ℕ) → Fits v (pullWalk m name index) (lists (lent .nodes) (lent .blocks) none)
+  pull-fits v m name index =
+      let n = nodes-fit in
+      let b = blocks-fit in
+      fits-start v (pull-within m name index) (omega arith) (omega arith)
 
 -- ---- what a walk leaves
 module _ (card : Card) (v : Volume) (name : List ℕ) (index : ℕ) (lent : Lent) (shape : lentInShape lent ≡ true)
-    {nodes blocks : List ℕ} {n b : ℕ} {x : walk.Outcome Block}
-    (left : walk.Walked (walk.viewOf card v) (pullWalk (boundsOf v) (wanted (hashOf name) name) index) (walk.lent (lent .nodes) (lent .blocks) 0 0) x (walk.lent nodes blocks n b)) where
+    {nodes blocks : List ℕ} {counts : Counts} {x : Outcome Block}
+    (left : Walked (viewOf card v) (pullWalk (boundsOf v) name index) (lists (lent .nodes) (lent .blocks) none) x (lists nodes blocks counts)) where
   pub pull-written : (bytes : (k : ℕ) → getD nodes k 0 < 256) (bytes' : (k : ℕ) → getD blocks k 0 < 256) {block : List ℕ} {answer count : ℕ}
       → answer ≡ answerOf x → count ≡ countOf x → block ≡ bufferAfter x (lent .block)
-      → result (record { answer = answer; «byte_count» = count; «node_count» = n; «block_count» = b }) (lending block nodes blocks) ≡ written (pullRun card v name index) lent
+      → result (record { answer = answer; «byte_count» = count; «node_count» = counts .nodes; «block_count» = counts .blocks })
+      (lending block nodes blocks) ≡ written (pullRun card v name index) lent
   unfolding pullRun
   pull-written f g {block} {answer} {count} p q r =
       let value = left-value left in
-      let counts = left-counts left in
-      let size = pull-within (boundsOf v) (wanted (hashOf name) name) index in
-      let ns = left-nodes left size (nodes-room lent shape) (blocks-room lent shape) f in
-      let bs = left-blocks left size (nodes-room lent shape) (blocks-room lent shape) g in
+      let both = left-counts left in
+      let fits = pull-fits lent shape (viewOf card v) (boundsOf v) name index in
+      let ns = left-nodes left fits f in
+      let bs = left-blocks left fits g in
       let a = p ∙ ap answerOf value in
       let c = q ∙ ap countOf value in
-      let d = r ∙ ap (λ (o : walk.Outcome Block). bufferAfter o (lent .block)) value in
+      let d = r ∙ ap (λ (o : Outcome Block). bufferAfter o (lent .block)) value in
       λ i. record {
-        numbers = record { answer = a i; «byte_count» = c i; «node_count» = counts .0 i; «block_count» = counts .1 i };
+        numbers = record { answer = a i; «byte_count» = c i; «node_count» = both .0 i; «block_count» = both .1 i };
         memory = record { block = d i; nodes = ns i; blocks = bs i };
       }
 
 -- ---- the call
 module _ (image name : List ℕ) (index : ℕ) (lent : Lent) where
-  pub call-refused : callInShape image name lent ≡ false → pulled image name index lent ≡ refused 4 lent
+  pub call-refused : callInShape image name lent ≡ false → pulled image name index lent ≡ refusedPull 4 lent
   unfolding pulled
   call-refused e = rw e
 
@@ -78,11 +80,7 @@ module _ (image name : List ℕ) (index : ℕ) (lent : Lent) where
   unfolding pulled
   call-opens opening e o = rw (e, o)
 
-  -- its three parts
-  pub image-in-shape : callInShape image name lent ≡ true → inShape (length image) ≡ true
-  unfolding callInShape
-  image-in-shape = needed (λ e. rw e refl)
-
+  -- two of its three parts
   pub name-in-shape : callInShape image name lent ≡ true → isName name ≡ true
   unfolding callInShape
   name-in-shape = needed (λ e. rw (e, and-false) refl)

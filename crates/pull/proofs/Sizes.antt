@@ -1,5 +1,5 @@
 -- A pull looks up at most 179 numbers and reads at most 238 blocks, all in the main area; it ends with one of 2, 3, 9 to 14, or
--- with a block that holds 1 to 4,096 of the file's bytes. One pass over the walk shows all of that. Assumes nothing.
+-- with a block that holds 1 to 4,096 of the file's bytes. One pass over the walk shows all of that.
 use Prim.Native.Nat.{ℕ, _≤_}
 use native.Mathlib.Omega.{arith}
 use mathlib.Core.Path.{_≡_, refl}
@@ -13,39 +13,45 @@ use Rattle.inode.proofs.Counting.{count-in-block, few-addresses}
 use Rattle.node.specs.Node.{Bounds, inMain}
 use Rattle.node.specs.Block.{Fetched}
 use Rattle.node.proofs.Sizes.{Small, node-within, block-within}
-use Rattle.directory.specs.Slot.{Wanted}
 use Rattle.directory.specs.Find.{directory}
 use Rattle.directory.proofs.Sizes.{find-within}
+use Rattle.pull.specs.Pull.{mostNodes, mostBlocks}
 use Rattle.pull.specs.Walk.{rootIno, Block, counted, atFile, fileWalk, atRoot, rootWalk, pullWalk}
 
 -- "a byte count 1 to 4,096"
 abbrev pub Counted : Block → Type 0
 Counted b = (1 ≤ b .count) × (b .count ≤ 4096)
 
+-- a walk to a block of a file: at most so much is asked, every block read lies in the main area
+abbrev pub ToBlock : Bounds → ℕ → ℕ → Walk (Outcome Block) → Type 0
+ToBlock m ns bs w = Within (λ b. inMain m b ≡ true) (Ended Counted) ns bs w
+
 module _ (m : Bounds) where
-  at-file-within : (index ino : ℕ) (inode : List ℕ) → Within (λ b. inMain m b ≡ true) (Ended Counted) 3 4 (atFile m index ino inode)
+  at-file-within : (index ino : ℕ) (inode : List ℕ) → ToBlock m 3 4 (atFile m index ino inode)
   unfolding atFile
   at-file-within index ino inode =
       within-choose (isRegular (inodeOf inode))
       (within-if (isPast (inodeOf inode) index) (λ _. ends refl)
-      (λ p. within-then _ (block-within m ino inode (addressesIn (inodeOf inode)) index) (λ f _. ends {ns = 0} {bs = 0} (count-in-block (inodeOf inode) index p))))
+      (λ p.
+      within-then _ (block-within m ino inode (addressesIn (inodeOf inode)) index)
+      (λ f _. ends {ns = 0} {bs = 0} (count-in-block (inodeOf inode) index p))))
       (ends refl)
 
-  pub file-within : (index ino : ℕ) → Within (λ b. inMain m b ≡ true) (Ended Counted) 4 5 (fileWalk m index ino)
+  pub file-within : (index ino : ℕ) → ToBlock m 4 5 (fileWalk m index ino)
   unfolding fileWalk
   file-within index ino = within-then _ (node-within m ino ino 0) (λ inode _. at-file-within index ino inode)
 
-  at-root-within : (w : Wanted) (inode : List ℕ) → Small m 174 232 (atRoot m w inode)
+  at-root-within : (name inode : List ℕ) → Small m 174 232 (atRoot m name inode)
   unfolding atRoot
-  at-root-within w inode =
+  at-root-within name inode =
       within-choose (isDirectory (inodeOf inode))
-      (within-choose (eqb (inodeOf inode .size) 0) (ends refl) (find-within _ w (few-addresses (inodeOf inode)) (inodeOf inode .depth)))
+      (within-choose (eqb (inodeOf inode .size) 0) (ends refl) (find-within _ _ (few-addresses (inodeOf inode)) (inodeOf inode .depth)))
       (ends refl)
 
-  pub root-within : (w : Wanted) → Small m 175 233 (rootWalk m w)
+  pub root-within : (name : List ℕ) → Small m 175 233 (rootWalk m name)
   unfolding rootWalk
-  root-within w = within-then _ (node-within m rootIno rootIno 0) (λ inode _. at-root-within w inode)
+  root-within name = within-then _ (node-within m rootIno rootIno 0) (λ inode _. at-root-within name inode)
 
-  pub pull-within : (w : Wanted) (index : ℕ) → Within (λ b. inMain m b ≡ true) (Ended Counted) 179 238 (pullWalk m w index)
+  pub pull-within : (name : List ℕ) (index : ℕ) → ToBlock m mostNodes mostBlocks (pullWalk m name index)
   unfolding pullWalk
-  pull-within w index = within-then _ (root-within w) (λ ino _. file-within index ino)
+  pull-within name index = within-then _ (root-within name) (λ ino _. file-within index ino)

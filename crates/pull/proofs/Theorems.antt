@@ -15,19 +15,18 @@ use Rattle.checkpoint.specs.declared.Opening.{Opening}
 use Rattle.checkpoint.specs.declared.Opening.the-variants.{Opened, Refused}
 use Rattle.checkpoint.specs.Volume.{openedImage}
 use Rattle.checkpoint.proofs.Inside.{refusals}
-use Rattle.name_hash.specs.Hash.{hashOf}
 use Rattle.walk.specs.Lists.{Rising, AllOf, numbers}
-use Rattle.walk.specs.Walk.{View, viewOf, empty, Walk, run, Outcome, ok, stop, ending, Ended, Within, bind, andThen, AsksNode, AsksBlock}
+use Rattle.walk.specs.Walk.{View, viewOf, empty, Walk, run, Outcome, ok, stop, ending, Ended, bind, andThen, AsksNode, AsksBlock}
 use Rattle.walk.proofs.Runs.{run-rising}
 use Rattle.walk.proofs.Sizes.{few-listed, run-reads, run-value}
 use Rattle.walk.proofs.Asked.{nodes-exact, blocks-exact}
 use Rattle.walk.proofs.Written.{numbers-over}
 use Rattle.node.specs.Node.{boundsOf, inMain, nodeWalk}
 use Rattle.node.specs.Block.{Fetched, hole, held}
-use Rattle.directory.specs.Slot.{wanted}
 use Rattle.pull.specs.Walk.{rootIno, Block, rootWalk, pullWalk}
-use Rattle.pull.specs.Pull.{Lent, Result, callInShape, contentAnswer, answerOf, countOf, bufferAfter, refused, written, pullRun, pulled}
-use Rattle.pull.proofs.Sizes.{Counted, pull-within}
+use Rattle.pull.specs.Pull.{mostNodes, mostBlocks, Lent, Result, callInShape, contentAnswer, answerOf, countOf, bufferAfter}
+use Rattle.pull.specs.Pull.{refusedPull, written, pullRun, pulled}
+use Rattle.pull.proofs.Sizes.{Counted, ToBlock, pull-within}
 use Rattle.pull.proofs.Results.{call-refused, call-opens}
 
 -- the two lists as a pull leaves them, up to their counts
@@ -39,7 +38,7 @@ blocksListed r = numbers (r .memory .blocks) 0 (r .numbers .«block_count»)
 
 -- the walk of a pull on an opened card
 abbrev pub walkOf : Volume → List ℕ → ℕ → Walk (Outcome Block)
-walkOf v name index = pullWalk (boundsOf v) (wanted (hashOf name) name) index
+walkOf v name index = pullWalk (boundsOf v) name index
 
 -- an answer that ends a walk is 2 to 14, and none of 4 to 8
 pub ending-inside : (answer : ℕ) → ending answer ≡ true → (2 ≤ answer) × (answer ≤ 14) × ((answer < 4) ⊎ (8 < answer))
@@ -55,10 +54,10 @@ ending-inside answer h = go (eqb answer 2) refl (eqb answer 3) refl (leb 9 answe
 
 -- ---- the walk's run, on any card
 module _ (card : Card) (v : Volume) (name : List ℕ) (index : ℕ) where
-  size : Within (λ b. inMain (boundsOf v) b ≡ true) (Ended Counted) 179 238 (walkOf v name index)
-  size = pull-within (boundsOf v) (wanted (hashOf name) name) index
+  size : ToBlock (boundsOf v) mostNodes mostBlocks (walkOf v name index)
+  size = pull-within (boundsOf v) name index
 
-  run-few : (length (pullRun card v name index .seen .nodes) ≤ 179) × (length (pullRun card v name index .seen .blocks) ≤ 238)
+  run-few : (length (pullRun card v name index .seen .nodes) ≤ mostNodes) × (length (pullRun card v name index .seen .blocks) ≤ mostBlocks)
   unfolding pullRun
   run-few = few-listed (viewOf card v) (walkOf v name index) size
 
@@ -96,7 +95,7 @@ module _ (card : Card) (v : Volume) (name : List ℕ) (index : ℕ) where
 
 -- A pull is refused with 4 to 8, or the card opens and its walk's result is written.
 pub data Ends (image name : List ℕ) (index : ℕ) (lent : Lent) (r : Result) : Type 0 where
-  refusal : (answer : ℕ) → 4 ≤ answer → answer ≤ 8 → r ≡ refused answer lent → Ends image name index lent r
+  refusal : (answer : ℕ) → 4 ≤ answer → answer ≤ 8 → r ≡ refusedPull answer lent → Ends image name index lent r
   walked : (v : Volume) → callInShape image name lent ≡ true → openedImage image ≡ Opened v
       → r ≡ written (pullRun (cardOf image) v name index) lent → Ends image name index lent r
 
@@ -112,10 +111,10 @@ module _ (image name : List ℕ) (index : ℕ) (lent : Lent) where
       go true e (Opened v) f = walked v e f (call-opens image name index lent (Opened v) e f)
 
   -- "at most 179 and 238"
-  pub counts : (pulled image name index lent .numbers .«node_count» ≤ 179) × (pulled image name index lent .numbers .«block_count» ≤ 238)
+  pub counts : (pulled image name index lent .numbers .«node_count» ≤ mostNodes) × (pulled image name index lent .numbers .«block_count» ≤ mostBlocks)
   counts = go ends
     where
-      go : {r : Result} → Ends image name index lent r → (r .numbers .«node_count» ≤ 179) × (r .numbers .«block_count» ≤ 238)
+      go : {r : Result} → Ends image name index lent r → (r .numbers .«node_count» ≤ mostNodes) × (r .numbers .«block_count» ≤ mostBlocks)
       go (refusal answer p q e) = rw e (omega arith, omega arith)
       go (walked v p q e) = rw e (run-few (cardOf image) v name index)
 

@@ -12,14 +12,19 @@ use Rattle.checkpoint.specs.declared.Opening.{Opening}
 use Rattle.checkpoint.specs.declared.Opening.the-variants.{Opened, Refused}
 use Rattle.checkpoint.specs.Volume.{openedImage}
 use Rattle.name_hash.specs.Name.{isName}
-use Rattle.name_hash.specs.Hash.{hashOf}
 use Rattle.walk.specs.Lists.{over}
 use Rattle.walk.specs.Walk.{viewOf, empty, Ran, run, Outcome, ok, stop}
 use Rattle.node.specs.Node.{boundsOf}
 use Rattle.node.specs.Block.{Fetched, hole, held}
-use Rattle.directory.specs.Slot.{wanted}
 use Rattle.pull.specs.declared.Pulled.{Pulled}
 use Rattle.pull.specs.Walk.{Block, pullWalk}
+
+-- "at most 179 and 238": the most nodes and blocks that a pull lists
+abbrev pub mostNodes : ℕ
+mostNodes = 179
+
+abbrev pub mostBlocks : ℕ
+mostBlocks = 238
 
 -- the memory that a pull is lent: the block buffer, the node list and the block list
 pub record Lent : Type 0 where
@@ -40,7 +45,8 @@ result numbers memory = record { numbers = numbers; memory = memory }
 
 -- "a block buffer of exactly 4,096 bytes, a node list of at least 179 and a block list of at least 238 32-bit numbers"
 unfoldable pub lentInShape : Lent → Bool
-lentInShape lent = eqb (length (lent .block)) 4096 && leb 179 (length (lent .nodes) / 4) && leb 238 (length (lent .blocks) / 4)
+lentInShape lent =
+    eqb (length (lent .block)) 4096 && leb mostNodes (length (lent .nodes) / 4) && leb mostBlocks (length (lent .blocks) / 4)
 
 -- 4, "call out of shape": the image, the name and the lent memory
 unfoldable pub callInShape : List ℕ → List ℕ → Lent → Bool
@@ -70,25 +76,30 @@ bufferAfter (ok b) buffer = contentBytes (b .count) (b .content)
 bufferAfter (stop answer) buffer = buffer
 
 -- "as 4": untouched, and counts 0
-abbrev pub refused : ℕ → Lent → Result
-refused answer lent = result (record { answer = answer; «byte_count» = 0; «node_count» = 0; «block_count» = 0 }) lent
+abbrev pub refusedPull : ℕ → Lent → Result
+refusedPull answer lent = result (record { answer = answer; «byte_count» = 0; «node_count» = 0; «block_count» = 0 }) lent
 
 -- the numbers of a walk, and its lists written
 abbrev pub written : Ran (Outcome Block) → Lent → Result
 written r lent =
     result
-    (record { answer = answerOf (r .value); «byte_count» = countOf (r .value); «node_count» = length (r .seen .nodes); «block_count» = length (r .seen .blocks) })
+    (record {
+      answer = answerOf (r .value);
+      «byte_count» = countOf (r .value);
+      «node_count» = length (r .seen .nodes);
+      «block_count» = length (r .seen .blocks);
+    })
     (lending (bufferAfter (r .value) (lent .block)) (over (r .seen .nodes) (lent .nodes)) (over (r .seen .blocks) (lent .blocks)))
 
 -- the walk of a pull on an opened card
 unfoldable pub pullRun : Card → Volume → List ℕ → ℕ → Ran (Outcome Block)
-pullRun card v name index = run (viewOf card v) empty (pullWalk (boundsOf v) (wanted (hashOf name) name) index)
+pullRun card v name index = run (viewOf card v) empty (pullWalk (boundsOf v) name index)
 
 abbrev pub pulledFrom : Card → Opening → List ℕ → ℕ → Lent → Result
 pulledFrom card (Opened v) name index lent = written (pullRun card v name index) lent
-pulledFrom card (Refused answer) name index lent = refused answer lent
+pulledFrom card (Refused answer) name index lent = refusedPull answer lent
 
 -- "Pull checks 4, 5, 6, 7, 8 in that order, then walks the root, then the file"
 unfoldable pub pulled : List ℕ → List ℕ → ℕ → Lent → Result
 pulled image name index lent =
-    choose (callInShape image name lent) (pulledFrom (cardOf image) (openedImage image) name index lent) (refused 4 lent)
+    choose (callInShape image name lent) (pulledFrom (cardOf image) (openedImage image) name index lent) (refusedPull 4 lent)

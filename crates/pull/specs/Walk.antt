@@ -10,7 +10,8 @@ use Rattle.node.specs.Block.{Fetched, hole, held, blockWalk}
 use Rattle.node.specs.declared.Data.{Data}
 use Rattle.node.specs.declared.Data.the-variants as d
 use Rattle.field.specs.Card.{Card}
-use Rattle.directory.specs.Slot.{Wanted}
+use Rattle.name_hash.specs.Hash.{hashOf}
+use Rattle.directory.specs.Slot.{wanted}
 use Rattle.directory.specs.Find.{directory, findWalk}
 use Rattle.inode.specs.Inode.{inodeOf, isDirectory, isRegular, addressesIn, isPast, countIn}
 
@@ -38,19 +39,19 @@ unfoldable pub fileWalk : Bounds → ℕ → ℕ → Walk (Outcome Block)
 fileWalk m index ino = andThen (inodeWalk m ino) (atFile m index ino)
 
 -- "Then size 0: 2"
-unfoldable pub atRoot : Bounds → Wanted → List ℕ → Walk (Outcome ℕ)
-atRoot m w inode =
+unfoldable pub atRoot : Bounds → List ℕ → List ℕ → Walk (Outcome ℕ)
+atRoot m name inode =
     choose (isDirectory (inodeOf inode))
     (choose (eqb (inodeOf inode .size) 0) (done (stop 2))
-    (findWalk (directory m rootIno inode (addressesIn (inodeOf inode))) w (inodeOf inode .depth)))
+    (findWalk (directory m rootIno inode (addressesIn (inodeOf inode))) (wanted (hashOf name) name) (inodeOf inode .depth)))
     (done (stop 12))
 
 -- the inode number of a name in the root directory
-unfoldable pub rootWalk : Bounds → Wanted → Walk (Outcome ℕ)
-rootWalk m w = andThen (inodeWalk m rootIno) (atRoot m w)
+unfoldable pub rootWalk : Bounds → List ℕ → Walk (Outcome ℕ)
+rootWalk m name = andThen (inodeWalk m rootIno) (atRoot m name)
 
-unfoldable pub pullWalk : Bounds → Wanted → ℕ → Walk (Outcome Block)
-pullWalk m w index = andThen (rootWalk m w) (fileWalk m index)
+unfoldable pub pullWalk : Bounds → List ℕ → ℕ → Walk (Outcome Block)
+pullWalk m name index = andThen (rootWalk m name) (fileWalk m index)
 
 -- what the code found as a block of the file: an address stands for the bytes of its block
 abbrev pub blockFound : Card → Data → ℕ → Outcome Block

@@ -7,14 +7,17 @@ ghost use lib.Dec.{eqb, leb};
 ghost use lib.ListN.{length};
 ghost use Rattle.field.specs.Card.{cardOf};
 ghost use Rattle.checkpoint.specs.Volume.{VolumeIn};
-ghost use Rattle.walk.specs.Walk.{viewOf, lent, Walked, Room};
+ghost use Rattle.walk.specs.Walk.{imageView, lists, none, Walked, Fits};
 ghost use Rattle.node.specs.Node.{boundsOf};
 ghost use Rattle.node.specs.Found.{DataIn};
-ghost use Rattle.directory.specs.Slot.{wanted};
 ghost use Rattle.directory.specs.Find.{entryOf};
-ghost use Rattle.name_hash.specs.Hash.{hashOf};
 ghost use Rattle.pull.specs.Walk.{atFile, fileWalk, blockFound, atRoot, rootWalk, pullWalk};
-ghost use Rattle.pull.specs.Pull.{lending, result, lentInShape, answerOf, countOf, bufferAfter, written, pullRun, pulled};
+ghost use Rattle.pull.specs.Pull.{mostNodes, mostBlocks, lending, result, lentInShape, answerOf, countOf, bufferAfter, written, pullRun, pulled};
+
+// The most nodes and blocks that a pull lists.
+const MOST_NODES: usize = 179;
+
+const MOST_BLOCKS: usize = 238;
 
 // A pull's numbers, as they cross to C.
 #[repr(C)]
@@ -28,131 +31,118 @@ pub struct Pulled {
 // A block of a file, how many of its bytes are the file's, and how many nodes and blocks are listed then.
 struct BlockStep {
     pub data: node::Data,
-    pub count: usize,
-    pub nodes: usize,
-    pub blocks: usize,
-}
-
-fn came(data: node::Data, count: usize, nodes: usize, blocks: usize) -> BlockStep
-    ensures { λ r. ⌜ r ≡ record { «data» = «data»; count = count; nodes = nodes; blocks = blocks } ⌝ }
-{
-    BlockStep {
-        data,
-        count,
-        nodes,
-        blocks,
-    }
-}
-
-fn sought(entry: directory::Entry, nodes: usize, blocks: usize) -> directory::EntryStep
-    ensures { λ r. ⌜ r ≡ record { entry = entry; nodes = nodes; blocks = blocks } ⌝ }
-{
-    directory::EntryStep {
-        entry,
-        nodes,
-        blocks,
-    }
+    pub bytes: usize,
+    pub counts: walk::Counts,
 }
 
 // Block `index` of the file whose inode is the block `at`.
-fn block_of(
+fn block_from_inode(
     image: &[u8],
     v: checkpoint::Volume,
     nodes: &mut [u8],
     blocks: &mut [u8],
-    nc: usize,
-    bc: usize,
+    counts: walk::Counts,
     ino: u32,
     at: u32,
     index: u32,
 ) -> BlockStep
-    requires { ⌜ Room 3 4 (lent (now nodes) (now blocks) nc bc) ⌝ }
+    requires { ⌜ Fits (imageView (now image) v) (atFile (boundsOf v) index ino (cardOf (now image) .block at)) (lists (now nodes) (now blocks) counts) ⌝ }
     requires { ⌜ VolumeIn (cardOf (now image)) v ⌝ }
     requires { ⌜ at < cardOf (now image) .blocks ⌝ }
-    ensures { λ r. ⌜ Walked (viewOf (cardOf (now (image .entry))) v) (atFile (boundsOf v) index ino (cardOf (now (image .entry)) .block at))
-        (lent (now (nodes .entry)) (now (blocks .entry)) nc bc) (blockFound (cardOf (now (image .entry))) (r .data) (r .count))
-        (lent (now (nodes .exit)) (now (blocks .exit)) (r .nodes) (r .blocks)) ⌝ }
-    ensures { λ r. ⌜ DataIn (cardOf (now (image .entry))) (r .data) × (r .count ≤ 4096) ⌝ }
+    ensures { λ r. ⌜ Walked (imageView (now (image .entry)) v) (atFile (boundsOf v) index ino (cardOf (now (image .entry)) .block at))
+        (lists (now (nodes .entry)) (now (blocks .entry)) counts) (blockFound (cardOf (now (image .entry))) (r .data) (r .bytes))
+        (lists (now (nodes .exit)) (now (blocks .exit)) (r .counts)) ⌝ }
+    ensures { λ r. ⌜ DataIn (cardOf (now (image .entry))) (r .data) × (r .bytes ≤ 4096) ⌝ }
 {
-    let i = inode::inode_at(image, at);
+    let i = inode::inode_of(field::block_at(image, at));
     if !inode::is_regular(i) {
-        return came(node::Data::Stop(12), 0, nc, bc);
+        return BlockStep {
+            data: node::Data::Stop(12),
+            bytes: 0,
+            counts,
+        };
     }
     if inode::is_past(i, index) {
-        return came(node::Data::Stop(3), 0, nc, bc);
+        return BlockStep {
+            data: node::Data::Stop(3),
+            bytes: 0,
+            counts,
+        };
     }
-    let count = inode::count_in(i, index);
+    let bytes = inode::count_in(i, index);
     let file = node::File {
         ino,
         inode: at,
         addresses: inode::addresses_in(i),
     };
-    let step = node::data_block(image, v, nodes, blocks, nc, bc, file, index);
+    let step = node::data_block(image, v, nodes, blocks, counts, file, index);
     let data = step.data;
-    came(data, count, step.nodes, step.blocks)
+    let listed = step.counts;
+    BlockStep {
+        data,
+        bytes,
+        counts: listed,
+    }
 }
 
 // Block `index` of the file of an inode number.
-fn file_block(
+fn block_of_file(
     image: &[u8],
     v: checkpoint::Volume,
     nodes: &mut [u8],
     blocks: &mut [u8],
-    nc: usize,
-    bc: usize,
+    counts: walk::Counts,
     ino: u32,
     index: u32,
 ) -> BlockStep
-    requires { ⌜ Room 4 5 (lent (now nodes) (now blocks) nc bc) ⌝ }
+    requires { ⌜ Fits (imageView (now image) v) (fileWalk (boundsOf v) index ino) (lists (now nodes) (now blocks) counts) ⌝ }
     requires { ⌜ VolumeIn (cardOf (now image)) v ⌝ }
-    ensures { λ r. ⌜ Walked (viewOf (cardOf (now (image .entry))) v) (fileWalk (boundsOf v) index ino)
-        (lent (now (nodes .entry)) (now (blocks .entry)) nc bc) (blockFound (cardOf (now (image .entry))) (r .data) (r .count))
-        (lent (now (nodes .exit)) (now (blocks .exit)) (r .nodes) (r .blocks)) ⌝ }
-    ensures { λ r. ⌜ DataIn (cardOf (now (image .entry))) (r .data) × (r .count ≤ 4096) ⌝ }
+    ensures { λ r. ⌜ Walked (imageView (now (image .entry)) v) (fileWalk (boundsOf v) index ino)
+        (lists (now (nodes .entry)) (now (blocks .entry)) counts) (blockFound (cardOf (now (image .entry))) (r .data) (r .bytes))
+        (lists (now (nodes .exit)) (now (blocks .exit)) (r .counts)) ⌝ }
+    ensures { λ r. ⌜ DataIn (cardOf (now (image .entry))) (r .data) × (r .bytes ≤ 4096) ⌝ }
 {
-    let step = node::node_step(image, v, nodes, blocks, nc, bc, ino, ino, 0);
+    let step = node::node_step(image, v, nodes, blocks, counts, ino, ino, 0);
     let found = step.found;
+    let listed = step.counts;
     match found {
-        node::Found::Stop(answer) => came(node::Data::Stop(answer), 0, step.nodes, step.blocks),
-        node::Found::At(at) => block_of(
-            image,
-            v,
-            nodes,
-            blocks,
-            step.nodes,
-            step.blocks,
-            ino,
-            at,
-            index,
-        ),
+        node::Found::Stop(answer) => BlockStep {
+            data: node::Data::Stop(answer),
+            bytes: 0,
+            counts: listed,
+        },
+        node::Found::At(at) => block_from_inode(image, v, nodes, blocks, listed, ino, at, index),
     }
 }
 
 // The inode number of a name in the directory whose inode is the block `at`.
-fn find_in(
+fn find_from_inode(
     image: &[u8],
     v: checkpoint::Volume,
     nodes: &mut [u8],
     blocks: &mut [u8],
-    nc: usize,
-    bc: usize,
+    counts: walk::Counts,
     at: u32,
-    hash: u32,
     name: &[u8],
 ) -> directory::EntryStep
-    requires { ⌜ Room 174 232 (lent (now nodes) (now blocks) nc bc) ⌝ }
+    requires { ⌜ Fits (imageView (now image) v) (atRoot (boundsOf v) (now name) (cardOf (now image) .block at)) (lists (now nodes) (now blocks) counts) ⌝ }
     requires { ⌜ VolumeIn (cardOf (now image)) v ⌝ }
     requires { ⌜ at < cardOf (now image) .blocks ⌝ }
-    ensures { λ r. ⌜ Walked (viewOf (cardOf (now (image .entry))) v) (atRoot (boundsOf v) (wanted hash (now (name .entry))) (cardOf (now (image .entry)) .block at))
-        (lent (now (nodes .entry)) (now (blocks .entry)) nc bc) (entryOf (r .entry))
-        (lent (now (nodes .exit)) (now (blocks .exit)) (r .nodes) (r .blocks)) ⌝ }
+    ensures { λ r. ⌜ Walked (imageView (now (image .entry)) v) (atRoot (boundsOf v) (now (name .entry)) (cardOf (now (image .entry)) .block at))
+        (lists (now (nodes .entry)) (now (blocks .entry)) counts) (entryOf (r .entry)) (lists (now (nodes .exit)) (now (blocks .exit)) (r .counts)) ⌝ }
 {
-    let i = inode::inode_at(image, at);
+    let i = inode::inode_of(field::block_at(image, at));
     if !inode::is_directory(i) {
-        return sought(directory::Entry::Stop(12), nc, bc);
+        return directory::EntryStep {
+            entry: directory::Entry::Stop(12),
+            counts,
+        };
     }
     if i.size == 0 {
-        return sought(directory::Entry::Stop(2), nc, bc);
+        return directory::EntryStep {
+            entry: directory::Entry::Stop(2),
+            counts,
+        };
     }
     let file = node::File {
         ino: 3,
@@ -160,43 +150,33 @@ fn find_in(
         addresses: inode::addresses_in(i),
     };
     let depth = i.depth as usize;
-    directory::find(image, v, nodes, blocks, nc, bc, file, depth, hash, name)
+    let hash = name_hash::hash(name);
+    directory::find(image, v, nodes, blocks, counts, file, depth, hash, name)
 }
 
 // The inode number of a name in the root directory.
-fn find_root(
+fn find_in_root(
     image: &[u8],
     v: checkpoint::Volume,
     nodes: &mut [u8],
     blocks: &mut [u8],
-    hash: u32,
+    counts: walk::Counts,
     name: &[u8],
 ) -> directory::EntryStep
-    requires { ⌜ Room 175 233 (lent (now nodes) (now blocks) 0 0) ⌝ }
+    requires { ⌜ Fits (imageView (now image) v) (rootWalk (boundsOf v) (now name)) (lists (now nodes) (now blocks) counts) ⌝ }
     requires { ⌜ VolumeIn (cardOf (now image)) v ⌝ }
-    ensures { λ r. ⌜ Walked (viewOf (cardOf (now (image .entry))) v) (rootWalk (boundsOf v) (wanted hash (now (name .entry))))
-        (lent (now (nodes .entry)) (now (blocks .entry)) 0 0) (entryOf (r .entry))
-        (lent (now (nodes .exit)) (now (blocks .exit)) (r .nodes) (r .blocks)) ⌝ }
+    ensures { λ r. ⌜ Walked (imageView (now (image .entry)) v) (rootWalk (boundsOf v) (now (name .entry)))
+        (lists (now (nodes .entry)) (now (blocks .entry)) counts) (entryOf (r .entry)) (lists (now (nodes .exit)) (now (blocks .exit)) (r .counts)) ⌝ }
 {
-    let step = node::node_step(image, v, nodes, blocks, 0, 0, 3, 3, 0);
+    let step = node::node_step(image, v, nodes, blocks, counts, 3, 3, 0);
     let found = step.found;
+    let listed = step.counts;
     match found {
-        node::Found::Stop(answer) => sought(
-            directory::Entry::Stop(answer),
-            step.nodes,
-            step.blocks,
-        ),
-        node::Found::At(at) => find_in(
-            image,
-            v,
-            nodes,
-            blocks,
-            step.nodes,
-            step.blocks,
-            at,
-            hash,
-            name,
-        ),
+        node::Found::Stop(answer) => directory::EntryStep {
+            entry: directory::Entry::Stop(answer),
+            counts: listed,
+        },
+        node::Found::At(at) => find_from_inode(image, v, nodes, blocks, listed, at, name),
     }
 }
 
@@ -209,33 +189,27 @@ fn walk_to(
     name: &[u8],
     index: u32,
 ) -> BlockStep
-    requires { ⌜ (716 ≤ length (now nodes)) × (952 ≤ length (now blocks)) ⌝ }
+    requires { ⌜ Fits (imageView (now image) v) (pullWalk (boundsOf v) (now name) index) (lists (now nodes) (now blocks) none) ⌝ }
     requires { ⌜ VolumeIn (cardOf (now image)) v ⌝ }
-    ensures { λ r. ⌜ Walked (viewOf (cardOf (now (image .entry))) v)
-        (pullWalk (boundsOf v) (wanted (hashOf (now (name .entry))) (now (name .entry))) index)
-        (lent (now (nodes .entry)) (now (blocks .entry)) 0 0) (blockFound (cardOf (now (image .entry))) (r .data) (r .count))
-        (lent (now (nodes .exit)) (now (blocks .exit)) (r .nodes) (r .blocks)) ⌝ }
-    ensures { λ r. ⌜ DataIn (cardOf (now (image .entry))) (r .data) × (r .count ≤ 4096) ⌝ }
+    ensures { λ r. ⌜ Walked (imageView (now (image .entry)) v) (pullWalk (boundsOf v) (now (name .entry)) index)
+        (lists (now (nodes .entry)) (now (blocks .entry)) none) (blockFound (cardOf (now (image .entry))) (r .data) (r .bytes))
+        (lists (now (nodes .exit)) (now (blocks .exit)) (r .counts)) ⌝ }
+    ensures { λ r. ⌜ DataIn (cardOf (now (image .entry))) (r .data) × (r .bytes ≤ 4096) ⌝ }
 {
-    let step = find_root(image, v, nodes, blocks, name_hash::hash(name), name);
+    let none = walk::Counts {
+        nodes: 0,
+        blocks: 0,
+    };
+    let step = find_in_root(image, v, nodes, blocks, none, name);
     let entry = step.entry;
+    let listed = step.counts;
     match entry {
-        directory::Entry::Stop(answer) => came(
-            node::Data::Stop(answer),
-            0,
-            step.nodes,
-            step.blocks,
-        ),
-        directory::Entry::Found(ino) => file_block(
-            image,
-            v,
-            nodes,
-            blocks,
-            step.nodes,
-            step.blocks,
-            ino,
-            index,
-        ),
+        directory::Entry::Stop(answer) => BlockStep {
+            data: node::Data::Stop(answer),
+            bytes: 0,
+            counts: listed,
+        },
+        directory::Entry::Found(ino) => block_of_file(image, v, nodes, blocks, listed, ino, index),
     }
 }
 
@@ -263,7 +237,7 @@ fn deliver(image: &[u8], data: node::Data, count: usize, buffer: &mut [u8]) -> D
             }
         }
         node::Data::At(at) => {
-            buffer::put_block(image, at, count, buffer);
+            buffer::put_block(field::block_at(image, at), count, buffer);
             Delivered {
                 answer: 0,
                 count: bytes,
@@ -273,7 +247,7 @@ fn deliver(image: &[u8], data: node::Data, count: usize, buffer: &mut [u8]) -> D
     }
 }
 
-fn refused_with(answer: u32) -> Pulled
+fn refused_pull(answer: u32) -> Pulled
     ensures { λ r. ⌜ r ≡ record { answer = answer; «byte_count» = 0; «node_count» = 0; «block_count» = 0 } ⌝ }
 {
     Pulled {
@@ -286,9 +260,9 @@ fn refused_with(answer: u32) -> Pulled
 
 // Whether the lent memory is of the lengths that a pull takes.
 fn lent_in_shape(block: usize, nodes: usize, blocks: usize) -> bool
-    ensures { λ r. ⌜ r ≡ (eqb block 4096 && leb 179 (nodes / 4) && leb 238 (blocks / 4)) ⌝ }
+    ensures { λ r. ⌜ r ≡ (eqb block 4096 && leb mostNodes (nodes / 4) && leb mostBlocks (blocks / 4)) ⌝ }
 {
-    (block == 4096) & (179 <= nodes / 4) & (238 <= blocks / 4)
+    (block == 4096) & (MOST_NODES <= nodes / 4) & (MOST_BLOCKS <= blocks / 4)
 }
 
 // A pull from an opened card.
@@ -304,16 +278,18 @@ fn pull_opened(
     requires { ⌜ VolumeIn (cardOf (now image)) v ⌝ }
     requires { ⌜ lentInShape (lending (now block) (now nodes) (now blocks)) ≡ true ⌝ }
     ensures { λ r. ⌜ result r (lending (now (block .exit)) (now (nodes .exit)) (now (blocks .exit)))
-        ≡ written (pullRun (cardOf (now (image .entry))) v (now (name .entry)) index) (lending (now (block .entry)) (now (nodes .entry)) (now (blocks .entry))) ⌝ }
+        ≡ written (pullRun (cardOf (now (image .entry))) v (now (name .entry)) index)
+        (lending (now (block .entry)) (now (nodes .entry)) (now (blocks .entry))) ⌝ }
 {
     let step = walk_to(image, v, nodes, blocks, name, index);
     let data = step.data;
-    let done = deliver(image, data, step.count, block);
+    let listed = step.counts;
+    let done = deliver(image, data, step.bytes, block);
     Pulled {
         answer: done.answer,
         byte_count: done.count,
-        node_count: step.nodes as u32,
-        block_count: step.blocks as u32,
+        node_count: listed.nodes as u32,
+        block_count: listed.blocks as u32,
     }
 }
 
@@ -332,10 +308,10 @@ pub fn pull(
     if !(superblock::in_shape(image.len())
         & name_hash::is_name(name)
         & lent_in_shape(block.len(), nodes.len(), blocks.len())) {
-        return refused_with(4);
+        return refused_pull(4);
     }
     match checkpoint::open(image) {
-        checkpoint::Opening::Refused(answer) => refused_with(answer),
+        checkpoint::Opening::Refused(answer) => refused_pull(answer),
         checkpoint::Opening::Opened(v) => pull_opened(image, v, name, index, block, nodes, blocks),
     }
 }

@@ -14,13 +14,11 @@ use Rattle.checkpoint.specs.declared.Opening.{Opening}
 use Rattle.checkpoint.specs.declared.Opening.the-variants.{Opened, Refused}
 use Rattle.checkpoint.proofs.Inside.{refusals}
 use Rattle.checkpoint.specs.Volume.{openedImage}
-use Rattle.name_hash.specs.Hash.{hashOf}
 use Rattle.walk.specs.Lists.{Rising, AllOf, numbers, over}
 use Rattle.walk.specs.Walk.{viewOf, empty, Ran, run, Outcome, ok, stop, Ended}
 use Rattle.walk.proofs.Runs.{agree}
 use Rattle.walk.proofs.Written.{numbers-over, over-inside}
 use Rattle.node.specs.Node.{Bounds, boundsOf, inMain}
-use Rattle.directory.specs.Slot.{wanted}
 use Rattle.pull.specs.Walk.{Block, pullWalk}
 use Rattle.pull.specs.Pull.{Lent, Result, callInShape, contentAnswer, answerOf, bufferAfter, written, pullRun, pulled}
 use Rattle.pull.proofs.Sizes.{Counted}
@@ -90,8 +88,8 @@ pub same-run : (kept : List ℕ) (v : Volume) (fresh : List ℕ) (u : Volume) (n
     → pullRun (cardOf fresh) u name index ≡ pullRun (cardOf kept) v name index
 unfolding pullRun
 same-run kept v fresh u name index same =
-    let w = pullWalk (boundsOf v) (wanted (hashOf name) name) index in
-    ap (λ (m : Bounds). run (viewOf (cardOf fresh) u) empty (pullWalk m (wanted (hashOf name) name) index)) (sym (same .bounds))
+    let w = pullWalk (boundsOf v) name index in
+    ap (λ (m : Bounds). run (viewOf (cardOf fresh) u) empty (pullWalk m name index)) (sym (same .bounds))
     ∙ agree (viewOf (cardOf kept) v) (viewOf (cardOf fresh) u) empty w (same .tables) (same .bytes)
 
 -- the same run, written into any lent memory, is the same pull

@@ -1,16 +1,16 @@
--- Runs of entries in lent bytes: how a search from the end and a shift see them, and what an insertion leaves. Assumes nothing.
+-- Runs of entries in lent bytes: how a search from the end and a shift see them, and what an insertion leaves.
 use Prim.Native.Nat.{ℕ, zero, suc, _+_, _-_, _*_, _≤_, _<_}
 use mathlib.Core.Path.{_≡_, refl, ap, sym, subst, _∙_}
 use mathlib.Core.List.{List, [], _∷_, _++_, append-assoc, append-nil}
 use native.Mathlib.Omega.{arith}
-use lib.ListN.{length, drop}
+use lib.ListN.{length, drop, length-append}
 use lib.Seq.{drop-drop}
 use Rattle.field.specs.Number.{le32}
 use Rattle.walk.specs.declared.Spot.{Spot}
 use Rattle.walk.specs.declared.Spot.the-variants.{Before, Present}
-use Rattle.walk.specs.Lists.{insert, Rising, numbers, Space, Grown, HasInserted}
+use Rattle.walk.specs.Lists.{insert, Rising, numbers, Holds, Grown, HasInserted}
 use Rattle.walk.specs.Insertion.{put32At, Placed, Shifted}
-use Rattle.walk.proofs.Rises.{rising-insert, length-insert, insert-front, insert-last, insert-there, rising-front}
+use Rattle.walk.proofs.Rises.{insert-more, insert-front, insert-last, insert-there, rising-front}
 use Rattle.walk.proofs.Stores.{drop-put, le32-other, le32-put}
 
 -- ---- runs of entries
@@ -56,7 +56,8 @@ numbers-last : (l : List ℕ) (i : ℕ) → 0 < i → numbers l 0 i ≡ numbers 
 numbers-last l i z = let e : i - 1 + 1 ≡ i = omega arith in rw e at (numbers-snoc l (i - 1))
 
 -- two byte lists with the same numbers in a run
-numbers-same : (l m : List ℕ) (i k : ℕ) → ((j : ℕ) → i ≤ j → j < i + k → le32 m (4 * j) ≡ le32 l (4 * j)) → numbers m i k ≡ numbers l i k
+numbers-same : (l m : List ℕ) (i k : ℕ)
+    → ((j : ℕ) → i ≤ j → j < i + k → le32 m (4 * j) ≡ le32 l (4 * j)) → numbers m i k ≡ numbers l i k
 unfolding numbers
 numbers-same l m i zero f = refl
 numbers-same l m i (suc k) f =
@@ -163,6 +164,16 @@ module _ (l : List ℕ) (n x : ℕ) {r : Spot} (place : Placed l n x r) where
     pub spot-within : p ≤ n
     spot-within = before .0
 
+    -- so there is room for one more
+    pub before-room : Holds x l n → 4 * (n + 1) ≤ length l
+    before-room h =
+        let fits = h .room in
+        let within = spot-within in
+        let a = ap length (before .1) ∙ length-append (numbers l 0 p) (x ∷ numbers l p (n - p)) in
+        let b = length-numbers l 0 p in
+        let c = length-numbers l p (n - p) in
+        omega arith
+
     pub inserted-before : {m : List ℕ} → Shifted l p n x m → length m ≡ length l → HasInserted l n x m (n + 1)
     inserted-before s z = record { list = s .list ∙ sym (before .1); grown = record { more = omega arith; rest = s .rest; size = z } }
 
@@ -184,22 +195,11 @@ grown-on {d = d} {l = l} {p = p} {q = q} g h = record {
 }
 
 -- ---- room in a list
-pub space-empty : (k : ℕ) (l : List ℕ) → 4 * k ≤ length l → Space k l 0
-unfolding numbers
-space-empty k l h = record { room = omega arith; rising = tt }
 
-pub space-less : {j k n : ℕ} {l : List ℕ} → j ≤ k → Space k l n → Space j l n
-space-less h s = record { room = omega arith; rising = s .rising }
-
-pub count-inserted : {d l : List ℕ} {n x n' : ℕ} → HasInserted d n x l n' → n' ≤ n + 1
-count-inserted {d = d} {l = l} {n = n} {x = x} {n' = n'} i =
-    let a = length-insert x (numbers d 0 n) in
-    let b : n' ≡ length (insert x (numbers d 0 n)) = sym (length-numbers l 0 n') ∙ ap length (i .list) in
-    omega (arith, length-numbers d 0 n)
-
--- an insertion takes one
-pub space-inserted : {k n x n' : ℕ} {d l : List ℕ} → Space (k + 1) d n → HasInserted d n x l n' → Space k l n'
-space-inserted {n = n} {x = x} {d = d} s i =
-    let c = count-inserted i in
-    let g = i .grown .size in
-    record { room = omega arith; rising = subst Rising (sym (i .list)) (rising-insert x (numbers d 0 n) (s .rising)) }
+-- the numbers that are there lie inside it
+pub holds-inside : {x n : ℕ} {l : List ℕ} → Holds x l n → 4 * n ≤ length l
+holds-inside {x = x} {n = n} {l = l} h =
+    let a = insert-more x (numbers l 0 n) in
+    let b = length-numbers l 0 n in
+    let c = h .room in
+    omega arith

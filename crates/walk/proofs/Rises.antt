@@ -1,5 +1,5 @@
 -- Insertion in a rising list: what holds of all elements after it, that the list still rises, how long it is, and where the new
--- number stands if the list is searched from its end. Assumes nothing.
+-- number stands if the list is searched from its end.
 use Prim.Native.Nat.{ℕ, _+_, _<_, _≤_}
 use native.Mathlib.Omega.{arith}
 use native.Mathlib.Nat.{lt-trans}
@@ -82,6 +82,15 @@ length-insert x [] = rw (insert-nil x) (omega arith)
 length-insert x (y ∷ ys) = go (inserted x y) (length-insert x ys)
   where
     go : Inserted x y → length (insert x ys) ≤ length ys + 1 → length (insert x (y ∷ ys)) ≤ length (y ∷ ys) + 1
+    go (before l e) ih = rw (e ys) (omega arith)
+    go (there q e) ih = rw (e ys) (omega arith)
+    go (after l e) ih = rw (e ys) (omega arith)
+
+pub insert-more : (x : ℕ) (l : List ℕ) → length l ≤ length (insert x l)
+insert-more x [] = rw (insert-nil x) (omega arith)
+insert-more x (y ∷ ys) = go (inserted x y) (insert-more x ys)
+  where
+    go : Inserted x y → length ys ≤ length (insert x ys) → length (y ∷ ys) ≤ length (insert x (y ∷ ys))
     go (before l e) ih = rw (e ys) (omega arith)
     go (there q e) ih = rw (e ys) (omega arith)
     go (after l e) ih = rw (e ys) (omega arith)

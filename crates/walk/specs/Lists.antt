@@ -29,9 +29,9 @@ unfoldable pub numbers : List ℕ → ℕ → ℕ → List ℕ
 numbers l i zero = []
 numbers l i (suc k) = le32 l (4 * i) ∷ numbers l (i + 1) k
 
--- the first n numbers of l rise, and k more fit behind them
-pub record Space (k : ℕ) (l : List ℕ) (n : ℕ) : Type 0 where
-  pub room : 4 * (n + k) ≤ length l
+-- the first n numbers of l rise, and with x among them they fit
+pub record Holds (x : ℕ) (l : List ℕ) (n : ℕ) : Type 0 where
+  pub room : 4 * length (insert x (numbers l 0 n)) ≤ length l
   pub rising : Rising (numbers l 0 n)
 
 -- of d the first n entries were listed; now l is there, n' entries of it are listed, no fewer, and the later ones are untouched

@@ -1,16 +1,18 @@
 -- What a walk over a card means: a tree that asks two kinds of questions, what the node address table says of a node number, and
 -- which bytes a block holds. Run on a card, it gives a value and the two lists of what it asked.
-use Prim.Native.Nat.{ℕ, suc}
+use Prim.Native.Nat.{ℕ, suc, _*_, _≤_}
 use mathlib.Core.Path.{_≡_}
 use mathlib.Core.Logic.{_⊎_}
 use mathlib.Core.Bool.{Bool, true, _&&_, _||_}
 use lib.Dec.{eqb, leb}
 use mathlib.Core.List.{List, []}
-use Rattle.field.specs.Card.{Card}
+use lib.ListN.{length}
+use Rattle.field.specs.Card.{Card, cardOf}
 use Rattle.checkpoint.specs.declared.Volume.{Volume}
 use Rattle.nat.specs.declared.TableAnswer.{TableAnswer}
 use Rattle.nat.specs.Table.{tableAnswer}
-use Rattle.walk.specs.Lists.{insert, numbers, Space, Grown}
+use Rattle.walk.specs.declared.Counts.{Counts}
+use Rattle.walk.specs.Lists.{insert, Rising, numbers, Grown}
 
 -- ---- the tree and its run
 
@@ -21,6 +23,10 @@ pub record View : Type 0 where
 
 abbrev pub viewOf : Card → Volume → View
 viewOf card v = record { table = tableAnswer card v; block = card .block }
+
+-- and an image
+abbrev pub imageView : List ℕ → Volume → View
+imageView image v = viewOf (cardOf image) v
 
 -- the node numbers looked up and the blocks read so far
 pub record Seen : Type 0 where
@@ -108,26 +114,39 @@ andThen w f = bind w (onward f)
 -- ---- walks over lent bytes
 
 -- two lent byte slices, and how many numbers at the front of each are listed
-pub record Lent : Type 0 where
+pub record Lists : Type 0 where
   pub nodes : List ℕ
   pub blocks : List ℕ
-  pub nodeCount : ℕ
-  pub blockCount : ℕ
+  pub counts : Counts
 
-abbrev pub lent : List ℕ → List ℕ → ℕ → ℕ → Lent
-lent nodes blocks n b = record { nodes = nodes; blocks = blocks; nodeCount = n; blockCount = b }
+abbrev pub lists : List ℕ → List ℕ → Counts → Lists
+lists nodes blocks counts = record { nodes = nodes; blocks = blocks; counts = counts }
 
-abbrev pub listed : Lent → Seen
-listed s = record { nodes = numbers (s .nodes) 0 (s .nodeCount); blocks = numbers (s .blocks) 0 (s .blockCount) }
+abbrev pub listed : Lists → Seen
+listed s = record { nodes = numbers (s .nodes) 0 (s .counts .nodes); blocks = numbers (s .blocks) 0 (s .counts .blocks) }
+
+-- nothing is listed yet
+abbrev pub none : Counts
+none = record { nodes = 0; blocks = 0 }
+
+abbrev pub NodesGrown : Lists → Lists → Type 0
+NodesGrown s t = Grown (s .nodes) (s .counts .nodes) (t .nodes) (t .counts .nodes)
+
+abbrev pub BlocksGrown : Lists → Lists → Type 0
+BlocksGrown s t = Grown (s .blocks) (s .counts .blocks) (t .blocks) (t .counts .blocks)
 
 -- What a function that walks w comes to, over the slices s that it was lent: the value x, and the slices as t has them. The two
 -- lists at their front are the run's; all behind them is untouched.
-pub record Walked {A : Type 0} (v : View) (w : Walk A) (s : Lent) (x : A) (t : Lent) : Type 0 where
+pub record Walked {A : Type 0} (v : View) (w : Walk A) (s : Lists) (x : A) (t : Lists) : Type 0 where
   pub came : run v (listed s) w ≡ ran x (listed t)
-  pub nodesGrown : Grown (s .nodes) (s .nodeCount) (t .nodes) (t .nodeCount)
-  pub blocksGrown : Grown (s .blocks) (s .blockCount) (t .blocks) (t .blockCount)
+  pub nodesGrown : NodesGrown s t
+  pub blocksGrown : BlocksGrown s t
 
--- both lists rise, with room for ns more nodes and bs more blocks
-pub record Room (ns bs : ℕ) (s : Lent) : Type 0 where
-  pub forNodes : Space ns (s .nodes) (s .nodeCount)
-  pub forBlocks : Space bs (s .blocks) (s .blockCount)
+abbrev pub BothRise : Seen → Type 0
+BothRise s = Rising (s .nodes) × Rising (s .blocks)
+
+-- What a function that walks w needs of the slices s that it is lent: both lists rise, and as w leaves them they fit.
+pub record Fits {A : Type 0} (v : View) (w : Walk A) (s : Lists) : Type 0 where
+  pub rising : BothRise (listed s)
+  pub forNodes : 4 * length (run v (listed s) w .seen .nodes) ≤ length (s .nodes)
+  pub forBlocks : 4 * length (run v (listed s) w .seen .blocks) ≤ length (s .blocks)

@@ -3,8 +3,14 @@
 ghost use mathlib.Core.Path.{_≡_};
 ghost use Prim.Native.Nat.{_+_, _*_, _≤_};
 ghost use lib.ListN.{length};
-ghost use Rattle.walk.specs.Lists.{Space, HasInserted};
+ghost use Rattle.walk.specs.Lists.{Holds, HasInserted};
 ghost use Rattle.walk.specs.Insertion.{put32At, Placed, Shifted};
+
+// How many nodes and blocks are listed.
+pub struct Counts {
+    pub nodes: usize,
+    pub blocks: usize,
+}
 
 // Where a number goes in a rising list.
 enum Spot {
@@ -25,7 +31,7 @@ fn put32(list: &mut [u8], at: usize, x: u32)
 
 // The search starts at the end, where most numbers go.
 fn find_spot(list: &[u8], count: usize, x: u32) -> Spot
-    requires { ⌜ Space 0 (now list) count ⌝ }
+    requires { ⌜ Holds x (now list) count ⌝ }
     ensures { λ r. ⌜ Placed (now (list .entry)) count x r ⌝ }
 {
     let mut i = count;
@@ -60,7 +66,7 @@ fn shift_in(list: &mut [u8], p: usize, count: usize, x: u32)
 
 // x put in its place among the first `count` numbers, unless it is there: how many there are then.
 pub fn insert(list: &mut [u8], count: usize, x: u32) -> usize
-    requires { ⌜ Space 1 (now list) count ⌝ }
+    requires { ⌜ Holds x (now list) count ⌝ }
     ensures { λ r. ⌜ HasInserted (now (list .entry)) count x (now (list .exit)) r ⌝ }
 {
     match find_spot(list, count, x) {

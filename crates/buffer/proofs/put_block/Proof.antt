@@ -1,25 +1,31 @@
-use mathlib.Core.Path.{refl, sym, _∙_}
+use Prim.Native.Nat.{ℕ}
 use native.Mathlib.Omega.{arith}
-use lib.ListN.{take}
+use mathlib.Core.Path.{_≡_, refl, sym, _∙_}
+use mathlib.Core.List.{List}
+use lib.ListN.{length, take}
 use lib.Seq.{length-take-le}
-use Rattle.field.proofs.Blocks.{length-of-block}
 use Rattle.buffer.proofs.Filling.{filled}
 use borrow.Author.Needs.{needs}
 use Rattle.buffer.proofs.put_block.Statement.{statement}
 use Rattle.buffer.proofs.put_block.Tie as tie
 
-block-at-requires : tie.Need-block-at-requires
-block-at-requires c κs = search needs
+-- what is lent of the block: its first `count` bytes
+abbrev front : tie.Start → List ℕ
+front s = take (s .args .count) (s .args .block .now)
+
+front-length : (s : tie.Start) → length (front s) ≡ s .args .count
+front-length s = length-take-le _ _ (omega arith)
+
+abbrev start-of : tie.After-copy → tie.Start
+start-of k = k .before .before .before .before .before
 
 slice-aggregate-copy : tie.Need-slice-aggregate-copy
-slice-aggregate-copy c =
-    let size = length-of-block _ _ (c .before .before .before .before .pre .0) (c .before .block-at .ensures) in
-    sym (length-take-le _ _ (omega arith))
+slice-aggregate-copy c = sym (front-length (c .before .before .before))
 
 copy-requires : tie.Need-copy-requires
 copy-requires c κs =
-    let size = length-of-block _ _ (c .before .before .before .before .before .pre .0) (c .before .before .block-at .ensures) in
-    rw (length-take-le (c .before .before .before .before .before .args .count) (c .before .before .block-at .result .now) (omega arith)) (omega arith)
+    let s = c .before .before .before .before in
+    rw (front-length s) (omega arith)
 
 sub-clear : tie.Need-sub-clear
 sub-clear c = search needs
@@ -38,18 +44,16 @@ same-length c = search needs
 
 returns : tie.Need-returns
 returns c =
-    let s = c .before .before .before .before .before .before .before .before .before .before .before .before in
-    let block = c .before .before .before .before .before .before .before .before .before .block-at .result .now in
-    let size = length-of-block _ _ (s .pre .0) (c .before .before .before .before .before .before .before .before .before .block-at .ensures) in
-    let front = length-take-le (s .args .count) block (omega arith) in
-    filled (take (s .args .count) block) (s .args .buffer .now) (s .args .count) front (omega arith) (c .before .before .before .before .before .before .copy .ensures .1) (c .before .before .clear .ensures)
-    ∙ rw (s .pre .2, c .before .before .before .before .before .before .before .before .before .block-at .ensures)
+    let cleared = c .before .before in
+    let copied = cleared .before .before .before .before in
+    let s = start-of copied in
+    filled (front s) (s .args .buffer .now) (s .args .count) (front-length s) (omega arith) (copied .copy .ensures .1) (cleared .clear .ensures)
+    ∙ rw (s .pre .2)
 
 pub put-block-spec : {M : Type 1} → statement M
 put-block-spec =
     tie.close
     (tie.spec
-    block-at-requires
     slice-aggregate-copy
     copy-requires
     sub-clear

@@ -1,4 +1,4 @@
--- `directory::blocks_in` meets its contract. Assumes nothing.
+-- `directory::blocks_in` meets its contract.
 use mathlib.Core.Path.{sym}
 use Rattle.directory.proofs.Levels.{blocks-low, blocks-high}
 use Rattle.directory.proofs.blocks_in.Statement.{statement}

@@ -1,4 +1,4 @@
--- `directory::buckets_in` meets its contract: a shift by less than 31 loses no bit. Assumes nothing.
+-- `directory::buckets_in` meets its contract: a shift by less than 31 loses no bit.
 use Prim.Native.Nat.{_*_, _^_, _<_}
 use native.Mathlib.Omega.{arith}
 use native.Mathlib.Nat.{mod-eq-of-lt}

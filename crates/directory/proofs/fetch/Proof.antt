@@ -1,4 +1,4 @@
--- `directory::fetch` meets its contract: an index past the last asks nothing. Assumes nothing.
+-- `fetch` meets its contract: an index past the last asks nothing.
 use Rattle.walk.proofs.Reached.{reached-start, reached-to, reached-done}
 use Rattle.directory.specs.Find.{fetchWalk}
 use Rattle.directory.proofs.Sizes.{fetch-past}
@@ -20,9 +20,10 @@ cast-data-block : tie.Need-cast-data-block
 cast-data-block c = search needs
 
 data-block-requires : tie.Need-data-block-requires
+unfolding fetchWalk
 data-block-requires c κs =
-    let r = c .before .before .before .before .before .before .before .pre in
-    (r .0 (c .before .before .if1 .left), r .1)
+    let s = c .before .before .before .before .before .before .before in
+    s .pre
 
 same-length : tie.Need-same-length
 same-length c = search needs

@@ -1,127 +1,163 @@
--- `directory::find` meets its contract: the loops over levels and over the blocks of a bucket by the laws of their invariants in
--- `Turns`, the loop over slots by those in `Slots`. The slices keep their lengths, as each walk's outcome says.
--- Assumes nothing.
+-- `find` meets its contract. The loop over levels: what is left of the search is the levels from this one on. The loop over blocks:
+-- what is left of the level is its bucket from block k on. The loop over slots: what is left of the block is its slots from this one
+-- on. The laws of the first two are in `Turns`, those of the third in `Slots`. The slices keep their lengths, as each walk says.
 use Prim.Native.Nat.{ℕ, _+_, _-_, _≤_, _<_}
 use native.Mathlib.Omega.{arith}
 use mathlib.Core.Path.{_≡_, sym, ap, subst, _∙_}
 use mathlib.Core.List.{List}
 use borrow.Author.Needs.{needs}
-use Rattle.field.specs.Card.{cardOf}
+use Rattle.field.specs.Card.{Card, cardOf}
 use Rattle.field.proofs.Blocks.{length-of-block}
-use Rattle.walk.specs.Walk.{viewOf, lent, ok}
-use Rattle.node.specs.Node.{boundsOf}
+use Rattle.walk.specs.Walk.{imageView, lists, ok}
 use Rattle.node.specs.Block.{held}
 use Rattle.node.specs.Found.{dataOf, DataIn}
 use Rattle.directory.specs.declared.Level.{Level}
 use Rattle.directory.specs.Slot.{wanted}
 use Rattle.directory.specs.Level.{blocksOf, bucketOf}
-use Rattle.directory.specs.Find.{directory}
-use Rattle.directory.proofs.Slots.{other-bounds, Seeking, seeking-start, seeking-free, seeking-other, seeking-found, seeking-malformed, seeking-end}
+use Rattle.directory.specs.Find.{directoryOf}
+use Rattle.directory.proofs.Slots.{other-bounds, Seeking, seeking-start, seeking-free, seeking-other, seeking-end}
+use Rattle.directory.proofs.Slots.{seeking-found, seeking-malformed}
 use Rattle.directory.proofs.Levels.{blocks-few, bucket-small}
-use Rattle.directory.proofs.Turns.{Levels, levels-start, levels-next, levels-out, levels-end, Bucket, bucket-start, bucket-room, bucket-stop, bucket-hole, bucket-absent, bucket-found, bucket-malformed}
+use Rattle.directory.proofs.Turns.{Levels, levels-start, levels-next, levels-out, levels-end, block-fits}
+use Rattle.directory.proofs.Turns.{Bucket, bucket-start, bucket-stop, bucket-hole, bucket-absent, bucket-found, bucket-malformed}
 use Rattle.directory.proofs.find.Statement.{statement}
 use Rattle.directory.proofs.find.Tie as tie
 
 abbrev Inv-slots : tie.InvT-slots
-Inv-slots image v nodes blocks nc bc file depth hash name nn bb level first here count bucket k at block slot₀ slot =
+Inv-slots image v nodes blocks file depth hash name listed level first here count bucket k at block slot₀ slot =
     Seeking block (wanted hash name) slot
 
 abbrev μ-slots : tie.MeasureT-slots
-μ-slots image v nodes blocks nc bc file depth hash name nn bb level first here count bucket k at block slot₀ slot =
+μ-slots image v nodes blocks file depth hash name listed level first here count bucket k at block slot₀ slot =
     214 - slot
 
 abbrev Inv-bucket : tie.InvT-bucket
-Inv-bucket image v nodes₀ blocks₀ nc bc file depth hash name nn₀ bb₀ level first here count bucket k₀ nodes blocks nn bb k =
-    Bucket (viewOf (cardOf image) v) (directory (boundsOf v) (file .ino) (cardOf image .block (file .inode)) (file .addresses)) (wanted hash name) depth level
-    (lent nodes₀ blocks₀ nn₀ bb₀) k (lent nodes blocks nn bb)
+Inv-bucket image v nodes₀ blocks₀ file depth hash name listed₀ level first here count bucket k₀ nodes blocks listed k =
+    Bucket (imageView image v) (directoryOf (cardOf image) v file) (wanted hash name) depth level
+    (lists nodes₀ blocks₀ listed₀) k (lists nodes blocks listed)
 
 abbrev μ-bucket : tie.MeasureT-bucket
-μ-bucket image v nodes₀ blocks₀ nc bc file depth hash name nn₀ bb₀ level first here count bucket k₀ nodes blocks nn bb k =
+μ-bucket image v nodes₀ blocks₀ file depth hash name listed₀ level first here count bucket k₀ nodes blocks listed k =
     count - k
 
 abbrev Inv-levels : tie.InvT-levels
-Inv-levels image v nodes₀ blocks₀ nc bc file depth hash name nn₀ bb₀ level₀ first₀ nodes blocks nn bb level first =
-    Levels (viewOf (cardOf image) v) (directory (boundsOf v) (file .ino) (cardOf image .block (file .inode)) (file .addresses)) (wanted hash name) depth
-    (lent nodes₀ blocks₀ nc bc) level first (lent nodes blocks nn bb)
+Inv-levels image v nodes₀ blocks₀ file depth hash name listed₀ level₀ first₀ nodes blocks listed level first =
+    Levels (imageView image v) (directoryOf (cardOf image) v file) (wanted hash name) depth
+    (lists nodes₀ blocks₀ listed₀) level first (lists nodes blocks listed)
 
 abbrev μ-levels : tie.MeasureT-levels
-μ-levels image v nodes₀ blocks₀ nc bc file depth hash name nn₀ bb₀ level₀ first₀ nodes blocks nn bb level first =
+μ-levels image v nodes₀ blocks₀ file depth hash name listed₀ level₀ first₀ nodes blocks listed level first =
     depth - level
 
--- a turn's block and its index, in the meaning's terms
-more-of : (k : tie.In-bucket Inv-slots μ-slots Inv-bucket μ-bucket Inv-levels μ-levels) → k .before .bucket .k < blocksOf (k .before .before .before .before .levels .level)
-more-of k = subst (λ (n : ℕ). k .before .bucket .k < n) (ap (λ (l : Level). l .count) (k .before .before .level-at .ensures)) (k .bucket-test .taken)
+-- ---- the places on the way
 
-index-of : (k : tie.In-bucket Inv-slots μ-slots Inv-bucket μ-bucket Inv-levels μ-levels) → k .before .before .level-at .result .bucket + k .before .bucket .k ≡ bucketOf (k .before .before .before .before .levels .level) (k .before .before .before .before .before .before .before .before .before .args .hash) + k .before .bucket .k
-index-of k = ap (λ (l : Level). l .bucket + k .before .bucket .k) (k .before .before .level-at .ensures)
+-- a turn of the loop over blocks, the level that it is in, and the start
+abbrev level-of : tie.In-bucket Inv-slots μ-slots Inv-bucket μ-bucket Inv-levels μ-levels → tie.After-level-at Inv-slots μ-slots Inv-bucket μ-bucket Inv-levels μ-levels
+level-of b = b .before .before
+
+abbrev within-of : tie.In-bucket Inv-slots μ-slots Inv-bucket μ-bucket Inv-levels μ-levels → tie.Else1 Inv-slots μ-slots Inv-bucket μ-bucket Inv-levels μ-levels
+within-of b = level-of b .before
+
+abbrev levels-of : tie.In-bucket Inv-slots μ-slots Inv-bucket μ-bucket Inv-levels μ-levels → tie.At-levels Inv-slots μ-slots Inv-bucket μ-bucket Inv-levels μ-levels
+levels-of b = within-of b .before
+
+abbrev start-of : tie.In-bucket Inv-slots μ-slots Inv-bucket μ-bucket Inv-levels μ-levels → tie.Start Inv-slots μ-slots Inv-bucket μ-bucket Inv-levels μ-levels
+start-of b = levels-of b .before .before .before .before .before
+
+-- a block was fetched, and held by the index; its slots are searched
+abbrev fetch-of : tie.After-listed Inv-slots μ-slots Inv-bucket μ-bucket Inv-levels μ-levels → tie.After-fetch Inv-slots μ-slots Inv-bucket μ-bucket Inv-levels μ-levels
+fetch-of l = l .before .before .before .before .before
+
+abbrev turn-of : tie.After-listed Inv-slots μ-slots Inv-bucket μ-bucket Inv-levels μ-levels → tie.In-bucket Inv-slots μ-slots Inv-bucket μ-bucket Inv-levels μ-levels
+turn-of l = fetch-of l .before .before .before
+
+abbrev listed-of : tie.After-block-at Inv-slots μ-slots Inv-bucket μ-bucket Inv-levels μ-levels → tie.After-listed Inv-slots μ-slots Inv-bucket μ-bucket Inv-levels μ-levels
+listed-of k = k .before .before .before .before
+
+abbrev block-of : tie.In-slots Inv-slots μ-slots Inv-bucket μ-bucket Inv-levels μ-levels → tie.After-block-at Inv-slots μ-slots Inv-bucket μ-bucket Inv-levels μ-levels
+block-of k = k .before .before
+
+-- ---- what is known there
+abbrev card-of : tie.In-bucket Inv-slots μ-slots Inv-bucket μ-bucket Inv-levels μ-levels → Card
+card-of b = cardOf (start-of b .args .image .now)
+
+more : (b : tie.In-bucket Inv-slots μ-slots Inv-bucket μ-bucket Inv-levels μ-levels) → b .before .bucket .k < blocksOf (levels-of b .levels .level)
+more b = subst (λ (n : ℕ). b .before .bucket .k < n) (ap (λ (l : Level). l .count) (level-of b .level-at .ensures)) (b .bucket-test .taken)
+
+-- the index of the turn's block
+index : (b : tie.In-bucket Inv-slots μ-slots Inv-bucket μ-bucket Inv-levels μ-levels) → let k = b .before .bucket .k in
+    level-of b .level-at .result .bucket + k ≡ bucketOf (levels-of b .levels .level) (start-of b .args .hash) + k
+index b = ap (λ (l : Level). l .bucket + b .before .bucket .k) (level-of b .level-at .ensures)
 
 -- the block that was fetched lies in the card
-in-card : (k : tie.After-data2 Inv-slots μ-slots Inv-bucket μ-bucket Inv-levels μ-levels) → k .data2 .given .0 .0 < cardOf (k .before .before .before .before .before .before .before .before .before .before .before .before .before .before .before .before .before .before .args .image .now) .blocks
-in-card k = subst (DataIn (cardOf (k .before .before .before .before .before .before .before .before .before .before .before .before .before .before .before .before .before .before .args .image .now))) (k .data2 .given .1) (k .before .before .before .before .before .before .fetch .ensures .1)
+in-card : (k : tie.After-data2 Inv-slots μ-slots Inv-bucket μ-bucket Inv-levels μ-levels) → k .data2 .given .0 .0 < card-of (turn-of (k .before .before)) .blocks
+in-card k =
+    let l = k .before .before in
+    subst (DataIn (card-of (turn-of l))) (k .data2 .given .1) (fetch-of l .fetch .ensures .1)
 
 -- and is the one whose slots are searched
-held-of : (k : tie.After-block-at Inv-slots μ-slots Inv-bucket μ-bucket Inv-levels μ-levels) → dataOf (cardOf (k .before .before .before .before .before .before .before .before .before .before .before .before .before .before .before .before .before .before .before .before .args .image .now)) (k .before .before .before .before .before .before .before .before .fetch .result .data) ≡ ok (held (k .block-at .result .now))
-held-of k = ap (dataOf (cardOf (k .before .before .before .before .before .before .before .before .before .before .before .before .before .before .before .before .before .before .before .before .args .image .now))) (k .before .before .data2 .given .1) ∙ ap (λ (l : List ℕ). ok (held l)) (sym (k .block-at .ensures))
+held-of : (k : tie.After-block-at Inv-slots μ-slots Inv-bucket μ-bucket Inv-levels μ-levels) → let l = listed-of k in
+    dataOf (card-of (turn-of l)) (fetch-of l .fetch .result .data) ≡ ok (held (k .block-at .result .now))
+held-of k =
+    ap (dataOf (card-of (turn-of (listed-of k)))) (k .before .before .data2 .given .1) ∙ ap (λ (l : List ℕ). ok (held l)) (sym (k .block-at .ensures))
 
 -- another entry has a slot at least, and ends before the block does
-passed-within : (k : tie.After-passed Inv-slots μ-slots Inv-bucket μ-bucket Inv-levels μ-levels) → (1 ≤ k .passed .given .0 .0) × (k .before .before .before .before .slots .slot + k .passed .given .0 .0 ≤ 214)
+passed-within : (k : tie.After-passed Inv-slots μ-slots Inv-bucket μ-bucket Inv-levels μ-levels) → let slot = k .before .before .before .before .slots .slot in let n = k .passed .given .0 .0 in
+    (1 ≤ n) × (slot + n ≤ 214)
 passed-within k = other-bounds _ _ _ _ (sym (k .passed .given .1) ∙ k .before .before .slot-at .ensures)
+
+-- ---- the needs
 
 levels-holds : tie.Need-levels-holds Inv-slots μ-slots Inv-bucket μ-bucket Inv-levels μ-levels
 levels-holds c =
-    levels-start _ _ _ (c .before .before .before .before .pre .0)
+    levels-start _ _ _
 
-level-at-requires :
-    tie.Need-level-at-requires Inv-slots μ-slots Inv-bucket μ-bucket Inv-levels μ-levels
+level-at-requires : tie.Need-level-at-requires Inv-slots μ-slots Inv-bucket μ-bucket Inv-levels μ-levels
 level-at-requires c κs =
     (omega arith, c .before .levels .inv .starts)
 
 bucket-holds : tie.Need-bucket-holds Inv-slots μ-slots Inv-bucket μ-bucket Inv-levels μ-levels
 bucket-holds c =
-    bucket-start (c .before .before .levels .inv)
+    bucket-start _ _ _ _
 
 add-fetch : tie.Need-add-fetch Inv-slots μ-slots Inv-bucket μ-bucket Inv-levels μ-levels
 add-fetch c =
-    let small = bucket-small (c .before .before .before .before .before .before .levels .level) (c .before .before .before .before .before .before .before .before .before .before .before .args .hash) (omega arith) in
-    let few = blocks-few (c .before .before .before .before .before .before .levels .level) in
-    let more = more-of (c .before .before) in
-    let index = index-of (c .before .before) in
+    let b = c .before .before in
+    let small = bucket-small (levels-of b .levels .level) (start-of b .args .hash) (omega arith) in
+    let few = blocks-few (levels-of b .levels .level) in
+    let below = more b in
+    let at = index b in
     omega arith
 
 fetch-requires : tie.Need-fetch-requires Inv-slots μ-slots Inv-bucket μ-bucket Inv-levels μ-levels
 fetch-requires c κs =
-    let known = c .before .before .before .before .before .before .before .before .before .before .before .pre .1 in
-    (bucket-room (c .before .before .before .bucket .inv) (more-of (c .before .before)) (known .1 .1) (index-of (c .before .before)), (known .0, (known .1 .0, known .1 .1)))
+    let b = c .before .before in
+    let known = start-of b .pre in
+    (block-fits (levels-of b .levels .inv) (within-of b .if1 .left) (b .before .bucket .inv) (more b) (index b) (known .0), (known .1 .0, known .1 .1 .0))
 
 add-k : tie.Need-add-k Inv-slots μ-slots Inv-bucket μ-bucket Inv-levels μ-levels
-add-k c =
-    search needs
+add-k c = search needs
 
 enum-told : tie.Need-enum-told Inv-slots μ-slots Inv-bucket μ-bucket Inv-levels μ-levels
-enum-told c =
-    search needs
+enum-told c = search needs
 
 bucket-less : tie.Need-bucket-less Inv-slots μ-slots Inv-bucket μ-bucket Inv-levels μ-levels
-bucket-less c =
-    search needs
+bucket-less c = search needs
 
 bucket-again : tie.Need-bucket-again Inv-slots μ-slots Inv-bucket μ-bucket Inv-levels μ-levels
 bucket-again c =
-    bucket-hole (c .before .before .before .before .before .before .before .before .before .before .bucket .inv) (more-of (c .before .before .before .before .before .before .before .before .before)) (index-of (c .before .before .before .before .before .before .before .before .before)) (c .before .before .before .before .before .before .fetch .ensures .0) (c .before .before .before .before .before .before .before .before .before .before .before .before .before .before .before .before .before .before .pre .1 .1 .1)
-    (ap (dataOf (cardOf (c .before .before .before .before .before .before .before .before .before .before .before .before .before .before .before .before .before .before .args .image .now))) (c .enum-told .given .1))
+    let l = c .before .before in
+    let b = turn-of l in
+    let told = ap (dataOf (card-of b)) (c .enum-told .given .1) in
+    bucket-hole (b .before .bucket .inv) (more b) (index b) (fetch-of l .fetch .ensures .0) told
 
-enum-known-data :
-    tie.Need-enum-known-data Inv-slots μ-slots Inv-bucket μ-bucket Inv-levels μ-levels
-enum-known-data c =
-    search needs
+enum-known-data : tie.Need-enum-known-data Inv-slots μ-slots Inv-bucket μ-bucket Inv-levels μ-levels
+enum-known-data c = search needs
 
-enum-known-data-2 :
-    tie.Need-enum-known-data-2 Inv-slots μ-slots Inv-bucket μ-bucket Inv-levels μ-levels
-enum-known-data-2 c =
-    search needs
+enum-known-data-2 : tie.Need-enum-known-data-2 Inv-slots μ-slots Inv-bucket μ-bucket Inv-levels μ-levels
+enum-known-data-2 c = search needs
 
-block-at-requires :
-    tie.Need-block-at-requires Inv-slots μ-slots Inv-bucket μ-bucket Inv-levels μ-levels
+block-at-requires : tie.Need-block-at-requires Inv-slots μ-slots Inv-bucket μ-bucket Inv-levels μ-levels
 block-at-requires c κs =
     in-card (c .before)
 
@@ -130,43 +166,40 @@ slots-holds c =
     seeking-start _ _
 
 bucket-less-2 : tie.Need-bucket-less-2 Inv-slots μ-slots Inv-bucket μ-bucket Inv-levels μ-levels
-bucket-less-2 c =
-    search needs
+bucket-less-2 c = search needs
 
 bucket-again-2 : tie.Need-bucket-again-2 Inv-slots μ-slots Inv-bucket μ-bucket Inv-levels μ-levels
 bucket-again-2 c =
-    bucket-absent (c .before .before .before .before .before .before .before .before .before .before .before .before .before .before .bucket .inv) (more-of (c .before .before .before .before .before .before .before .before .before .before .before .before .before)) (index-of (c .before .before .before .before .before .before .before .before .before .before .before .before .before)) (c .before .before .before .before .before .before .before .before .before .before .fetch .ensures .0) (c .before .before .before .before .before .before .before .before .before .before .before .before .before .before .before .before .before .before .before .before .before .before .pre .1 .1 .1)
-    (held-of (c .before .before)) (seeking-end (c .before .slots .inv) (c .slots-test .left))
+    let k = c .before .before in
+    let l = listed-of k in
+    let b = turn-of l in
+    bucket-absent (b .before .bucket .inv) (more b) (index b) (fetch-of l .fetch .ensures .0) (held-of k) (seeking-end (c .before .slots .inv) (c .slots-test .left))
 
-slot-at-requires :
-    tie.Need-slot-at-requires Inv-slots μ-slots Inv-bucket μ-bucket Inv-levels μ-levels
+slot-at-requires : tie.Need-slot-at-requires Inv-slots μ-slots Inv-bucket μ-bucket Inv-levels μ-levels
 slot-at-requires c κs =
-    (length-of-block _ _ (in-card (c .before .before .before .before)) (c .before .before .block-at .ensures), c .slots-test .taken)
+    let k = block-of c in
+    (length-of-block _ _ (in-card (k .before .before)) (k .block-at .ensures), c .slots-test .taken)
 
 enum-told-2 : tie.Need-enum-told-2 Inv-slots μ-slots Inv-bucket μ-bucket Inv-levels μ-levels
-enum-told-2 c =
-    search needs
+enum-told-2 c = search needs
 
 add-slot : tie.Need-add-slot Inv-slots μ-slots Inv-bucket μ-bucket Inv-levels μ-levels
-add-slot c =
-    search needs
+add-slot c = search needs
 
 slots-less : tie.Need-slots-less Inv-slots μ-slots Inv-bucket μ-bucket Inv-levels μ-levels
-slots-less c =
-    search needs
+slots-less c = search needs
 
 slots-again : tie.Need-slots-again Inv-slots μ-slots Inv-bucket μ-bucket Inv-levels μ-levels
 slots-again c =
-    seeking-free (c .before .before .before .before .slots .inv) (c .before .before .before .slots-test .taken) (sym (c .enum-told2 .given .1) ∙ c .before .before .slot-at .ensures)
+    let s = c .before .before in
+    let slot = s .before in
+    seeking-free (slot .before .slots .inv) (slot .slots-test .taken) (sym (c .enum-told2 .given .1) ∙ s .slot-at .ensures)
 
 enum-known-ino : tie.Need-enum-known-ino Inv-slots μ-slots Inv-bucket μ-bucket Inv-levels μ-levels
-enum-known-ino c =
-    search needs
+enum-known-ino c = search needs
 
-enum-known-passed :
-    tie.Need-enum-known-passed Inv-slots μ-slots Inv-bucket μ-bucket Inv-levels μ-levels
-enum-known-passed c =
-    search needs
+enum-known-passed : tie.Need-enum-known-passed Inv-slots μ-slots Inv-bucket μ-bucket Inv-levels μ-levels
+enum-known-passed c = search needs
 
 add-slot-2 : tie.Need-add-slot-2 Inv-slots μ-slots Inv-bucket μ-bucket Inv-levels μ-levels
 add-slot-2 c =
@@ -178,74 +211,88 @@ slots-less-2 c =
 
 slots-again-2 : tie.Need-slots-again-2 Inv-slots μ-slots Inv-bucket μ-bucket Inv-levels μ-levels
 slots-again-2 c =
-    seeking-other (c .before .before .before .before .before .slots .inv) (c .before .before .before .before .slots-test .taken) (sym (c .before .passed .given .1) ∙ c .before .before .before .slot-at .ensures)
+    let s = c .before .before .before in
+    let slot = s .before in
+    seeking-other (slot .before .slots .inv) (slot .slots-test .taken) (sym (c .before .passed .given .1) ∙ s .slot-at .ensures)
 
 enum-told-3 : tie.Need-enum-told-3 Inv-slots μ-slots Inv-bucket μ-bucket Inv-levels μ-levels
-enum-told-3 c =
-    search needs
+enum-told-3 c = search needs
 
 add-level : tie.Need-add-level Inv-slots μ-slots Inv-bucket μ-bucket Inv-levels μ-levels
-add-level c =
-    search needs
+add-level c = search needs
 
 levels-less : tie.Need-levels-less Inv-slots μ-slots Inv-bucket μ-bucket Inv-levels μ-levels
-levels-less c =
-    search needs
+levels-less c = search needs
 
 levels-again : tie.Need-levels-again Inv-slots μ-slots Inv-bucket μ-bucket Inv-levels μ-levels
 levels-again c =
-    let is = c .before .before .level-at .ensures in
+    let level = c .before .before in
+    let within = level .before in
+    let is = level .level-at .ensures in
     let over = subst (λ (n : ℕ). n ≤ c .before .bucket .k) (ap (λ (l : Level). l .count) is) (c .bucket-test .left) in
-    levels-next (c .before .before .before .before .levels .inv) (c .before .before .before .if1 .left) (c .before .bucket .inv) over (ap (λ (l : Level). l .after) is)
+    levels-next (within .before .levels .inv) (within .if1 .left) (c .before .bucket .inv) over (ap (λ (l : Level). l .after) is)
 
 same-length : tie.Need-same-length Inv-slots μ-slots Inv-bucket μ-bucket Inv-levels μ-levels
-same-length c =
-    search needs
+same-length c = search needs
 
 same-length-2 : tie.Need-same-length-2 Inv-slots μ-slots Inv-bucket μ-bucket Inv-levels μ-levels
-same-length-2 c =
-    search needs
+same-length-2 c = search needs
 
 returns : tie.Need-returns Inv-slots μ-slots Inv-bucket μ-bucket Inv-levels μ-levels
 returns c =
     levels-end (c .before .levels .inv) (c .if1 .taken)
 
 same-length-3 : tie.Need-same-length-3 Inv-slots μ-slots Inv-bucket μ-bucket Inv-levels μ-levels
-same-length-3 c =
-    search needs
+same-length-3 c = search needs
 
 same-length-4 : tie.Need-same-length-4 Inv-slots μ-slots Inv-bucket μ-bucket Inv-levels μ-levels
-same-length-4 c =
-    search needs
+same-length-4 c = search needs
 
 returns-2 : tie.Need-returns-2 Inv-slots μ-slots Inv-bucket μ-bucket Inv-levels μ-levels
 returns-2 c =
-    levels-out (c .before .before .before .before .before .before .before .before .before .before .before .before .before .before .levels .inv) (c .before .before .before .before .before .before .before .before .before .before .before .before .before .if1 .left)
-    (bucket-stop (c .before .before .before .before .before .before .before .before .before .before .before .bucket .inv) (more-of (c .before .before .before .before .before .before .before .before .before .before)) (index-of (c .before .before .before .before .before .before .before .before .before .before)) (c .before .before .before .before .before .before .before .fetch .ensures .0) (ap (dataOf (cardOf (c .before .before .before .before .before .before .before .before .before .before .before .before .before .before .before .before .before .before .before .args .image .now))) (c .before .«data» .given .1)))
+    let l = c .before .before .before in
+    let b = turn-of l in
+    let told = ap (dataOf (card-of b)) (c .before .«data» .given .1) in
+    levels-out (levels-of b .levels .inv) (within-of b .if1 .left)
+    (bucket-stop (b .before .bucket .inv) (more b) (index b) (fetch-of l .fetch .ensures .0) told)
 
 returns-3 : tie.Need-returns-3 Inv-slots μ-slots Inv-bucket μ-bucket Inv-levels μ-levels
 returns-3 c =
-    levels-out (c .before .before .before .before .before .before .before .before .before .before .before .before .before .before .before .before .before .before .before .before .before .levels .inv) (c .before .before .before .before .before .before .before .before .before .before .before .before .before .before .before .before .before .before .before .before .if1 .left)
-    (bucket-found (c .before .before .before .before .before .before .before .before .before .before .before .before .before .before .before .before .before .before .bucket .inv) (more-of (c .before .before .before .before .before .before .before .before .before .before .before .before .before .before .before .before .before)) (index-of (c .before .before .before .before .before .before .before .before .before .before .before .before .before .before .before .before .before)) (c .before .before .before .before .before .before .before .before .before .before .before .before .before .before .fetch .ensures .0) (held-of (c .before .before .before .before .before .before))
-    (seeking-found (c .before .before .before .before .before .slots .inv) (c .before .before .before .before .slots-test .taken) (sym (c .before .ino .given .1) ∙ c .before .before .before .slot-at .ensures)))
+    let s = c .before .before .before in
+    let slot = s .before in
+    let k = block-of slot in
+    let l = listed-of k in
+    let b = turn-of l in
+    let told = seeking-found (slot .before .slots .inv) (slot .slots-test .taken) (sym (c .before .ino .given .1) ∙ s .slot-at .ensures) in
+    levels-out (levels-of b .levels .inv) (within-of b .if1 .left)
+    (bucket-found (b .before .bucket .inv) (more b) (index b) (fetch-of l .fetch .ensures .0) (held-of k) told)
 
 returns-4 : tie.Need-returns-4 Inv-slots μ-slots Inv-bucket μ-bucket Inv-levels μ-levels
 returns-4 c =
-    levels-out (c .before .before .before .before .before .before .before .before .before .before .before .before .before .before .before .before .before .before .before .before .levels .inv) (c .before .before .before .before .before .before .before .before .before .before .before .before .before .before .before .before .before .before .before .if1 .left)
-    (bucket-malformed (c .before .before .before .before .before .before .before .before .before .before .before .before .before .before .before .before .before .bucket .inv) (more-of (c .before .before .before .before .before .before .before .before .before .before .before .before .before .before .before .before)) (index-of (c .before .before .before .before .before .before .before .before .before .before .before .before .before .before .before .before)) (c .before .before .before .before .before .before .before .before .before .before .before .before .before .fetch .ensures .0) (held-of (c .before .before .before .before .before))
-    (seeking-malformed (c .before .before .before .before .slots .inv) (c .before .before .before .slots-test .taken) (sym (c .enum-told3 .given .1) ∙ c .before .before .slot-at .ensures)))
+    let s = c .before .before in
+    let slot = s .before in
+    let k = block-of slot in
+    let l = listed-of k in
+    let b = turn-of l in
+    let told = seeking-malformed (slot .before .slots .inv) (slot .slots-test .taken) (sym (c .enum-told3 .given .1) ∙ s .slot-at .ensures) in
+    levels-out (levels-of b .levels .inv) (within-of b .if1 .left)
+    (bucket-malformed (b .before .bucket .inv) (more b) (index b) (fetch-of l .fetch .ensures .0) (held-of k) told)
 
 same-length-5 : tie.Need-same-length-5 Inv-slots μ-slots Inv-bucket μ-bucket Inv-levels μ-levels
-same-length-5 c = returns-3 c .nodesGrown .size
+same-length-5 c =
+    returns-3 c .nodesGrown .size
 
 same-length-6 : tie.Need-same-length-6 Inv-slots μ-slots Inv-bucket μ-bucket Inv-levels μ-levels
-same-length-6 c = returns-3 c .blocksGrown .size
+same-length-6 c =
+    returns-3 c .blocksGrown .size
 
 same-length-7 : tie.Need-same-length-7 Inv-slots μ-slots Inv-bucket μ-bucket Inv-levels μ-levels
-same-length-7 c = returns-4 c .nodesGrown .size
+same-length-7 c =
+    returns-4 c .nodesGrown .size
 
 same-length-8 : tie.Need-same-length-8 Inv-slots μ-slots Inv-bucket μ-bucket Inv-levels μ-levels
-same-length-8 c = returns-4 c .blocksGrown .size
+same-length-8 c =
+    returns-4 c .blocksGrown .size
 
 pub find-spec : {M : Type 1} → statement M
 find-spec =

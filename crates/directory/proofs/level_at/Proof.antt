@@ -1,4 +1,4 @@
--- `directory::level_at` meets its contract: the sums fit, and the level after starts where this one ends. Assumes nothing.
+-- `directory::level_at` meets its contract: the sums fit, and the level after starts where this one ends.
 use Prim.Native.Nat.{_*_, _%_, _^_, _<_, _≤_}
 use native.Mathlib.Omega.{arith}
 use borrow.Author.Needs.{needs}

@@ -1,4 +1,4 @@
--- `directory::slot_at` meets its contract: each return is one case of a slot's meaning. Assumes nothing.
+-- `directory::slot_at` meets its contract: each return is one case of a slot's meaning.
 use native.Mathlib.Omega.{arith}
 use mathlib.Core.Path.{_≡_, sym, _∙_}
 use borrow.Author.Needs.{needs}

@@ -1,14 +1,39 @@
-use mathlib.Core.Path.{_≡_, refl, sym, ap, _∙_}
-use denote.Ref.{now}
-use mathlib.Core.Bool.{_&&_}
+-- `pull` meets its contract: out of shape, refused by the opening, or walked.
+use mathlib.Core.Path.{_≡_, sym, ap, _∙_}
+use mathlib.Core.Bool.{true, _&&_}
 use borrow.Author.Tests.{not-true, not-false}
 use Rattle.checkpoint.proofs.Inside.{image-volume}
 use Rattle.pull.specs.declared.Pulled.{Pulled}
-use Rattle.pull.specs.Pull.{lending, result, lentInShape, callInShape}
+use Rattle.pull.specs.Pull.{Lent, lending, result, lentInShape, callInShape}
 use Rattle.pull.proofs.Results.{call-refused, call-opens, lent-shape}
 use borrow.Author.Needs.{needs}
 use Rattle.pull.proofs.pull.Statement.{statement}
 use Rattle.pull.proofs.pull.Tie as tie
+
+-- ---- the places on the way
+abbrev start-of : tie.After-lent-in-shape → tie.Start
+start-of k = k .before .before .before .before .before .before .before .before
+
+abbrev lent-of : tie.Start → Lent
+lent-of s = lending (s .args .block .now) (s .args .nodes .now) (s .args .blocks .now)
+
+-- the call is in shape, and the image was opened
+abbrev begun : tie.After-open → tie.Start
+begun k = start-of (k .before .before)
+
+abbrev opened-of : tie.After-v → tie.After-open
+opened-of k = k .before .before
+
+-- ---- what is known there
+tested : (k : tie.After-lent-in-shape) → let s = start-of k in
+    callInShape (s .args .image .now) (s .args .name .now) (lent-of s) ≡ (k .before .before .in-shape .result && k .before .is-name .result && k .lent-in-shape .result)
+unfolding callInShape lentInShape
+tested k = rw (← k .before .before .in-shape .ensures, ← k .before .is-name .ensures, ← k .lent-in-shape .ensures)
+
+in-shape : (k : tie.After-open) → let s = begun k in callInShape (s .args .image .now) (s .args .name .now) (lent-of s) ≡ true
+in-shape k = tested (k .before .before) ∙ not-false _ (k .before .if1 .left)
+
+-- ---- the needs
 
 in-shape-requires : tie.Need-in-shape-requires
 in-shape-requires c κs = search needs
@@ -19,14 +44,15 @@ is-name-requires c κs = search needs
 lent-in-shape-requires : tie.Need-lent-in-shape-requires
 lent-in-shape-requires c κs = search needs
 
-refused-with-requires : tie.Need-refused-with-requires
-refused-with-requires c κs = search needs
+refused-pull-requires : tie.Need-refused-pull-requires
+refused-pull-requires c κs = search needs
 
 returns : tie.Need-returns
-unfolding callInShape lentInShape
 returns c =
-    let said : callInShape (now (c .before .before .before .before .before .before .before .before .before .before .args .image)) (now (c .before .before .before .before .before .before .before .before .before .before .args .name)) (lending (now (c .before .before .before .before .before .before .before .before .before .before .args .block)) (now (c .before .before .before .before .before .before .before .before .before .before .args .nodes)) (now (c .before .before .before .before .before .before .before .before .before .before .args .blocks))) ≡ (c .before .before .before .before .in-shape .result && c .before .before .before .is-name .result && c .before .before .lent-in-shape .result) = rw (← c .before .before .before .before .in-shape .ensures, ← c .before .before .before .is-name .ensures, ← c .before .before .lent-in-shape .ensures) in
-    ap (λ (p : Pulled). result p (lending (now (c .before .before .before .before .before .before .before .before .before .before .args .block)) (now (c .before .before .before .before .before .before .before .before .before .before .args .nodes)) (now (c .before .before .before .before .before .before .before .before .before .before .args .blocks)))) (c .refused-with .ensures) ∙ sym (call-refused (now (c .before .before .before .before .before .before .before .before .before .before .args .image)) (now (c .before .before .before .before .before .before .before .before .before .before .args .name)) (c .before .before .before .before .before .before .before .before .before .before .args .index) (lending (now (c .before .before .before .before .before .before .before .before .before .before .args .block)) (now (c .before .before .before .before .before .before .before .before .before .before .args .nodes)) (now (c .before .before .before .before .before .before .before .before .before .before .args .blocks))) (said ∙ not-true _ (c .before .if1 .taken)))
+    let k = c .before .before in
+    let s = start-of k in
+    let out = tested k ∙ not-true _ (c .before .if1 .taken) in
+    ap (λ (p : Pulled). result p (lent-of s)) (c .refused-pull .ensures) ∙ sym (call-refused (s .args .image .now) (s .args .name .now) (s .args .index) (lent-of s) out)
 
 open-requires : tie.Need-open-requires
 open-requires c κs = search needs
@@ -34,23 +60,27 @@ open-requires c κs = search needs
 enum-known-answer : tie.Need-enum-known-answer
 enum-known-answer c = search needs
 
-refused-with-requires-2 : tie.Need-refused-with-requires-2
-refused-with-requires-2 c κs = search needs
+refused-pull-requires-2 : tie.Need-refused-pull-requires-2
+refused-pull-requires-2 c κs = search needs
 
 enum-known-v : tie.Need-enum-known-v
 enum-known-v c = search needs
 
 pull-opened-requires : tie.Need-pull-opened-requires
-unfolding callInShape lentInShape
 pull-opened-requires c κs =
-    let said : callInShape (now (c .before .before .before .before .before .before .before .before .before .before .before .before .before .before .before .before .args .image)) (now (c .before .before .before .before .before .before .before .before .before .before .before .before .before .before .before .before .args .name)) (lending (now (c .before .before .before .before .before .before .before .before .before .before .before .before .before .before .before .before .args .block)) (now (c .before .before .before .before .before .before .before .before .before .before .before .before .before .before .before .before .args .nodes)) (now (c .before .before .before .before .before .before .before .before .before .before .before .before .before .before .before .before .args .blocks))) ≡ (c .before .before .before .before .before .before .before .before .before .before .in-shape .result && c .before .before .before .before .before .before .before .before .before .is-name .result && c .before .before .before .before .before .before .before .before .lent-in-shape .result) = rw (← c .before .before .before .before .before .before .before .before .before .before .in-shape .ensures, ← c .before .before .before .before .before .before .before .before .before .is-name .ensures, ← c .before .before .before .before .before .before .before .before .lent-in-shape .ensures) in
-    (image-volume _ _ (sym (c .before .before .before .before .before .before .«open» .ensures) ∙ c .before .before .before .before .v .given .1), lent-shape (now (c .before .before .before .before .before .before .before .before .before .before .before .before .before .before .before .before .args .image)) (now (c .before .before .before .before .before .before .before .before .before .before .before .before .before .before .before .before .args .name)) (c .before .before .before .before .before .before .before .before .before .before .before .before .before .before .before .before .args .index) (lending (now (c .before .before .before .before .before .before .before .before .before .before .before .before .before .before .before .before .args .block)) (now (c .before .before .before .before .before .before .before .before .before .before .before .before .before .before .before .before .args .nodes)) (now (c .before .before .before .before .before .before .before .before .before .before .before .before .before .before .before .before .args .blocks))) (said ∙ not-false _ (c .before .before .before .before .before .before .before .if1 .left)))
+    let k = c .before .before .before .before in
+    let o = opened-of k in
+    let s = begun o in
+    (image-volume _ _ (sym (o .«open» .ensures) ∙ k .v .given .1), lent-shape (s .args .image .now) (s .args .name .now) (s .args .index) (lent-of s) (in-shape o))
 
 returns-2 : tie.Need-returns-2
-unfolding callInShape lentInShape
 returns-2 c =
-    let said : callInShape (now (c .before .before .before .before .before .before .before .before .before .before .before .before .before .before .args .image)) (now (c .before .before .before .before .before .before .before .before .before .before .before .before .before .before .args .name)) (lending (now (c .before .before .before .before .before .before .before .before .before .before .before .before .before .before .args .block)) (now (c .before .before .before .before .before .before .before .before .before .before .before .before .before .before .args .nodes)) (now (c .before .before .before .before .before .before .before .before .before .before .before .before .before .before .args .blocks))) ≡ (c .before .before .before .before .before .before .before .before .in-shape .result && c .before .before .before .before .before .before .before .is-name .result && c .before .before .before .before .before .before .lent-in-shape .result) = rw (← c .before .before .before .before .before .before .before .before .in-shape .ensures, ← c .before .before .before .before .before .before .before .is-name .ensures, ← c .before .before .before .before .before .before .lent-in-shape .ensures) in
-    ap (λ (p : Pulled). result p (lending (now (c .before .before .before .before .before .before .before .before .before .before .before .before .before .before .args .block)) (now (c .before .before .before .before .before .before .before .before .before .before .before .before .before .before .args .nodes)) (now (c .before .before .before .before .before .before .before .before .before .before .before .before .before .before .args .blocks)))) (c .refused-with2 .ensures) ∙ sym (call-opens (now (c .before .before .before .before .before .before .before .before .before .before .before .before .before .before .args .image)) (now (c .before .before .before .before .before .before .before .before .before .before .before .before .before .before .args .name)) (c .before .before .before .before .before .before .before .before .before .before .before .before .before .before .args .index) (lending (now (c .before .before .before .before .before .before .before .before .before .before .before .before .before .before .args .block)) (now (c .before .before .before .before .before .before .before .before .before .before .before .before .before .before .args .nodes)) (now (c .before .before .before .before .before .before .before .before .before .before .before .before .before .before .args .blocks))) _ (said ∙ not-false _ (c .before .before .before .before .before .if1 .left)) (sym (c .before .before .before .before .«open» .ensures) ∙ c .before .before .answer .given .1))
+    let k = c .before .before in
+    let o = k .before .before in
+    let s = begun o in
+    let opens = sym (o .«open» .ensures) ∙ k .answer .given .1 in
+    ap (λ (p : Pulled). result p (lent-of s)) (c .refused-pull2 .ensures)
+    ∙ sym (call-opens (s .args .image .now) (s .args .name .now) (s .args .index) (lent-of s) _ (in-shape o) opens)
 
 same-length : tie.Need-same-length
 same-length c = search needs
@@ -62,10 +92,13 @@ same-length-3 : tie.Need-same-length-3
 same-length-3 c = search needs
 
 returns-3 : tie.Need-returns-3
-unfolding callInShape lentInShape
 returns-3 c =
-    let said : callInShape (now (c .before .before .before .before .before .before .before .before .before .before .before .before .before .before .before .before .before .before .before .before .before .before .before .args .image)) (now (c .before .before .before .before .before .before .before .before .before .before .before .before .before .before .before .before .before .before .before .before .before .before .before .args .name)) (lending (now (c .before .before .before .before .before .before .before .before .before .before .before .before .before .before .before .before .before .before .before .before .before .before .before .args .block)) (now (c .before .before .before .before .before .before .before .before .before .before .before .before .before .before .before .before .before .before .before .before .before .before .before .args .nodes)) (now (c .before .before .before .before .before .before .before .before .before .before .before .before .before .before .before .before .before .before .before .before .before .before .before .args .blocks))) ≡ (c .before .before .before .before .before .before .before .before .before .before .before .before .before .before .before .before .before .in-shape .result && c .before .before .before .before .before .before .before .before .before .before .before .before .before .before .before .before .is-name .result && c .before .before .before .before .before .before .before .before .before .before .before .before .before .before .before .lent-in-shape .result) = rw (← c .before .before .before .before .before .before .before .before .before .before .before .before .before .before .before .before .before .in-shape .ensures, ← c .before .before .before .before .before .before .before .before .before .before .before .before .before .before .before .before .is-name .ensures, ← c .before .before .before .before .before .before .before .before .before .before .before .before .before .before .before .lent-in-shape .ensures) in
-    c .before .before .before .before .before .before .pull-opened .ensures ∙ sym (call-opens (now (c .before .before .before .before .before .before .before .before .before .before .before .before .before .before .before .before .before .before .before .before .before .before .before .args .image)) (now (c .before .before .before .before .before .before .before .before .before .before .before .before .before .before .before .before .before .before .before .before .before .before .before .args .name)) (c .before .before .before .before .before .before .before .before .before .before .before .before .before .before .before .before .before .before .before .before .before .before .before .args .index) (lending (now (c .before .before .before .before .before .before .before .before .before .before .before .before .before .before .before .before .before .before .before .before .before .before .before .args .block)) (now (c .before .before .before .before .before .before .before .before .before .before .before .before .before .before .before .before .before .before .before .before .before .before .before .args .nodes)) (now (c .before .before .before .before .before .before .before .before .before .before .before .before .before .before .before .before .before .before .before .before .before .before .before .args .blocks))) _ (said ∙ not-false _ (c .before .before .before .before .before .before .before .before .before .before .before .before .before .before .if1 .left)) (sym (c .before .before .before .before .before .before .before .before .before .before .before .before .before .«open» .ensures) ∙ c .before .before .before .before .before .before .before .before .before .before .before .v .given .1))
+    let end = c .before .before .before .before .before .before in
+    let k = end .before .before .before .before .before in
+    let o = opened-of k in
+    let s = begun o in
+    let opens = sym (o .«open» .ensures) ∙ k .v .given .1 in
+    end .pull-opened .ensures ∙ sym (call-opens (s .args .image .now) (s .args .name .now) (s .args .index) (lent-of s) _ (in-shape o) opens)
 
 pub pull-spec : {M : Type 1} → statement M
 pull-spec =
@@ -74,11 +107,11 @@ pull-spec =
     in-shape-requires
     is-name-requires
     lent-in-shape-requires
-    refused-with-requires
+    refused-pull-requires
     returns
     open-requires
     enum-known-answer
-    refused-with-requires-2
+    refused-pull-requires-2
     enum-known-v
     pull-opened-requires
     returns-2

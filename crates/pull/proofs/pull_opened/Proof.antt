@@ -1,27 +1,42 @@
+-- `pull_opened` meets its contract: what the walk left, and what was delivered, is what is written.
 use native.Mathlib.Omega.{arith}
-use Rattle.walk.proofs.Reached.{walked-count}
+use Rattle.walk.proofs.Written.{left-few}
 use Rattle.pull.proofs.Sizes.{pull-within}
-use Rattle.pull.proofs.Results.{block-room, nodes-room, blocks-room, pull-written}
+use Rattle.pull.proofs.Results.{block-room, pull-fits, pull-written}
 use borrow.Author.Needs.{needs}
 use Rattle.pull.proofs.pull_opened.Statement.{statement}
 use Rattle.pull.proofs.pull_opened.Tie as tie
 
+-- ---- the places on the way
+abbrev walked-of : tie.After-listed → tie.After-walk-to
+walked-of l = l .before .before .before .before .before
+
+abbrev start-of : tie.After-listed → tie.Start
+start-of l = walked-of l .before .before .before .before .before .before .before .before
+
+abbrev listed-of : tie.After-block → tie.After-listed
+listed-of k = k .before .before .before
+
+-- ---- the needs
+
 walk-to-requires : tie.Need-walk-to-requires
 walk-to-requires c κs =
-    ((nodes-room _ (c .before .before .before .before .before .before .before .pre .1), blocks-room _ (c .before .before .before .before .before .before .before .pre .1)), c .before .before .before .before .before .before .before .pre .0)
+    let s = c .before .before .before .before .before .before .before in
+    (pull-fits _ (s .pre .1) _ _ _ _, s .pre .0)
 
 deliver-requires : tie.Need-deliver-requires
 deliver-requires c κs =
-    (c .before .before .before .before .before .walk-to .ensures .1, block-room _ (c .before .before .before .before .before .before .before .before .before .before .before .before .before .pre .1))
-
-cast-t17 : tie.Need-cast-t17
-cast-t17 c =
-    let few = walked-count (pull-within _ _ _) (c .before .before .before .before .before .before .before .before .before .walk-to .ensures .0) in
-    omega arith
+    let l = c .before in
+    (walked-of l .walk-to .ensures .1, block-room _ (start-of l .pre .1))
 
 cast-t18 : tie.Need-cast-t18
 cast-t18 c =
-    let few = walked-count (pull-within _ _ _) (c .before .before .before .before .before .before .before .before .before .before .walk-to .ensures .0) in
+    let few = left-few (walked-of (listed-of (c .before .before)) .walk-to .ensures .0) (pull-within _ _ _) in
+    omega arith
+
+cast-t19 : tie.Need-cast-t19
+cast-t19 c =
+    let few = left-few (walked-of (listed-of (c .before .before .before)) .walk-to .ensures .0) (pull-within _ _ _) in
     omega arith
 
 same-length : tie.Need-same-length
@@ -35,7 +50,12 @@ same-length-3 c = search needs
 
 returns : tie.Need-returns
 returns c =
-    pull-written _ _ _ _ _ (c .before .before .before .before .before .before .before .before .before .before .before .before .before .before .before .before .before .before .pre .1) (c .before .before .before .before .before .before .before .before .before .before .walk-to .ensures .0) (λ k. c .before .before .before .before .before .before .before .before .slice-known4 .given k .fits) (λ k. c .before .before .before .before .before .before .slice-known5 .given k .fits) (c .before .before .before .before .deliver .ensures .0) (c .before .before .before .before .deliver .ensures .1) (c .before .before .before .before .deliver .ensures .2)
+    let k = c .before .before .before in
+    let put = k .before .deliver .ensures in
+    let l = listed-of k in
+    let node-bytes = l .before .before .before .slice-known4 .given in
+    let block-bytes = l .before .slice-known5 .given in
+    pull-written _ _ _ _ _ (start-of l .pre .1) (walked-of l .walk-to .ensures .0) (λ k. node-bytes k .fits) (λ k. block-bytes k .fits) (put .0) (put .1) (put .2)
 
 pub pull-opened-spec : {M : Type 1} → statement M
 pull-opened-spec =
@@ -43,8 +63,8 @@ pull-opened-spec =
     (tie.spec
     walk-to-requires
     deliver-requires
-    cast-t17
     cast-t18
+    cast-t19
     same-length
     same-length-2
     same-length-3

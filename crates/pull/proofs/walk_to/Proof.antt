@@ -1,33 +1,46 @@
-use mathlib.Core.Path.{refl, ap}
+-- `walk_to` meets its contract: the name in the root, then the block of the file.
 use native.Mathlib.Omega.{arith}
-use Rattle.walk.proofs.Reached.{reached-start, reached-all, reached-then, reached-stop, walked-room, room-start}
+use mathlib.Core.Path.{ap}
+use Rattle.walk.proofs.Fits.{fits-first}
 use Rattle.directory.specs.Find.{entryOf}
 use Rattle.pull.specs.Walk.{fileWalk, pullWalk}
-use Rattle.pull.proofs.Sizes.{root-within}
-use Rattle.pull.proofs.Cases.{hashed-walked}
+use Rattle.pull.proofs.Cases.{both-stop, second-fits, both-walked}
 use borrow.Author.Needs.{needs}
 use Rattle.pull.proofs.walk_to.Statement.{statement}
 use Rattle.pull.proofs.walk_to.Tie as tie
 
-hash-requires : tie.Need-hash-requires
-hash-requires c κs = search needs
+-- ---- the places on the way
+abbrev sought-of : tie.After-listed → tie.After-find-in-root
+sought-of l = l .before .before .before .before .before
 
-find-root-requires : tie.Need-find-root-requires
-find-root-requires c κs =
-    (room-start (omega arith) (omega arith), c .before .before .before .before .before .before .before .pre .1)
+abbrev start-of : tie.After-listed → tie.Start
+start-of l = sought-of l .before .before .before .before .before .before .before
+
+-- the name was found
+abbrev found-of : tie.After-entry2 → tie.After-listed
+found-of k = k .before .before
+
+-- ---- the needs
+
+find-in-root-requires : tie.Need-find-in-root-requires
+unfolding pullWalk
+find-in-root-requires c κs =
+    let s = c .before .before .before .before .before .before in
+    (fits-first _ (s .pre .0), s .pre .1)
 
 enum-known-entry : tie.Need-enum-known-entry
 enum-known-entry c = search needs
 
-came-requires : tie.Need-came-requires
-came-requires c κs = search needs
-
 enum-known-entry-2 : tie.Need-enum-known-entry-2
 enum-known-entry-2 c = search needs
 
-file-block-requires : tie.Need-file-block-requires
-file-block-requires c κs =
-    (walked-room (root-within _ _) (c .before .before .before .before .before .before .before .before .before .find-root .ensures) 4 5 (room-start (omega arith) (omega arith)), c .before .before .before .before .before .before .before .before .before .before .before .before .before .before .before .before .before .pre .1)
+block-of-file-requires : tie.Need-block-of-file-requires
+unfolding pullWalk
+block-of-file-requires c κs =
+    let k = c .before .before .before in
+    let l = found-of k in
+    let known = start-of l .pre in
+    (second-fits (fileWalk _ _) (sought-of l .find-in-root .ensures) (ap entryOf (k .entry2 .given .1)) (known .0), known .1)
 
 same-length : tie.Need-same-length
 same-length c = search needs
@@ -38,8 +51,9 @@ same-length-2 c = search needs
 returns : tie.Need-returns
 unfolding pullWalk
 returns c =
-    let hashed = c .before .before .before .before .before .before .before .before .before .hash .ensures in
-    rw (c .came .ensures) (reached-stop (fileWalk _ _) (reached-start _ _ _) (hashed-walked _ _ _ hashed (c .before .before .before .before .before .before .before .before .find-root .ensures)) (ap entryOf (c .before .before .entry .given .1)), (tt, omega arith))
+    let k = c .before in
+    let l = k .before .before in
+    (both-stop (fileWalk _ _) (sought-of l .find-in-root .ensures) (ap entryOf (k .entry .given .1)), (tt, omega arith))
 
 same-length-3 : tie.Need-same-length-3
 same-length-3 c = search needs
@@ -50,19 +64,19 @@ same-length-4 c = search needs
 returns-2 : tie.Need-returns-2
 unfolding pullWalk
 returns-2 c =
-    let hashed = c .before .before .before .before .before .before .before .before .before .before .before .before .before .before .before .hash .ensures in
-    (reached-all (reached-then (fileWalk _ _) (reached-start _ _ _) (hashed-walked _ _ _ hashed (c .before .before .before .before .before .before .before .before .before .before .before .before .before .before .find-root .ensures)) (ap entryOf (c .before .before .before .before .before .before .before .before .entry2 .given .1))) (c .before .before .before .before .file-block .ensures .0), c .before .before .before .before .file-block .ensures .1)
+    let end = c .before .before .before .before in
+    let k = end .before .before .before .before in
+    let found = ap entryOf (k .entry2 .given .1) in
+    (both-walked (fileWalk _ _) (sought-of (found-of k) .find-in-root .ensures) found (end .block-of-file .ensures .0), end .block-of-file .ensures .1)
 
 pub walk-to-spec : {M : Type 1} → statement M
 walk-to-spec =
     tie.close
     (tie.spec
-    hash-requires
-    find-root-requires
+    find-in-root-requires
     enum-known-entry
-    came-requires
     enum-known-entry-2
-    file-block-requires
+    block-of-file-requires
     same-length
     same-length-2
     returns
