@@ -18,7 +18,7 @@ use Rattle.superblock.specs.declared.Found.the-variants.{At, Refused}
 use Rattle.superblock.specs.Superblock.{superblockOf, logsPass, unitsPass, countsPass, areasPass, endsPass, fieldsPass, copyPasses}
 use Rattle.superblock.specs.Areas.{found}
 use Rattle.nat.specs.Table.{tableBlock, copyAddress}
-use Rattle.walk.specs.Lists.{bytesOf}
+use Rattle.list.specs.Lists.{bytesOf}
 use Rattle.walk.specs.Walk.{Walk, done, look, read, Outcome, ok, stop}
 use Rattle.node.specs.Block.{held}
 use Rattle.directory.specs.Level.{bucketsOf, blocksOf, firstOf}

@@ -6,7 +6,7 @@ use mathlib.Core.Logic.{_⊎_, inl, inr, ⊎-elim}
 use Prim.Native.Nat.{ℕ}
 use native.Mathlib.Omega.{arith}
 use Rattle.field.proofs.Choosing.{either}
-use Rattle.walk.specs.Lists.{AllOf}
+use Rattle.list.specs.Lists.{AllOf}
 use Rattle.nat.specs.declared.TableAnswer.{TableAnswer}
 use Rattle.walk.specs.Walk.{View}
 use Rattle.node.specs.Node.{Bounds}
@@ -14,7 +14,7 @@ use Rattle.compare.specs.declared.Difference.{Difference}
 use Rattle.compare.specs.declared.Difference.the-variants.{Same, BoundsDiffer, NodeDiffers, BlockDiffers}
 use Rattle.compare.specs.Difference.{sameBounds, sameAnswer, sameBytes, blocksDiffer, nodesDiffer, difference}
 use Rattle.compare.proofs.Sameness.{same-bounds, bounds-same, same-answer, answer-same, same-bytes, bytes-same}
-use Rattle.compare.proofs.Searching.{FirstNot, Decides, searched-ends, all-searched}
+use Rattle.list.proofs.Searching.{FirstNot, Decides, searched-ends, all-searched}
 
 -- the two cards agree at a number
 abbrev pub SameTable : View → View → ℕ → Type 0

@@ -1,5 +1,4 @@
 pub mod Sameness
-pub mod Searching
 pub mod Differences
 pub mod Shapes
 pub mod Openings

@@ -15,11 +15,12 @@ use Rattle.checkpoint.specs.Volume.{opened, openedImage}
 use Rattle.checkpoint.proofs.Ways.{shape-opens}
 use Rattle.checkpoint.proofs.Inside.{image-shaped}
 use Rattle.walk.specs.Walk.{viewOf}
-use Rattle.walk.proofs.Entries.{length-numbers}
+use Rattle.list.proofs.Entries.{length-numbers}
 use Rattle.node.specs.Node.{Bounds, boundsOf}
 use Rattle.compare.specs.declared.Difference.{Difference}
 use Rattle.compare.specs.declared.Difference.the-variants.{Same, BoundsDiffer, NodeDiffers, BlockDiffers}
-use Rattle.compare.specs.Lists.{Listed, entries, countFits, listsInShape}
+use Rattle.list.specs.Lists.{Listed, entries, countFits}
+use Rattle.compare.specs.Lists.{listsInShape}
 use Rattle.compare.specs.Difference.{difference}
 use Rattle.compare.specs.Compare.{refused, verdict, comparedOpen, afterFresh, afterKept, compared}
 

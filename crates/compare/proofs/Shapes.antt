@@ -13,13 +13,14 @@ use Rattle.field.specs.Card.{Card}
 use Rattle.field.proofs.Choosing.{needed, needed-le}
 use Rattle.checkpoint.specs.declared.Volume.{Volume}
 use Rattle.checkpoint.specs.Volume.{VolumeIn}
-use Rattle.walk.specs.Lists.{AllOf, Rising}
-use Rattle.walk.proofs.Rises.{all-map}
+use Rattle.list.specs.Lists.{AllOf, Rising}
+use Rattle.list.proofs.Rises.{all-map}
 use Rattle.node.specs.Node.{Bounds, boundsOf, inMain}
-use Rattle.compare.specs.Lists.{Listed, entries, countFits, risingAfter, isRising, allInMain, listsInShape}
+use Rattle.list.specs.Lists.{Listed, entries, countFits}
+use Rattle.compare.specs.Lists.{risingAfter, isRising, allInMain, listsInShape}
 use Rattle.compare.specs.Difference.{sameBounds, InBoth}
 use Rattle.compare.proofs.Sameness.{same-bounds}
-use Rattle.compare.proofs.Searching.{Decides, searched-ends, all-searched}
+use Rattle.list.proofs.Searching.{Decides, searched-ends, all-searched}
 
 -- ---- rising
 after-rising : (x : ℕ) (l : List ℕ) → AllOf (λ y. x < y) l → Rising l → risingAfter x l ≡ true

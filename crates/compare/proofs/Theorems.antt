@@ -19,7 +19,8 @@ use Rattle.node.specs.Node.{boundsOf}
 use Rattle.compare.specs.declared.Compared.{Compared}
 use Rattle.compare.specs.declared.Difference.{Difference}
 use Rattle.compare.specs.declared.Difference.the-variants.{Same, BoundsDiffer, NodeDiffers, BlockDiffers}
-use Rattle.compare.specs.Lists.{Listed, entries, listsInShape}
+use Rattle.list.specs.Lists.{Listed, entries}
+use Rattle.compare.specs.Lists.{listsInShape}
 use Rattle.compare.specs.Difference.{difference}
 use Rattle.compare.specs.Compare.{refused, verdict, compared}
 use Rattle.compare.proofs.Openings.{lists-refused, lists-compared, shape-refused, kept-refused, fresh-refused, compared-opened}

@@ -11,12 +11,12 @@ use lib.ListN.{length, getD, drop, drop-of-length-le}
 use lib.Seq.{drop-cons}
 use borrow.Author.Tests.{lt-ltb, le-ltb, not-true, not-false}
 use Rattle.field.specs.Number.{le32}
-use Rattle.walk.specs.Lists.{AllOf, numbers}
-use Rattle.walk.proofs.Entries.{numbers-cons, numbers-nil}
+use Rattle.list.specs.Lists.{AllOf, numbers}
+use Rattle.list.proofs.Entries.{numbers-cons, numbers-nil}
 use Rattle.compare.specs.Lists.{risingAfter, isRising}
 use Rattle.compare.specs.Difference.{sameBytes}
-use Rattle.compare.specs.Search.{searched}
-use Rattle.compare.proofs.Searching.{over, passed, failed}
+use Rattle.list.specs.Search.{searched}
+use Rattle.list.proofs.Searching.{over, passed, failed}
 
 all : (l : List ℕ) (n : ℕ) → numbers l 0 (n - 0) ≡ numbers l 0 n
 all l n = let e : n - 0 ≡ n = omega arith in ap (numbers l 0) e

@@ -15,7 +15,8 @@ use Rattle.node.specs.Node.{boundsOf}
 use Rattle.compare.specs.declared.Compared.{Compared}
 use Rattle.compare.specs.declared.Difference.{Difference}
 use Rattle.compare.specs.declared.Difference.the-variants.{Same, BoundsDiffer, NodeDiffers, BlockDiffers}
-use Rattle.compare.specs.Lists.{Listed, entries, listsInShape}
+use Rattle.list.specs.Lists.{Listed, entries}
+use Rattle.compare.specs.Lists.{listsInShape}
 use Rattle.compare.specs.Difference.{difference}
 
 -- "a result number that the answer doesn't name .. is 0"

@@ -9,7 +9,7 @@ use Rattle.nat.specs.declared.TableAnswer.{TableAnswer}
 use Rattle.nat.specs.declared.TableAnswer.the-variants.{OutOfRange, Entry}
 use Rattle.walk.specs.Walk.{View}
 use Rattle.node.specs.Node.{Bounds}
-use Rattle.compare.specs.Search.{searched}
+use Rattle.list.specs.Search.{searched}
 use Rattle.compare.specs.declared.Difference.{Difference}
 use Rattle.compare.specs.declared.Difference.the-variants.{Same, BoundsDiffer, NodeDiffers, BlockDiffers}
 

@@ -1,4 +1,3 @@
-pub mod Search
 pub mod Lists
 pub mod Difference
 pub mod Compare

@@ -8,10 +8,11 @@ ghost use lib.ListN.{length};
 ghost use Rattle.field.specs.Card.{cardOf};
 ghost use Rattle.checkpoint.specs.Volume.{VolumeIn};
 ghost use Rattle.nat.specs.Table.{tableAnswer};
-ghost use Rattle.walk.specs.Lists.{AllOf};
+ghost use Rattle.list.specs.Lists.{AllOf};
 ghost use Rattle.walk.specs.Walk.{viewOf};
 ghost use Rattle.node.specs.Node.{boundsOf, inMain};
-ghost use Rattle.compare.specs.Lists.{listing, entries, countFits, isRising, allInMain, listsInShape};
+ghost use Rattle.list.specs.Lists.{listing, entries, countFits};
+ghost use Rattle.compare.specs.Lists.{isRising, allInMain, listsInShape};
 ghost use Rattle.compare.specs.Difference.{sameBounds, sameAnswer, sameBytes, blocksDiffer, nodesDiffer, difference, InBoth};
 ghost use Rattle.compare.specs.Compare.{answered, verdict, comparedOpen, compared};
 

@@ -6,7 +6,7 @@ ghost use Rattle.place.specs.Way.{inArray};
 ghost use Rattle.name_hash.specs.Answer.{hashed};
 ghost use Rattle.nat.specs.Lookup.{answered, lookupOf};
 ghost use Rattle.pull.specs.Pull.{lending, result, pulled};
-ghost use Rattle.compare.specs.Lists.{listing};
+ghost use Rattle.list.specs.Lists.{listing};
 ghost use Rattle.compare.specs.Compare.{compared};
 ghost use Rattle.harptimber.specs.NameHash.{nameHash};
 ghost use Rattle.harptimber.specs.FilePlace.{crossing, placed, filePlace};

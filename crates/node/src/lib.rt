@@ -78,7 +78,7 @@ pub fn node_step(
     ensures { λ r. ⌜ FoundIn (cardOf (now (image .entry))) (r .found) ⌝ }
 {
     let looked = walk::Counts {
-        nodes: walk::insert(nodes, counts.nodes, number),
+        nodes: list::insert(nodes, counts.nodes, number),
         blocks: counts.blocks,
     };
     let entry = nat::table_answer(image, v, number);
@@ -102,7 +102,7 @@ pub fn node_step(
     }
     let read = walk::Counts {
         nodes: looked.nodes,
-        blocks: walk::insert(blocks, looked.blocks, address),
+        blocks: list::insert(blocks, looked.blocks, address),
     };
     let block = field::block_at(image, address);
     if !belongs(block, number, ino, place, table_inode) {
@@ -154,7 +154,7 @@ fn data_at(
     }
     let read = walk::Counts {
         nodes: counts.nodes,
-        blocks: walk::insert(blocks, counts.blocks, address),
+        blocks: list::insert(blocks, counts.blocks, address),
     };
     DataStep {
         data: Data::At(address),

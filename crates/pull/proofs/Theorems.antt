@@ -15,12 +15,12 @@ use Rattle.checkpoint.specs.declared.Opening.{Opening}
 use Rattle.checkpoint.specs.declared.Opening.the-variants.{Opened, Refused}
 use Rattle.checkpoint.specs.Volume.{openedImage}
 use Rattle.checkpoint.proofs.Inside.{refusals}
-use Rattle.walk.specs.Lists.{Rising, AllOf, numbers}
+use Rattle.list.specs.Lists.{Rising, AllOf, numbers}
 use Rattle.walk.specs.Walk.{View, viewOf, empty, Walk, run, Outcome, ok, stop, ending, Ended, bind, andThen, AsksNode, AsksBlock}
 use Rattle.walk.proofs.Runs.{run-rising}
 use Rattle.walk.proofs.Sizes.{few-listed, run-reads, run-value}
 use Rattle.walk.proofs.Asked.{nodes-exact, blocks-exact}
-use Rattle.walk.proofs.Written.{numbers-over}
+use Rattle.list.proofs.Written.{numbers-over}
 use Rattle.node.specs.Node.{boundsOf, inMain, nodeWalk}
 use Rattle.node.specs.Block.{Fetched, hole, held}
 use Rattle.pull.specs.Walk.{rootIno, Block, rootWalk, pullWalk}

@@ -12,7 +12,7 @@ use Rattle.checkpoint.specs.declared.Opening.{Opening}
 use Rattle.checkpoint.specs.declared.Opening.the-variants.{Opened, Refused}
 use Rattle.checkpoint.specs.Volume.{openedImage}
 use Rattle.name_hash.specs.Name.{isName}
-use Rattle.walk.specs.Lists.{over}
+use Rattle.list.specs.Lists.{over}
 use Rattle.walk.specs.Walk.{viewOf, empty, Ran, run, Outcome, ok, stop}
 use Rattle.node.specs.Node.{boundsOf}
 use Rattle.node.specs.Block.{Fetched, hole, held}

@@ -12,7 +12,7 @@ use Rattle.checkpoint.specs.declared.Opening.the-variants.{Opened}
 use Rattle.checkpoint.specs.Volume.{openedImage}
 use Rattle.checkpoint.proofs.Inside.{image-shaped}
 use Rattle.nat.specs.Table.{tableAnswer}
-use Rattle.walk.specs.Lists.{AllOf}
+use Rattle.list.specs.Lists.{AllOf}
 use Rattle.walk.specs.Walk.{viewOf, Ran, Outcome}
 use Rattle.node.specs.Node.{boundsOf}
 use Rattle.pull.specs.Walk.{Block}
@@ -23,7 +23,7 @@ use Rattle.compare.specs.declared.Difference.{Difference}
 use Rattle.compare.specs.declared.Difference.the-variants.{Same, BoundsDiffer, NodeDiffers, BlockDiffers}
 use Rattle.compare.specs.Difference.{difference}
 use Rattle.compare.specs.Compare.{answered, verdict}
-use Rattle.compare.proofs.Searching.{FirstNot}
+use Rattle.list.proofs.Searching.{FirstNot}
 use Rattle.compare.proofs.Differences.{SameTable, SameBlock, difference-same, same-difference, difference-bounds, difference-node, difference-block}
 use Rattle.compare.proofs.Openings.{says-same, says-changed, lists-compared, compared-opened}
 use Rattle.pull_again.specs.Demand.{PastOpening, nodesLeft, blocksLeft, entriesOf, said, SameOn, SamePull}

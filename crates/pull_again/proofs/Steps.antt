@@ -14,16 +14,17 @@ use Rattle.checkpoint.specs.declared.Opening.{Opening}
 use Rattle.checkpoint.specs.declared.Opening.the-variants.{Opened, Refused}
 use Rattle.checkpoint.proofs.Inside.{refusals}
 use Rattle.checkpoint.specs.Volume.{openedImage}
-use Rattle.walk.specs.Lists.{Rising, AllOf, numbers, over}
+use Rattle.list.specs.Lists.{Rising, AllOf, numbers, over}
 use Rattle.walk.specs.Walk.{viewOf, empty, Ran, run, Outcome, ok, stop, Ended}
 use Rattle.walk.proofs.Runs.{agree}
-use Rattle.walk.proofs.Written.{numbers-over, over-inside}
+use Rattle.list.proofs.Written.{numbers-over, over-inside}
 use Rattle.node.specs.Node.{Bounds, boundsOf, inMain}
 use Rattle.pull.specs.Walk.{Block, pullWalk}
 use Rattle.pull.specs.Pull.{Lent, Result, callInShape, contentAnswer, answerOf, bufferAfter, written, pullRun, pulled}
 use Rattle.pull.proofs.Sizes.{Counted}
 use Rattle.pull.proofs.Theorems.{Ends, refusal, walked, ends, ending-inside, run-rises, run-inside, run-ended, run-some}
-use Rattle.compare.specs.Lists.{Listed, listing, listsInShape}
+use Rattle.list.specs.Lists.{Listed, listing}
+use Rattle.compare.specs.Lists.{listsInShape}
 use Rattle.compare.specs.declared.Compared.{Compared}
 use Rattle.compare.specs.Compare.{compared}
 use Rattle.compare.proofs.Shapes.{ListsFit, lists-in-shape, in-shape-lists}

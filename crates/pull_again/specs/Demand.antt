@@ -7,11 +7,11 @@ use mathlib.Core.Bool.{true}
 use Rattle.field.specs.Card.{cardOf}
 use Rattle.checkpoint.specs.declared.Volume.{Volume}
 use Rattle.nat.specs.Table.{tableAnswer}
-use Rattle.walk.specs.Lists.{AllOf, numbers}
+use Rattle.list.specs.Lists.{AllOf, numbers}
 use Rattle.node.specs.Node.{boundsOf}
 use Rattle.pull.specs.Pull.{Lent, Result, result, lentInShape, pulled}
 use Rattle.compare.specs.declared.Compared.{Compared}
-use Rattle.compare.specs.Lists.{Listed, listing}
+use Rattle.list.specs.Lists.{Listed, listing}
 use Rattle.compare.specs.Compare.{compared}
 use Rattle.pull_again.specs.declared.Again.{Again}
 

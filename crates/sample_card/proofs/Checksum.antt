@@ -7,7 +7,7 @@ use lib.Dec.{lit<}
 use lib.ListN.{take, drop, replicate}
 use Rattle.crc32.specs.Checksum.{start, crcBit, crcBits, crcFrom, checksumOf}
 use Rattle.crc32.proofs.Turns.{group-turn}
-use Rattle.walk.specs.Lists.{bytesOf}
+use Rattle.list.specs.Lists.{bytesOf}
 use Rattle.sample_card.specs.Image.{filled, checksum, pack}
 use Rattle.sample_card.proofs.ZeroRuns.{top, product, squared, from-zeros, by-product, by-squares}
 

@@ -12,7 +12,7 @@ use Rattle.checkpoint.specs.declared.Opening.the-variants.{Opened}
 use Rattle.checkpoint.specs.Pack.{blockPasses, packPasses, chosen}
 use Rattle.checkpoint.specs.Journal.{journalIn, journalPlaced, journalAt}
 use Rattle.checkpoint.specs.Volume.{mapsReadable, journalReadable, openPack, opened}
-use Rattle.walk.specs.Lists.{bytesOf}
+use Rattle.list.specs.Lists.{bytesOf}
 use Rattle.sample_card.specs.Image.{filled, zeros, superblock, checksum, pack, journal, blocks, card}
 use Rattle.sample_card.specs.Volume.{areas, volume}
 use Rattle.sample_card.proofs.Checksum.{pack-sum}

@@ -11,7 +11,7 @@ use Rattle.nat.specs.declared.TableAnswer.the-variants.{Entry}
 use Rattle.nat.specs.Entry.{entriesFrom, inJournal}
 use Rattle.nat.specs.Table.{inRange, tableAddress, inTable, tableAnswer}
 use Rattle.inode.specs.Inode.{inodeOf, notInline, isDirectory, isRegular, addressesIn, isPast, countIn}
-use Rattle.walk.specs.Lists.{bytesOf, insert}
+use Rattle.list.specs.Lists.{bytesOf, insert}
 use Rattle.walk.specs.Walk.{ran, run, bind, ok, stop, onward, andThen}
 use Rattle.node.specs.Node.{inMain, belongs, atBlock, atEntry, nodeWalk}
 use Rattle.node.specs.Block.{hole, held, isHole, dataWalk, wayWalk, blockWalk}

@@ -11,7 +11,7 @@ use Rattle.checkpoint.specs.declared.Opening.the-variants.{Opened}
 use Rattle.checkpoint.specs.Volume.{opened, openedImage}
 use Rattle.name_hash.specs.Name.{nameBytes, isName}
 use Rattle.nat.specs.Lookup.{answered, lookupOf}
-use Rattle.walk.specs.Lists.{over}
+use Rattle.list.specs.Lists.{over}
 use Rattle.walk.specs.Walk.{Ran, Outcome}
 use Rattle.pull.specs.Walk.{Block}
 use Rattle.pull.specs.Pull.{Lent, lending, Result, result, lentInShape, written, pullRun, pulled}

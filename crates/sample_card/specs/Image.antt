@@ -4,7 +4,7 @@ use Prim.Native.Nat.{ℕ, _+_, _-_}
 use mathlib.Core.List.{List, [], _∷_, _++_}
 use lib.ListN.{length, getD, replicate}
 use Rattle.field.specs.Card.{Card}
-use Rattle.walk.specs.Lists.{bytesOf}
+use Rattle.list.specs.Lists.{bytesOf}
 
 -- ---- a block from its parts
 

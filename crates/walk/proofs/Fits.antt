@@ -5,7 +5,7 @@ use native.Mathlib.Omega.{arith}
 use mathlib.Core.Path.{ap}
 use mathlib.Core.List.{List}
 use lib.ListN.{length}
-use Rattle.walk.specs.Lists.{numbers, Holds}
+use Rattle.list.specs.Lists.{numbers, Holds}
 use Rattle.walk.specs.Walk.{View, sawNode, sawBlock, Walk, look, read, Ran, run, bind, Within, Outcome, onward, andThen}
 use Rattle.walk.specs.Walk.{Lists, lists, listed, none, Fits}
 use Rattle.walk.proofs.Runs.{run-bind, run-more}

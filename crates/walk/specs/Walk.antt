@@ -12,7 +12,7 @@ use Rattle.checkpoint.specs.declared.Volume.{Volume}
 use Rattle.nat.specs.declared.TableAnswer.{TableAnswer}
 use Rattle.nat.specs.Table.{tableAnswer}
 use Rattle.walk.specs.declared.Counts.{Counts}
-use Rattle.walk.specs.Lists.{insert, Rising, numbers, Grown}
+use Rattle.list.specs.Lists.{insert, Rising, numbers, Grown}
 
 -- ---- the tree and its run
 

@@ -4,7 +4,7 @@ use mathlib.Core.Bool.{true, false}
 use Prim.Native.Nat.{_≤_, _-_}
 use native.Mathlib.Omega.{arith}
 use borrow.Author.Needs.{needs}
-use Rattle.walk.specs.Lists.{numbers}
+use Rattle.list.specs.Lists.{numbers}
 use Rattle.node.specs.Node.{boundsOf, inMain}
 use Rattle.compare.specs.Lists.{allInMain}
 use Rattle.compare.proofs.Turns.{Left, search-starts, search-over, search-on, search-stops}

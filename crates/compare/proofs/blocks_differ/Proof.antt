@@ -4,7 +4,7 @@ use Prim.Native.Nat.{_≤_, _-_}
 use native.Mathlib.Omega.{arith}
 use borrow.Author.Needs.{needs}
 use Rattle.field.specs.Card.{cardOf}
-use Rattle.walk.specs.Lists.{AllOf, numbers}
+use Rattle.list.specs.Lists.{AllOf, numbers}
 use Rattle.compare.specs.declared.Difference.the-variants.{Same, BlockDiffers}
 use Rattle.compare.specs.Difference.{sameBytes, blocksDiffer, InBoth}
 use Rattle.compare.proofs.Turns.{Left, all-left, all-next, search-starts, search-over, search-on, search-stops}

@@ -7,7 +7,7 @@ use denote.Ref.{now}
 use borrow.Author.Tests.{not-true, not-false}
 use borrow.Author.Needs.{needs}
 use Rattle.node.specs.Node.{boundsOf}
-use Rattle.compare.specs.Lists.{listing, entries}
+use Rattle.list.specs.Lists.{listing, entries}
 use Rattle.compare.specs.Difference.{sameBounds}
 use Rattle.compare.proofs.Shapes.{ListsFit, in-shape-lists, main-in-both}
 use Rattle.compare.proofs.Differences.{bounds-differ, bounds-agree, nodes-agree, node-first}

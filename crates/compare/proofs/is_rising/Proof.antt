@@ -3,7 +3,7 @@ use mathlib.Core.Path.{_≡_, sym, _∙_}
 use Prim.Native.Nat.{_≤_, _-_}
 use native.Mathlib.Omega.{arith}
 use borrow.Author.Needs.{needs}
-use Rattle.walk.specs.Lists.{numbers}
+use Rattle.list.specs.Lists.{numbers}
 use Rattle.compare.specs.Lists.{risingAfter, isRising}
 use Rattle.compare.proofs.Turns.{rises-empty, rises-first, rises-over, rises-on, rises-stops}
 use Rattle.compare.proofs.is_rising.Statement.{statement}

@@ -5,7 +5,7 @@ use lib.ListN.{length}
 use denote.Ref.{now}
 use borrow.Author.Tests.{not-true, not-false}
 use borrow.Author.Needs.{needs}
-use Rattle.compare.specs.Lists.{listing}
+use Rattle.list.specs.Lists.{listing}
 use Rattle.compare.proofs.Shapes.{Counted, counts-refuse, counts-pass, counts-held}
 use Rattle.compare.proofs.lists_in_shape.Statement.{statement}
 use Rattle.compare.proofs.lists_in_shape.Tie as tie

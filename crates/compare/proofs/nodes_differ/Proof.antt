@@ -4,7 +4,7 @@ use Prim.Native.Nat.{_≤_, _-_}
 use native.Mathlib.Omega.{arith}
 use borrow.Author.Needs.{needs}
 use Rattle.field.specs.Card.{cardOf}
-use Rattle.walk.specs.Lists.{numbers}
+use Rattle.list.specs.Lists.{numbers}
 use Rattle.nat.specs.Table.{tableAnswer}
 use Rattle.compare.specs.declared.Difference.the-variants.{Same, NodeDiffers}
 use Rattle.compare.specs.Difference.{sameAnswer, nodesDiffer}

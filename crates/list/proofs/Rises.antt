@@ -10,7 +10,7 @@ use mathlib.Core.Logic.{⊎-elim}
 use lib.ListN.{length}
 use lib.Dec.{ltb, eqb}
 use borrow.Author.Tests.{ltb-true, ltb-false, eqb-true, eqb-false}
-use Rattle.walk.specs.Lists.{insert, AllOf, Rising}
+use Rattle.list.specs.Lists.{insert, AllOf, Rising}
 
 -- ---- the cases of an insertion, for a proof by induction
 data Inserted (x y : ℕ) : Type 0 where

@@ -6,8 +6,8 @@ use mathlib.Core.Logic.{_⊎_, inl, inr, ⊎-elim}
 use Prim.Native.Nat.{ℕ}
 use native.Mathlib.Omega.{arith}
 use Rattle.field.proofs.Choosing.{either}
-use Rattle.walk.specs.Lists.{AllOf}
-use Rattle.compare.specs.Search.{searched}
+use Rattle.list.specs.Lists.{AllOf}
+use Rattle.list.specs.Search.{searched}
 
 -- ---- what a search finds
 

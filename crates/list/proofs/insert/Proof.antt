@@ -1,10 +1,10 @@
 -- `insert` meets its contract: the number is there already, or is shifted in at its place.
 use Prim.Native.Nat.{_+_, _*_, _≤_}
 use lib.ListN.{length}
-use Rattle.walk.proofs.Entries.{inserted-there, spot-within, before-room, inserted-before}
+use Rattle.list.proofs.Entries.{inserted-there, spot-within, before-room, inserted-before}
 use borrow.Author.Needs.{needs}
-use Rattle.walk.proofs.insert.Statement.{statement}
-use Rattle.walk.proofs.insert.Tie as tie
+use Rattle.list.proofs.insert.Statement.{statement}
+use Rattle.list.proofs.insert.Tie as tie
 
 -- the number goes before entry p
 abbrev found-of : tie.After-p → tie.After-find-spot

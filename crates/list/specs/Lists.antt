@@ -5,7 +5,8 @@ use Prim.Native.Nat.{ℕ, zero, suc, _+_, _*_, _/_, _%_, _<_, _≤_}
 use mathlib.Core.Path.{_≡_}
 use mathlib.Core.List.{List, [], _∷_, _++_}
 use lib.ListN.{length, drop}
-use lib.Dec.{ltb, eqb}
+use mathlib.Core.Bool.{Bool}
+use lib.Dec.{ltb, leb, eqb}
 use Rattle.field.specs.Number.{le32}
 use Rattle.field.specs.Choice.{choose}
 
@@ -28,6 +29,22 @@ Rising (x ∷ xs) = AllOf (λ y. x < y) xs × Rising xs
 unfoldable pub numbers : List ℕ → ℕ → ℕ → List ℕ
 numbers l i zero = []
 numbers l i (suc k) = le32 l (4 * i) ∷ numbers l (i + 1) k
+
+-- a list as it comes: "a byte slice, four bytes a number", and how many of its numbers count
+pub record Listed : Type 0 where
+  pub bytes : List ℕ
+  pub count : ℕ
+
+abbrev pub listing : List ℕ → ℕ → Listed
+listing bytes count = record { bytes = bytes; count = count }
+
+-- its numbers, up to the count
+abbrev pub entries : Listed → List ℕ
+entries l = numbers (l .bytes) 0 (l .count)
+
+-- not "a count exceeds its slice"; "a remainder isn't used"
+abbrev pub countFits : Listed → Bool
+countFits l = leb (l .count) (length (l .bytes) / 4)
 
 -- the first n numbers of l rise, and with x among them they fit
 pub record Holds (x : ℕ) (l : List ℕ) (n : ℕ) : Type 0 where

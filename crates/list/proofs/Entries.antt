@@ -6,12 +6,12 @@ use native.Mathlib.Omega.{arith}
 use lib.ListN.{length, drop, length-append}
 use lib.Seq.{drop-drop}
 use Rattle.field.specs.Number.{le32, put32At}
-use Rattle.walk.specs.declared.Spot.{Spot}
-use Rattle.walk.specs.declared.Spot.the-variants.{Before, Present}
-use Rattle.walk.specs.Lists.{insert, Rising, numbers, Holds, Grown, HasInserted}
-use Rattle.walk.specs.Insertion.{Placed, Shifted}
-use Rattle.walk.proofs.Rises.{insert-more, insert-front, insert-last, insert-there, rising-front}
-use Rattle.walk.proofs.Stores.{drop-put, le32-other, le32-put}
+use Rattle.list.specs.declared.Spot.{Spot}
+use Rattle.list.specs.declared.Spot.the-variants.{Before, Present}
+use Rattle.list.specs.Lists.{insert, Rising, numbers, Holds, Grown, HasInserted}
+use Rattle.list.specs.Insertion.{Placed, Shifted}
+use Rattle.list.proofs.Rises.{insert-more, insert-front, insert-last, insert-there, rising-front}
+use Rattle.list.proofs.Stores.{drop-put, le32-other, le32-put}
 
 -- ---- runs of entries
 pub length-numbers : (l : List ℕ) (i k : ℕ) → length (numbers l i k) ≡ k

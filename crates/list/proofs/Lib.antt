@@ -1,0 +1,5 @@
+pub mod Rises
+pub mod Stores
+pub mod Entries
+pub mod Written
+pub mod Searching

@@ -1,0 +1,84 @@
+-- Numbers written as bytes are the numbers read, and what stands at the front of lent bytes as the equation of a public contract.
+-- Here, and only here, it matters that a byte is below 256, which code knows of every byte of its slices.
+use Prim.Native.Nat.{ℕ, zero, suc, _+_, _*_, _/_, _%_, _≤_, _<_}
+use native.Mathlib.Omega.{arith}
+use native.Mathlib.Numerals.{add-one}
+use mathlib.Core.Path.{_≡_, refl, sym, ap, _∙_}
+use mathlib.Core.List.{List, [], _∷_, _++_}
+use lib.ListN.{length, getD, take, drop, take-append-drop, length-append}
+use lib.Seq.{drop-cons, getD-drop}
+use Rattle.field.specs.Number.{le16, le32}
+use Rattle.list.specs.Lists.{numbers, bytesOf, over}
+use Rattle.list.proofs.Entries.{length-numbers}
+
+digits : (a b c d : ℕ) → a < 256 → b < 256 → c < 256 → d < 256 → let x = a + 256 * b + 65536 * (c + 256 * d) in
+    (x % 256 ≡ a) × (x / 256 % 256 ≡ b) × (x / 65536 % 256 ≡ c) × (x / 16777216 ≡ d)
+digits a b c d p q r s = (omega arith, omega arith, omega arith, omega arith)
+
+drop-one : (l : List ℕ) (j : ℕ) → j < length l → drop j l ≡ getD l j 0 ∷ drop (j + 1) l
+drop-one l j h = drop-cons l j 0 h ∙ ap (λ (k : ℕ). getD l j 0 ∷ drop k l) (sym (add-one j))
+
+drop-four : (l : List ℕ) (j : ℕ) → j + 4 ≤ length l
+    → drop j l ≡ getD l j 0 ∷ getD l (j + 1) 0 ∷ getD l (j + 2) 0 ∷ getD l (j + 2 + 1) 0 ∷ drop (j + 4) l
+drop-four l j h =
+    let e : j + 1 + 1 ≡ j + 2 = omega arith in
+    let f : j + 2 + 1 + 1 ≡ j + 4 = omega arith in
+    let p : drop (j + 1) l ≡ getD l (j + 1) 0 ∷ drop (j + 2) l = rw e at (drop-one l (j + 1) (omega arith)) in
+    let q : drop (j + 2) l ≡ getD l (j + 2) 0 ∷ drop (j + 2 + 1) l = drop-one l (j + 2) (omega arith) in
+    let r : drop (j + 2 + 1) l ≡ getD l (j + 2 + 1) 0 ∷ drop (j + 4) l = rw f at (drop-one l (j + 2 + 1) (omega arith)) in
+    drop-one l j (omega arith) ∙ rw (p, q, r)
+
+bytes-numbers : (l : List ℕ) → ((k : ℕ) → getD l k 0 < 256) → (n i : ℕ) → 4 * (i + n) ≤ length l
+    → bytesOf (numbers l i n) ≡ take (4 * n) (drop (4 * i) l)
+unfolding numbers bytesOf le32 le16
+bytes-numbers l f zero i h = refl
+bytes-numbers l f (suc n) i h =
+    let e : 4 * suc n ≡ suc (suc (suc (suc (4 * n)))) = omega arith in
+    let g : 4 * (i + 1) ≡ 4 * i + 4 = omega arith in
+    let q = digits (getD l (4 * i) 0) (getD l (4 * i + 1) 0) (getD l (4 * i + 2) 0) (getD l (4 * i + 2 + 1) 0) (f _) (f _) (f _) (f _) in
+    let ih : bytesOf (numbers l (i + 1) n) ≡ take (4 * n) (drop (4 * i + 4) l) = rw g at (bytes-numbers l f n (i + 1) (omega arith)) in
+    rw (e, drop-four l (4 * i) (omega arith), q .0, q .1, q .2, q .3, ih) refl
+
+-- The public equation: the first n numbers are ns, and all behind them is as d has it.
+pub over-written : (l d : List ℕ) {ns : List ℕ} (n : ℕ) → numbers l 0 n ≡ ns → drop (4 * n) l ≡ drop (4 * n) d
+    → ((k : ℕ) → getD l k 0 < 256) → 4 * n ≤ length l → l ≡ over ns d
+unfolding over
+over-written l d n e r f h =
+    let p : bytesOf (numbers l 0 n) ≡ take (4 * n) l = bytes-numbers l f n 0 (omega arith) in
+    rw (← e, length-numbers l 0 n, p, ← r) (sym (take-append-drop (4 * n) l))
+
+-- The numbers written are the numbers read.
+numbers-drop : (l : List ℕ) (i k : ℕ) → numbers l (i + 1) k ≡ numbers (drop 4 l) i k
+unfolding numbers le32 le16
+numbers-drop l i zero = refl
+numbers-drop l i (suc k) = rw (
+  byte (4 * i) (4 * (i + 1)) (omega arith),
+  byte (4 * i + 1) (4 * (i + 1) + 1) (omega arith),
+  byte (4 * i + 2) (4 * (i + 1) + 2) (omega arith),
+  byte (4 * i + 2 + 1) (4 * (i + 1) + 2 + 1) (omega arith),
+  numbers-drop l (i + 1) k,
+)
+  where
+    byte : (j m : ℕ) → 4 + j ≡ m → getD l m 0 ≡ getD (drop 4 l) j 0
+    byte j m e = rw (getD-drop 4 l j 0, e)
+
+numbers-bytes : (ns r : List ℕ) → numbers (bytesOf ns ++ r) 0 (length ns) ≡ ns
+unfolding numbers bytesOf le32 le16
+numbers-bytes [] r = refl
+numbers-bytes (x ∷ xs) r =
+    let e : x % 256 + 256 * (x / 256 % 256) + 65536 * (x / 65536 % 256 + 256 * (x / 16777216)) ≡ x = omega arith in
+    rw (e, numbers-drop (bytesOf (x ∷ xs) ++ r) 0 (length xs), numbers-bytes xs r)
+
+pub numbers-over : (ns d : List ℕ) → numbers (over ns d) 0 (length ns) ≡ ns
+unfolding over
+numbers-over ns d = numbers-bytes ns (drop (4 * length ns) d)
+
+length-bytes : (ns : List ℕ) → length (bytesOf ns) ≡ 4 * length ns
+unfolding bytesOf
+length-bytes [] = refl
+length-bytes (x ∷ xs) = let ih = length-bytes xs in omega arith
+
+-- what was written lies inside the slice
+pub over-inside : (ns d : List ℕ) → 4 * length ns ≤ length (over ns d)
+unfolding over
+over-inside ns d = omega (arith, length-append (bytesOf ns) (drop (4 * length ns) d), length-bytes ns)
