@@ -13,10 +13,9 @@ use Rattle.field.specs.Card.{Card}
 use Rattle.field.proofs.Choosing.{needed, needed-le}
 use Rattle.checkpoint.specs.declared.Volume.{Volume}
 use Rattle.checkpoint.specs.Volume.{VolumeIn}
-use Rattle.list.specs.Lists.{AllOf, Rising}
+use Rattle.list.specs.Lists.{AllOf, Rising, Listed, entries, countFits}
 use Rattle.list.proofs.Rises.{all-map}
 use Rattle.node.specs.Node.{Bounds, boundsOf, inMain}
-use Rattle.list.specs.Lists.{Listed, entries, countFits}
 use Rattle.compare.specs.Lists.{risingAfter, isRising, allInMain, listsInShape}
 use Rattle.compare.specs.Difference.{sameBounds, InBoth}
 use Rattle.compare.proofs.Sameness.{same-bounds}

@@ -15,7 +15,7 @@ use Rattle.checkpoint.specs.declared.Opening.{Opening}
 use Rattle.checkpoint.specs.declared.Opening.the-variants.{Opened, Refused}
 use Rattle.checkpoint.specs.Volume.{openedImage}
 use Rattle.checkpoint.proofs.Inside.{refusals}
-use Rattle.list.specs.Lists.{Rising, AllOf, numbers}
+use Rattle.list.specs.Lists.{Rising, AllOf, numbers, entries}
 use Rattle.walk.specs.Walk.{View, viewOf, empty, Walk, run, Outcome, ok, stop, ending, Ended, bind, andThen, AsksNode, AsksBlock}
 use Rattle.walk.proofs.Runs.{run-rising}
 use Rattle.walk.proofs.Sizes.{few-listed, run-reads, run-value}
@@ -25,16 +25,9 @@ use Rattle.node.specs.Node.{boundsOf, inMain, nodeWalk}
 use Rattle.node.specs.Block.{Fetched, hole, held}
 use Rattle.pull.specs.Walk.{rootIno, Block, rootWalk, pullWalk}
 use Rattle.pull.specs.Pull.{mostNodes, mostBlocks, Lent, Result, callInShape, contentAnswer, answerOf, countOf, bufferAfter}
-use Rattle.pull.specs.Pull.{refusedPull, written, pullRun, pulled}
+use Rattle.pull.specs.Pull.{nodesLeft, blocksLeft, refusedPull, written, pullRun, pulled}
 use Rattle.pull.proofs.Sizes.{Counted, ToBlock, pull-within}
 use Rattle.pull.proofs.Results.{call-refused, call-opens}
-
--- the two lists as a pull leaves them, up to their counts
-abbrev pub nodesListed : Result → List ℕ
-nodesListed r = numbers (r .memory .nodes) 0 (r .numbers .«node_count»)
-
-abbrev pub blocksListed : Result → List ℕ
-blocksListed r = numbers (r .memory .blocks) 0 (r .numbers .«block_count»)
 
 -- the walk of a pull on an opened card
 abbrev pub walkOf : Volume → List ℕ → ℕ → Walk (Outcome Block)
@@ -119,22 +112,22 @@ module _ (image name : List ℕ) (index : ℕ) (lent : Lent) where
       go (walked v p q e) = rw e (run-few (cardOf image) v name index)
 
   -- "each once, rising"
-  pub rising : Rising (nodesListed (pulled image name index lent)) × Rising (blocksListed (pulled image name index lent))
+  pub rising : Rising (entries (nodesLeft (pulled image name index lent))) × Rising (entries (blocksLeft (pulled image name index lent)))
   unfolding numbers
   rising = go ends
     where
-      go : {r : Result} → Ends image name index lent r → Rising (nodesListed r) × Rising (blocksListed r)
+      go : {r : Result} → Ends image name index lent r → Rising (entries (nodesLeft r)) × Rising (entries (blocksLeft r))
       go (refusal answer p q e) = rw e (tt, tt)
       go (walked v p q e) =
           let runs = pullRun (cardOf image) v name index .seen in
           rw (e, numbers-over (runs .nodes) (lent .nodes), numbers-over (runs .blocks) (lent .blocks)) (run-rises (cardOf image) v name index)
 
   -- ".. the main-area blocks read": each listed block lies in the main area of the card that was opened
-  pub in-main : (v : Volume) → openedImage image ≡ Opened v → AllOf (λ b. inMain (boundsOf v) b ≡ true) (blocksListed (pulled image name index lent))
+  pub in-main : (v : Volume) → openedImage image ≡ Opened v → AllOf (λ b. inMain (boundsOf v) b ≡ true) (entries (blocksLeft (pulled image name index lent)))
   unfolding numbers
   in-main v opens = go ends
     where
-      go : {r : Result} → Ends image name index lent r → AllOf (λ b. inMain (boundsOf v) b ≡ true) (blocksListed r)
+      go : {r : Result} → Ends image name index lent r → AllOf (λ b. inMain (boundsOf v) b ≡ true) (entries (blocksLeft r))
       go (refusal answer p q e) = rw e tt
       go (walked u p q e) =
           let same : u ≡ v = cc in
@@ -143,8 +136,8 @@ module _ (image name : List ℕ) (index : ℕ) (lent : Lent) where
   -- "Its lists hold exactly the node numbers looked up and the main-area blocks read": a number is listed if and only if the walk,
   -- run on this card, asked it
   pub exactly : (v : Volume) → openedImage image ≡ Opened v → callInShape image name lent ≡ true
-      → ((n : ℕ) → List·Memᴰ n (nodesListed (pulled image name index lent)) ↔ AsksNode (viewOf (cardOf image) v) (walkOf v name index) n)
-      × ((b : ℕ) → List·Memᴰ b (blocksListed (pulled image name index lent)) ↔ AsksBlock (viewOf (cardOf image) v) (walkOf v name index) b)
+      → ((n : ℕ) → List·Memᴰ n (entries (nodesLeft (pulled image name index lent))) ↔ AsksNode (viewOf (cardOf image) v) (walkOf v name index) n)
+      × ((b : ℕ) → List·Memᴰ b (entries (blocksLeft (pulled image name index lent))) ↔ AsksBlock (viewOf (cardOf image) v) (walkOf v name index) b)
   exactly v opens shape =
       let runs = pullRun (cardOf image) v name index .seen in
       rw (call-opens image name index lent (Opened v) shape opens, numbers-over (runs .nodes) (lent .nodes), numbers-over (runs .blocks) (lent .blocks))

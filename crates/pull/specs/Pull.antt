@@ -12,7 +12,7 @@ use Rattle.checkpoint.specs.declared.Opening.{Opening}
 use Rattle.checkpoint.specs.declared.Opening.the-variants.{Opened, Refused}
 use Rattle.checkpoint.specs.Volume.{openedImage}
 use Rattle.name_hash.specs.Name.{isName}
-use Rattle.list.specs.Lists.{over}
+use Rattle.list.specs.Lists.{Listed, listing, over}
 use Rattle.walk.specs.Walk.{viewOf, empty, Ran, run, Outcome, ok, stop}
 use Rattle.node.specs.Node.{boundsOf}
 use Rattle.node.specs.Block.{Fetched, hole, held}
@@ -42,6 +42,13 @@ pub record Result : Type 0 where
 
 abbrev pub result : Pulled → Lent → Result
 result numbers memory = record { numbers = numbers; memory = memory }
+
+-- "the lists and counts as that pull left them"
+abbrev pub nodesLeft : Result → Listed
+nodesLeft r = listing (r .memory .nodes) (r .numbers .«node_count»)
+
+abbrev pub blocksLeft : Result → Listed
+blocksLeft r = listing (r .memory .blocks) (r .numbers .«block_count»)
 
 -- "a block buffer of exactly 4,096 bytes, a node list of at least 179 and a block list of at least 238 32-bit numbers"
 unfoldable pub lentInShape : Lent → Bool

@@ -12,11 +12,11 @@ use Rattle.checkpoint.specs.declared.Opening.the-variants.{Opened}
 use Rattle.checkpoint.specs.Volume.{openedImage}
 use Rattle.checkpoint.proofs.Inside.{image-shaped}
 use Rattle.nat.specs.Table.{tableAnswer}
-use Rattle.list.specs.Lists.{AllOf}
+use Rattle.list.specs.Lists.{AllOf, entries}
 use Rattle.walk.specs.Walk.{viewOf, Ran, Outcome}
 use Rattle.node.specs.Node.{boundsOf}
 use Rattle.pull.specs.Walk.{Block}
-use Rattle.pull.specs.Pull.{Lent, Result, lentInShape, written, pullRun, pulled}
+use Rattle.pull.specs.Pull.{Lent, Result, lentInShape, written, pullRun, pulled, nodesLeft, blocksLeft}
 use Rattle.pull.proofs.Results.{name-in-shape, call-in-shape, call-opens}
 use Rattle.pull.proofs.Theorems.{run-ended}
 use Rattle.compare.specs.declared.Difference.{Difference}
@@ -26,7 +26,7 @@ use Rattle.compare.specs.Compare.{answered, verdict}
 use Rattle.list.proofs.Searching.{FirstNot}
 use Rattle.compare.proofs.Differences.{SameTable, SameBlock, difference-same, same-difference, difference-bounds, difference-node, difference-block}
 use Rattle.compare.proofs.Openings.{says-same, says-changed, lists-compared, compared-opened}
-use Rattle.pull_again.specs.Demand.{PastOpening, nodesLeft, blocksLeft, entriesOf, said, SameOn, SamePull}
+use Rattle.pull_again.specs.Demand.{PastOpening, said, SameOn, SamePull}
 use Rattle.pull_again.proofs.Steps.{Came, past-came, lists-fit, nodes-of-run, blocks-of-run, same-run, same-written, Opens, same-opens, some-past}
 
 module _ (kept name : List ℕ) (index : ℕ) (lent : Lent) (past : PastOpening (pulled kept name index lent))
@@ -43,10 +43,10 @@ module _ (kept name : List ℕ) (index : ℕ) (lent : Lent) (past : PastOpening 
 
   -- the entries of the two lists as the pull left them
   abbrev nodes : List ℕ
-  nodes = entriesOf (nodesLeft (pulled kept name index lent))
+  nodes = entries (nodesLeft (pulled kept name index lent))
 
   abbrev blocks : List ℕ
-  blocks = entriesOf (blocksLeft (pulled kept name index lent))
+  blocks = entries (blocksLeft (pulled kept name index lent))
 
   -- the first difference between the two cards, on those lists
   abbrev first : Difference
@@ -125,8 +125,8 @@ same-itself image name index lent past =
     same-exactly-if image name index lent past image (came .v) (came .opens) .1
     (record {
       bounds = refl;
-      tables = all _ (tableAnswer (cardOf image) (came .v)) (entriesOf (nodesLeft (pulled image name index lent)));
-      bytes = all _ (cardOf image .block) (entriesOf (blocksLeft (pulled image name index lent)));
+      tables = all _ (tableAnswer (cardOf image) (came .v)) (entries (nodesLeft (pulled image name index lent)));
+      bytes = all _ (cardOf image .block) (entries (blocksLeft (pulled image name index lent)));
     })
   where
     came : Came image name index lent

@@ -14,23 +14,22 @@ use Rattle.checkpoint.specs.declared.Opening.{Opening}
 use Rattle.checkpoint.specs.declared.Opening.the-variants.{Opened, Refused}
 use Rattle.checkpoint.proofs.Inside.{refusals}
 use Rattle.checkpoint.specs.Volume.{openedImage}
-use Rattle.list.specs.Lists.{Rising, AllOf, numbers, over}
+use Rattle.list.specs.Lists.{Rising, AllOf, numbers, over, Listed, entries}
 use Rattle.walk.specs.Walk.{viewOf, empty, Ran, run, Outcome, ok, stop, Ended}
 use Rattle.walk.proofs.Runs.{agree}
 use Rattle.list.proofs.Written.{numbers-over, over-inside}
 use Rattle.node.specs.Node.{Bounds, boundsOf, inMain}
 use Rattle.pull.specs.Walk.{Block, pullWalk}
-use Rattle.pull.specs.Pull.{Lent, Result, callInShape, contentAnswer, answerOf, bufferAfter, written, pullRun, pulled}
+use Rattle.pull.specs.Pull.{Lent, Result, callInShape, contentAnswer, answerOf, bufferAfter, written, pullRun, pulled, nodesLeft, blocksLeft}
 use Rattle.pull.proofs.Sizes.{Counted}
 use Rattle.pull.proofs.Theorems.{Ends, refusal, walked, ends, ending-inside, run-rises, run-inside, run-ended, run-some}
-use Rattle.list.specs.Lists.{Listed, listing}
 use Rattle.compare.specs.Lists.{listsInShape}
 use Rattle.compare.specs.declared.Compared.{Compared}
 use Rattle.compare.specs.Compare.{compared}
 use Rattle.compare.proofs.Shapes.{ListsFit, lists-in-shape, in-shape-lists}
 use Rattle.compare.proofs.Openings.{lists-refused, shape-refused, kept-refused, fresh-refused, compared-opened}
 use Rattle.node.specs.Block.{Fetched, hole, held}
-use Rattle.pull_again.specs.Demand.{PastOpening, nodesLeft, blocksLeft, entriesOf, SameOn, SamePull}
+use Rattle.pull_again.specs.Demand.{PastOpening, SameOn, SamePull}
 
 -- what a pull that got past opening left: its card opened, and its walk's result was written
 pub record Came (image name : List ℕ) (index : ℕ) (lent : Lent) : Type 0 where
@@ -51,19 +50,19 @@ past-came image name index lent past = go refl (ends image name index lent)
 
 -- ---- the lists as the pull left them
 module _ (r : Ran (Outcome Block)) (lent : Lent) where
-  pub nodes-left : entriesOf (nodesLeft (written r lent)) ≡ r .seen .nodes
+  pub nodes-left : entries (nodesLeft (written r lent)) ≡ r .seen .nodes
   nodes-left = numbers-over (r .seen .nodes) (lent .nodes)
 
-  pub blocks-left : entriesOf (blocksLeft (written r lent)) ≡ r .seen .blocks
+  pub blocks-left : entries (blocksLeft (written r lent)) ≡ r .seen .blocks
   blocks-left = numbers-over (r .seen .blocks) (lent .blocks)
 
 -- they are the run's
 module _ {image name : List ℕ} {index : ℕ} {lent : Lent} (came : Came image name index lent) where
-  pub nodes-of-run : entriesOf (nodesLeft (pulled image name index lent)) ≡ pullRun (cardOf image) (came .v) name index .seen .nodes
-  nodes-of-run = ap (λ (r : Result). entriesOf (nodesLeft r)) (came .wrote) ∙ nodes-left (pullRun (cardOf image) (came .v) name index) lent
+  pub nodes-of-run : entries (nodesLeft (pulled image name index lent)) ≡ pullRun (cardOf image) (came .v) name index .seen .nodes
+  nodes-of-run = ap (λ (r : Result). entries (nodesLeft r)) (came .wrote) ∙ nodes-left (pullRun (cardOf image) (came .v) name index) lent
 
-  pub blocks-of-run : entriesOf (blocksLeft (pulled image name index lent)) ≡ pullRun (cardOf image) (came .v) name index .seen .blocks
-  blocks-of-run = ap (λ (r : Result). entriesOf (blocksLeft r)) (came .wrote) ∙ blocks-left (pullRun (cardOf image) (came .v) name index) lent
+  pub blocks-of-run : entries (blocksLeft (pulled image name index lent)) ≡ pullRun (cardOf image) (came .v) name index .seen .blocks
+  blocks-of-run = ap (λ (r : Result). entries (blocksLeft r)) (came .wrote) ∙ blocks-left (pullRun (cardOf image) (came .v) name index) lent
 
 -- Compare takes them
 pub lists-fit : (image name : List ℕ) (index : ℕ) (lent : Lent) (came : Came image name index lent)

@@ -7,28 +7,16 @@ use mathlib.Core.Bool.{true}
 use Rattle.field.specs.Card.{cardOf}
 use Rattle.checkpoint.specs.declared.Volume.{Volume}
 use Rattle.nat.specs.Table.{tableAnswer}
-use Rattle.list.specs.Lists.{AllOf, numbers}
+use Rattle.list.specs.Lists.{AllOf, entries}
 use Rattle.node.specs.Node.{boundsOf}
-use Rattle.pull.specs.Pull.{Lent, Result, result, lentInShape, pulled}
+use Rattle.pull.specs.Pull.{Lent, Result, result, lentInShape, nodesLeft, blocksLeft, pulled}
 use Rattle.compare.specs.declared.Compared.{Compared}
-use Rattle.list.specs.Lists.{Listed, listing}
 use Rattle.compare.specs.Compare.{compared}
 use Rattle.pull_again.specs.declared.Again.{Again}
 
 -- "A pull got past opening if its answer isn't 4 to 8."
 abbrev pub PastOpening : Result → Type 0
 PastOpening r = (r .numbers .answer < 4) ⊎ (8 < r .numbers .answer)
-
--- "the lists and counts as that pull left them"
-abbrev pub nodesLeft : Result → Listed
-nodesLeft r = listing (r .memory .nodes) (r .numbers .«node_count»)
-
-abbrev pub blocksLeft : Result → Listed
-blocksLeft r = listing (r .memory .blocks) (r .numbers .«block_count»)
-
--- "all list entries up to [the counts]"
-abbrev pub entriesOf : Listed → List ℕ
-entriesOf l = numbers (l .bytes) 0 (l .count)
 
 -- what Compare says of a pull's lists: "the first image as the kept one, the second as the new one"
 abbrev pub said : List ℕ → List ℕ → Result → Compared
@@ -45,8 +33,8 @@ pub record SameOn (kept : List ℕ) (v : Volume) (fresh : List ℕ) (u : Volume)
 -- 4,096 bytes of the block buffer."
 pub record SamePull (r q : Result) : Type 0 where
   pub numbers : r .numbers ≡ q .numbers
-  pub nodes : entriesOf (nodesLeft r) ≡ entriesOf (nodesLeft q)
-  pub blocks : entriesOf (blocksLeft r) ≡ entriesOf (blocksLeft q)
+  pub nodes : entries (nodesLeft r) ≡ entries (nodesLeft q)
+  pub blocks : entries (blocksLeft r) ≡ entries (blocksLeft q)
   pub block : r .numbers .answer ≤ 1 → r .memory .block ≡ q .memory .block
 
 -- What a host that pulls, compares and pulls again has in hand, over the memory that it lent to the first pull and to the second:
