@@ -1,4 +1,4 @@
--- A buffer whose front is written and whose rest is cleared. Assumes nothing.
+-- A buffer whose front is written and whose rest is cleared.
 use Prim.Native.Nat.{ℕ, _+_, _-_, _≤_}
 use native.Mathlib.Omega.{arith}
 use mathlib.Core.Path.{_≡_, refl, sym, ap, ap₂, _∙_}
@@ -31,6 +31,7 @@ module _ (front old : List ℕ) (k : ℕ) (written : length front ≡ k) (fits :
       let left = length-drop k old in
       let ends : drop (length now - k) (drop k now) ≡ [] = rw rest (drop-of-length-le (drop k old) {i = length now - k} (omega arith)) in
       let lent : take (length now - k) (drop k now) ≡ drop k old = rw rest (take-all (length now - k) (drop k old) (rw (length-drop k old) (omega arith))) in
-      let clear : cleared ≡ replicate (length old - k) 0 = q ∙ ap (λ (l : List ℕ). replicate (length l) 0) lent ∙ ap (λ (n : ℕ). replicate n 0) (length-drop k old) in
+      let clear : cleared ≡ replicate (length old - k) 0 =
+      q ∙ ap (λ (l : List ℕ). replicate (length l) 0) lent ∙ ap (λ (n : ℕ). replicate n 0) (length-drop k old) in
       let first : take k now ≡ front = ap (take k) is ∙ take-at front (drop k old) k written in
       ap₂ (λ (x y : List ℕ). x ++ y) first (ap₂ (λ (x y : List ℕ). x ++ y) clear ends ∙ append-nil (replicate (length old - k) 0))

@@ -70,8 +70,8 @@ pub main-in-both : {kept fresh : Card} {v u : Volume} → VolumeIn kept v → Vo
     → AllOf (λ b. inMain (boundsOf v) b ≡ true) l → AllOf (InBoth kept fresh) l
 main-in-both {v = v} {u = u} k f s l h =
     let p : v .areas .«main_end» ≡ u .areas .«main_end» = ap (λ (m : Bounds). m .end) (same-bounds (boundsOf v) (boundsOf u) s) in
-    let x = k .areasIn .inCard in
-    let y = f .areasIn .inCard in
+    let x = k .places .areasIn .inCard in
+    let y = f .places .areasIn .inCard in
     all-map (λ b q. let r = in-main (boundsOf v) b q in (omega arith, omega arith)) l h
 
 -- ---- the whole

@@ -1,5 +1,4 @@
 -- What is so of an index that isn't past a file's end: its block begins inside the file, so it holds 1 to 4,096 of its bytes.
--- Assumes nothing.
 use Prim.Native.Nat.{ℕ, _-_, _*_, _%_, _<_, _≤_}
 use native.Mathlib.Omega.{arith}
 use mathlib.Core.Path.{_≡_, refl}

@@ -1,9 +1,13 @@
 use borrow.Author.Tests.{not-true, not-false}
-use mathlib.Core.Path.{_∙_, sym}
-use Rattle.nat.specs.Table.{tableAnswer}
+use mathlib.Core.Path.{_≡_, _∙_, sym}
+use mathlib.Core.Bool.{true}
+use Rattle.nat.specs.Table.{inRange, tableAnswer}
 use borrow.Author.Needs.{needs}
 use Rattle.nat.proofs.table_answer.Statement.{statement}
 use Rattle.nat.proofs.table_answer.Tie as tie
+
+in-range-here : (k : tie.Else1) → let a = k .before .before .before .args in inRange (a .v) (a .number) ≡ true
+in-range-here k = sym (k .before .in-range .ensures) ∙ not-false _ (k .if1 .left)
 
 in-range-requires : tie.Need-in-range-requires
 in-range-requires c κs = search needs
@@ -17,12 +21,13 @@ journal-says-requires c κs = search needs
 
 or-table-requires : tie.Need-or-table-requires
 or-table-requires c κs =
-    (c .before .before .before .before .pre, sym (c .before .before .in-range .ensures) ∙ not-false _ (c .before .if1 .left))
+    (c .before .before .before .before .pre, in-range-here (c .before))
 
 returns-2 : tie.Need-returns-2
 unfolding tableAnswer
 returns-2 c =
-    rw (← c .before .before .before .in-range .ensures, not-false (c .before .before .before .in-range .result) (c .before .before .if1 .left), ← c .before .journal-says .ensures) (c .or-table .ensures)
+    let said = c .before in
+    rw (in-range-here (said .before), ← said .journal-says .ensures) (c .or-table .ensures)
 
 pub table-answer-spec : {M : Type 1} → statement M
 table-answer-spec =

@@ -4,6 +4,13 @@ use borrow.Author.Needs.{needs}
 use Rattle.superblock.proofs.read_fields.Statement.{statement}
 use Rattle.superblock.proofs.read_fields.Tie as tie
 
+-- places on the way: from eight-of reads back to eight, and from eight to the start
+abbrev eight-of : tie.After-get3215 → tie.After-get327
+eight-of k = k .before .before .before .before .before .before .before .before
+
+abbrev start-of : tie.After-get327 → tie.Start
+start-of k = k .before .before .before .before .before .before .before .before .before
+
 get32-requires : tie.Need-get32-requires
 get32-requires c κs = search needs
 
@@ -62,40 +69,25 @@ get32-requires-18 : tie.Need-get32-requires-18
 get32-requires-18 c κs = search needs
 
 get32-requires-19 : tie.Need-get32-requires-19
-get32-requires-19 c κs =
-    let a = c .before .before .before .before .before .before .before .before .before .before .before .before in
-    let start = a .before .before .before .before .before .before .before .before in
-    omega (arith, start .pre)
+get32-requires-19 c κs = omega (arith, start-of (eight-of (c .before .before .before)) .pre)
 
 get32-requires-20 : tie.Need-get32-requires-20
-get32-requires-20 c κs =
-    let a = c .before .before .before .before .before .before .before .before .before .before .before .before in
-    let start = a .before .before .before .before .before .before .before .before .before in
-    omega (arith, start .pre)
+get32-requires-20 c κs = omega (arith, start-of (eight-of (c .before .before .before .before)) .pre)
 
 get32-requires-21 : tie.Need-get32-requires-21
-get32-requires-21 c κs =
-    let a = c .before .before .before .before .before .before .before .before .before .before .before .before in
-    let start = a .before .before .before .before .before .before .before .before .before .before in
-    omega (arith, start .pre)
+get32-requires-21 c κs = omega (arith, start-of (eight-of (c .before .before .before .before .before)) .pre)
 
 get32-requires-22 : tie.Need-get32-requires-22
-get32-requires-22 c κs =
-    let a = c .before .before .before .before .before .before .before .before .before .before .before .before in
-    let start = a .before .before .before .before .before .before .before .before .before .before .before in
-    omega (arith, start .pre)
+get32-requires-22 c κs = omega (arith, start-of (eight-of (c .before .before .before .before .before .before)) .pre)
 
 get32-requires-23 : tie.Need-get32-requires-23
-get32-requires-23 c κs =
-    let a = c .before .before .before .before .before .before .before .before .before .before .before .before in
-    let start = a .before .before .before .before .before .before .before .before .before .before .before .before in
-    omega (arith, start .pre)
+get32-requires-23 c κs = omega (arith, start-of (eight-of (c .before .before .before .before .before .before .before)) .pre)
 
 returns : tie.Need-returns
 unfolding superblockOf
 returns c =
     let a = c .before .before .before .before .before .before .before .before in
-    let b = a .before .before .before .before .before .before .before .before in
+    let b = eight-of a in
     λ i. record {
       «log_sectorsize» = b .before .before .before .before .before .before .before .get32 .ensures i;
       «log_sectors_per_block» = b .before .before .before .before .before .before .get322 .ensures i;
