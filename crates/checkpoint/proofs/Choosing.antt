@@ -10,7 +10,8 @@ use Rattle.field.specs.Choice.{choose}
 use Rattle.field.proofs.Choosing.{either}
 use Rattle.checkpoint.specs.declared.Chosen.{Chosen}
 use Rattle.checkpoint.specs.declared.Chosen.the-variants.{Pack, Nothing}
-use Rattle.checkpoint.specs.Pack.{packPasses, versionOf, newer, secondPack, chosen}
+use Rattle.checkpoint.specs.Checkpoint.{headerOf}
+use Rattle.checkpoint.specs.Pack.{packPasses, newer, secondPack, chosen}
 
 -- of a, if p, and b, if q, where b wins over a if `wins`: the winner can be tried first
 winner-first : {A : Type 0} (p q wins : Bool) (a b none : A)
@@ -43,13 +44,13 @@ passing-of-two card one other most start l m h =
 
 module _ (card : Card) (address : ℕ) where
   pub chosen-in-order : chosen card address
-      ≡ choose (newer (versionOf (card .block address)) (versionOf (card .block (secondPack address))))
+      ≡ choose (newer (headerOf card address) (headerOf card (secondPack address)))
       (firstPassing card (secondPack address) address)
       (firstPassing card address (secondPack address))
   unfolding chosen
   chosen-in-order =
       winner-first (packPasses card address) (packPasses card (secondPack address))
-      (newer (versionOf (card .block address)) (versionOf (card .block (secondPack address))))
+      (newer (headerOf card address) (headerOf card (secondPack address)))
       (Pack address)
       (Pack (secondPack address))
       Nothing
@@ -59,4 +60,4 @@ module _ (card : Card) (address : ℕ) where
       let inOrder = sym chosen-in-order ∙ h in
       ⊎-elim (λ w. passing-of-two card (secondPack address) address (secondPack address) start (omega arith) (omega arith) (rw w at inOrder))
       (λ w. passing-of-two card address (secondPack address) (secondPack address) start (omega arith) (omega arith) (rw w at inOrder))
-      (either (newer (versionOf (card .block address)) (versionOf (card .block (secondPack address)))))
+      (either (newer (headerOf card address) (headerOf card (secondPack address))))

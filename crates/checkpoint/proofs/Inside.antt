@@ -4,7 +4,7 @@ use mathlib.Core.Path.{_≡_, refl, sym, _∙_}
 use mathlib.Core.Bool.{true}
 use mathlib.Core.List.{List}
 use mathlib.Core.Logic.{_⊎_, inl, inr, ⊎-elim}
-use Prim.Native.Nat.{ℕ, _≤_}
+use Prim.Native.Nat.{ℕ, _≤_, _<_}
 use native.Mathlib.Omega.{arith}
 use borrow.Author.Tests.{leb-true}
 use lib.ListN.{length, length-drop}
@@ -12,21 +12,24 @@ use Rattle.field.specs.Number.{le16}
 use Rattle.field.specs.Card.{Card, cardOf}
 use Rattle.field.proofs.Choosing.{either}
 use Rattle.field.proofs.Blocks.{length-block}
-use Rattle.superblock.specs.Shape.{inShape, InShape}
+use Rattle.superblock.specs.Shape.{inShape}
 use Rattle.superblock.specs.Areas.{found, AreasIn}
 use Rattle.superblock.specs.declared.Areas.{Areas}
 use Rattle.superblock.specs.declared.Found.{Found}
 use Rattle.superblock.specs.declared.Found.the-variants as f
-use Rattle.superblock.proofs.Shaped.{shape-card}
 use Rattle.superblock.proofs.Finding.{areas-in, found-kinds}
+use Rattle.checkpoint.specs.declared.Checkpoint.{Checkpoint}
 use Rattle.checkpoint.specs.declared.Chosen.{Chosen}
 use Rattle.checkpoint.specs.declared.Chosen.the-variants as c
 use Rattle.checkpoint.specs.declared.Volume.{Volume}
 use Rattle.checkpoint.specs.declared.Opening.{Opening}
 use Rattle.checkpoint.specs.declared.Opening.the-variants.{Opened, Refused}
 use Rattle.checkpoint.specs.Pack.{secondPack, packPasses, chosen}
-use Rattle.checkpoint.specs.Volume.{mapsReadable, volumeOf, journalOf, journalReadable, openPack, openChosen, openAreas, opened, openedImage, VolumeIn}
+use Rattle.checkpoint.specs.Checkpoint.{headerOf}
+use Rattle.checkpoint.specs.Volume.{mapsReadable, volumeOf, journalOf, journalReadable, openPack, openChosen, openAreas}
+use Rattle.checkpoint.specs.Volume.{opened, openedImage, PlacesIn, VolumeIn}
 use Rattle.checkpoint.proofs.Choosing.{chosen-passes}
+use Rattle.checkpoint.proofs.Passing.{passing-total}
 use Rattle.checkpoint.proofs.Reading.{journal-starts, map-inside, journal-inside}
 use Rattle.checkpoint.proofs.Ways.{maps-refuse, journal-refuses, pack-opens, shape-refuses, shape-opens}
 
@@ -37,32 +40,41 @@ Ends card o = ((n : ℕ) × (5 ≤ n) × (n ≤ 8) × (o ≡ Refused n)) ⊎ ((v
 refused : {card : Card} {o : Opening} (n : ℕ) → 5 ≤ n → n ≤ 8 → o ≡ Refused n → Ends card o
 refused n l m e = inl (n, l, m, e)
 
-journal-count : (card : Card) (v : Volume) → journalReadable card v ≡ true → le16 (journalOf card v) 0 ≤ 38
+journal-count : (journal : List ℕ) → journalReadable journal ≡ true → le16 journal 0 ≤ 38
 unfolding journalReadable
-journal-count card v h = leb-true _ _ h
+journal-count journal h = leb-true _ _ h
 
-module _ (card : Card) (a : Areas) (areas : AreasIn card a) where
+module _ (card : Card) (a : Areas) (areas : AreasIn (card .blocks) a) where
   module _ (start : ℕ) (near : start ≤ secondPack (a .checkpoint)) (p : packPasses card start ≡ true) where
-    volume-of-in : mapsReadable a (card .block start) ≡ true → journalReadable card (volumeOf card a start) ≡ true
-        → VolumeIn card (volumeOf card a start)
-    volume-of-in m j =
+    abbrev header : Checkpoint
+    header = headerOf card start
+
+    abbrev volume : Volume
+    volume = volumeOf a start header
+
+    places-in : mapsReadable a header ≡ true → PlacesIn (card .blocks) volume
+    places-in m =
         record {
           areasIn = areas;
           packInside = omega arith;
-          mapInside = map-inside a (card .block start) m;
-          journalInside = journal-inside card a start (omega arith) p m;
-          journalStarts = journal-starts (card .block start);
-          journalCount = journal-count card (volumeOf card a start) j;
+          mapInside = map-inside a header m;
+          journalInside = omega (arith, passing-total card start p, journal-inside a header m);
+          journalStarts = journal-starts header;
         }
 
     pack-ends : Ends card (openPack card a start)
     pack-ends =
         ⊎-elim (λ m.
-        ⊎-elim (λ j. inr (volumeOf card a start, volume-of-in m j, pack-opens card a start (volumeOf card a start) refl m j))
-        (λ j. refused 8 (omega arith) (omega arith) (journal-refuses card a start (volumeOf card a start) refl m j))
-        (either (journalReadable card (volumeOf card a start))))
-        (λ m. refused 8 (omega arith) (omega arith) (maps-refuse card a start m))
-        (either (mapsReadable a (card .block start)))
+        ⊎-elim (λ j.
+        inr (
+          volume,
+          record { places = places-in m; journalCount = journal-count (journalOf card volume) j },
+          pack-opens card a start header refl volume refl m j,
+        ))
+        (λ j. refused 8 (omega arith) (omega arith) (journal-refuses card a start header refl volume refl m j))
+        (either (journalReadable (journalOf card volume))))
+        (λ m. refused 8 (omega arith) (omega arith) (maps-refuse card a start header refl m))
+        (either (mapsReadable a header))
 
   chosen-ends : (k : Chosen) → chosen card (a .checkpoint) ≡ k → Ends card (openChosen card a k)
   chosen-ends (c.Pack start) e =
@@ -89,16 +101,13 @@ volume-in card v h =
     (λ w. let e = w .2 in let same : v ≡ w .0 = cc in rw same (w .1))
     (opened-ends card)
 
--- the same of an image, with its shape
+-- the same of an image
 module _ (image : List ℕ) (v : Volume) (h : openedImage image ≡ Opened v) where
   pub image-shaped : inShape (length image) ≡ true
   image-shaped =
       ⊎-elim (λ p. p)
       (λ p. let e = shape-refuses image p in let n : _≡_ {A = ℕ} 0 1 = cc in absurd (omega arith))
       (either (inShape (length image)))
-
-  pub image-shape : InShape (cardOf image)
-  image-shape = shape-card image image-shaped
 
   pub image-volume : VolumeIn (cardOf image) v
   image-volume = volume-in (cardOf image) v (sym (shape-opens image image-shaped) ∙ h)
@@ -115,9 +124,10 @@ refusals image n h =
     (either (inShape (length image)))
 
 -- a journal has room for its count and 38 entries of 13 bytes
-pub journal-room : (image : List ℕ) (v : Volume) → VolumeIn (cardOf image) v → 496 ≤ length (journalOf (cardOf image) v)
-journal-room image v w =
-    rw length-drop
-    (⊎-elim (λ s. omega (arith, length-block image (v .«journal_block») (w .journalInside)))
-    (λ s. omega (arith, length-block image (v .«journal_block») (w .journalInside)))
-    (w .journalStarts))
+pub journal-room : (image : List ℕ) (v : Volume) → v .«journal_block» < cardOf image .blocks → v .«journal_at» ≤ 3584
+    → 496 ≤ length (journalOf (cardOf image) v)
+journal-room image v inside starts = rw length-drop (omega (arith, length-block image (v .«journal_block») inside))
+
+-- where it starts, as a bound
+pub journal-start : {blocks : ℕ} {v : Volume} → PlacesIn blocks v → v .«journal_at» ≤ 3584
+journal-start h = ⊎-elim (λ e. omega arith) (λ e. omega arith) (h .journalStarts)

@@ -1,29 +1,28 @@
--- A pack passes, in the order in which the code tests; and what a pack that passes says of its total.
+-- A pack's first block passes, in the order in which the code tests; and what a pack that passes says of its total.
 use mathlib.Core.Path.{_≡_, refl, _∙_}
 use mathlib.Core.Bool.{Bool, true, _&&_, and-assoc, and-comm, and-false}
+use mathlib.Core.List.{List}
 use Prim.Native.Nat.{ℕ, _≤_}
-use lib.Dec.{eqb, leb}
+use lib.Dec.{leb}
 use Rattle.field.specs.Card.{Card}
-use Rattle.field.proofs.Choosing.{needed-le}
-use Rattle.checkpoint.specs.Pack.{blockPasses, totalOf, versionOf, lastBlock, packPasses}
+use Rattle.field.proofs.Choosing.{needed, needed-le}
+use Rattle.checkpoint.specs.Checkpoint.{checkpointOf, headerOf}
+use Rattle.checkpoint.specs.Pack.{blockPasses, firstPasses, packPasses}
 
-middle-first : (a b c d e : Bool) → a && b && c && d && e ≡ b && c && (a && (d && e))
-middle-first a b c d e =
-    and-assoc (a && b && c) d e
-    ∙ rw (and-assoc a b c, and-comm a (b && c), and-assoc (b && c) a (d && e))
+-- the total, then the checksum
+pub first-in-order : (first : List ℕ) → firstPasses first
+    ≡ leb 2 (checkpointOf first .«cp_pack_total_block_count») && leb (checkpointOf first .«cp_pack_total_block_count») 512
+    && blockPasses first
+unfolding firstPasses
+first-in-order first =
+    let total : ℕ = checkpointOf first .«cp_pack_total_block_count» in
+    and-assoc (blockPasses first) (leb 2 total) (leb total 512) ∙ and-comm (blockPasses first) (leb 2 total && leb total 512)
 
-module _ (card : Card) (start : ℕ) where
-  -- the total, the first block, the last
-  pub pack-in-order : packPasses card start
-      ≡ leb 2 (totalOf (card .block start)) && leb (totalOf (card .block start)) 512
-      && (blockPasses (card .block start)
-      && (blockPasses (card .block (lastBlock card start))
-      && eqb (versionOf (card .block (lastBlock card start))) (versionOf (card .block start))))
-  unfolding packPasses
-  pack-in-order =
-      middle-first (blockPasses (card .block start)) (leb 2 (totalOf (card .block start))) (leb (totalOf (card .block start)) 512)
-      (blockPasses (card .block (lastBlock card start)))
-      (eqb (versionOf (card .block (lastBlock card start))) (versionOf (card .block start)))
+pub first-total : (first : List ℕ) → firstPasses first ≡ true
+    → (2 ≤ checkpointOf first .«cp_pack_total_block_count») × (checkpointOf first .«cp_pack_total_block_count» ≤ 512)
+first-total first h = (needed-le (λ p. first-in-order first ∙ rw p) h, needed-le (λ p. first-in-order first ∙ rw (p, and-false)) h)
 
-  pub passing-total : packPasses card start ≡ true → (2 ≤ totalOf (card .block start)) × (totalOf (card .block start) ≤ 512)
-  passing-total h = (needed-le (λ p. pack-in-order ∙ rw p) h, needed-le (λ p. pack-in-order ∙ rw (p, and-false)) h)
+pub passing-total : (card : Card) (start : ℕ) → packPasses card start ≡ true
+    → (2 ≤ headerOf card start .«cp_pack_total_block_count») × (headerOf card start .«cp_pack_total_block_count» ≤ 512)
+unfolding packPasses
+passing-total card start h = first-total (card .block start) (needed (λ p. rw p) h)

@@ -1,44 +1,35 @@
--- Where the NAT map and the journal of a readable pack are: inside its first block, and inside the card.
+-- Where the NAT map and the journal of a readable pack are: inside its first block, and inside the pack.
 use mathlib.Core.Path.{_≡_, refl}
 use mathlib.Core.Bool.{true, and-false}
-use mathlib.Core.List.{List}
 use mathlib.Core.Logic.{_⊎_, inl, inr, ⊎-elim}
 use Prim.Native.Nat.{ℕ, _+_, _*_, _-_, _≤_, _<_}
 use native.Mathlib.Omega.{arith}
-use Rattle.field.specs.Number.{le32}
-use Rattle.field.specs.Card.{Card}
 use Rattle.field.proofs.Choosing.{either, needed, needed-eq, needed-le}
 use Rattle.superblock.specs.declared.Areas.{Areas}
-use Rattle.checkpoint.specs.Pack.{totalOf, packPasses}
-use Rattle.checkpoint.specs.Journal.{flagsOf, compact, journalIn, journalPlaced, journalAt}
+use Rattle.checkpoint.specs.declared.Checkpoint.{Checkpoint}
+use Rattle.checkpoint.specs.Journal.{compact, journalIn, journalPlaced, journalAt}
 use Rattle.checkpoint.specs.Volume.{natMapAt, mapsReadable}
-use Rattle.checkpoint.proofs.Passing.{passing-total}
 
-pub journal-starts : (first : List ℕ) → (journalAt first ≡ 0) ⊎ (journalAt first ≡ 3584)
-unfolding journalAt
-journal-starts first = ⊎-elim (λ p. inl (rw p)) (λ p. inr (rw p)) (either (compact (flagsOf first)))
+module _ (cp : Checkpoint) where
+  pub journal-starts : (journalAt cp ≡ 0) ⊎ (journalAt cp ≡ 3584)
+  unfolding journalAt
+  journal-starts = ⊎-elim (λ p. inl (rw p)) (λ p. inr (rw p)) (either (compact cp))
 
-pub journal-at-most : (first : List ℕ) → journalAt first ≤ 3584
-journal-at-most first = ⊎-elim (λ s. omega arith) (λ s. omega arith) (journal-starts first)
+  pub journal-at-most : journalAt cp ≤ 3584
+  journal-at-most = ⊎-elim (λ s. omega arith) (λ s. omega arith) journal-starts
 
-journal-before : (first : List ℕ) → journalPlaced first ≡ true → journalIn first ≤ totalOf first - 2
-unfolding journalPlaced
-journal-before first h = needed-le (λ p. simp (p, and-false)) h
+  journal-before : journalPlaced cp ≡ true → journalIn cp ≤ cp .«cp_pack_total_block_count» - 2
+  unfolding journalPlaced
+  journal-before h = needed-le (λ p. simp (p, and-false)) h
 
-module _ (a : Areas) (first : List ℕ) (h : mapsReadable a first ≡ true) where
-  pub map-inside : natMapAt first + 32 * a .«nat_segments» ≤ 4092
+module _ (a : Areas) (cp : Checkpoint) (h : mapsReadable a cp ≡ true) where
+  pub map-inside : natMapAt cp + 32 * a .«nat_segments» ≤ 4092
   unfolding mapsReadable
   map-inside =
-      let size : le32 first 160 ≡ 32 * a .«nat_segments» = needed-eq (λ p. simp (p, and-false)) h in
-      let fits : 192 + le32 first 156 + le32 first 160 ≤ 4092 = needed-le (λ p. simp (p, and-false)) h in
+      let size : cp .«nat_ver_bitmap_bytesize» ≡ 32 * a .«nat_segments» = needed-eq (λ p. simp (p, and-false)) h in
+      let fits : 192 + cp .«sit_ver_bitmap_bytesize» + cp .«nat_ver_bitmap_bytesize» ≤ 4092 = needed-le (λ p. simp (p, and-false)) h in
       omega arith
 
-  pub journal-placed : journalPlaced first ≡ true
+  pub journal-inside : journalIn cp ≤ cp .«cp_pack_total_block_count» - 2
   unfolding mapsReadable
-  journal-placed = needed (λ p. simp (p, and-false)) h
-
-pub journal-inside : (card : Card) (a : Areas) (start : ℕ)
-    → start + 512 ≤ card .blocks → packPasses card start ≡ true → mapsReadable a (card .block start) ≡ true
-    → start + journalIn (card .block start) < card .blocks
-journal-inside card a start inside p h =
-    omega (arith, passing-total card start p, journal-before (card .block start) (journal-placed a (card .block start) h))
+  journal-inside = journal-before cp (needed (λ p. simp (p, and-false)) h)

@@ -9,24 +9,26 @@ use Rattle.superblock.specs.Shape.{inShape}
 use Rattle.superblock.specs.Areas.{found}
 use Rattle.superblock.specs.declared.Areas.{Areas}
 use Rattle.superblock.specs.declared.Found.{Found}
+use Rattle.checkpoint.specs.declared.Checkpoint.{Checkpoint}
 use Rattle.checkpoint.specs.declared.Volume.{Volume}
 use Rattle.checkpoint.specs.declared.Opening.the-variants.{Opened, Refused}
-use Rattle.checkpoint.specs.Volume.{mapsReadable, volumeOf, journalReadable, openPack, openAreas, opened, openedImage}
+use Rattle.checkpoint.specs.Checkpoint.{headerOf}
+use Rattle.checkpoint.specs.Volume.{mapsReadable, volumeOf, journalOf, journalReadable, openPack, openAreas, opened, openedImage}
 
--- the three ways of a chosen pack
-module _ (card : Card) (a : Areas) (start : ℕ) where
-  pub maps-refuse : mapsReadable a (card .block start) ≡ false → openPack card a start ≡ Refused 8
+-- the three ways of a chosen pack, by its header
+module _ (card : Card) (a : Areas) (start : ℕ) (cp : Checkpoint) (read : cp ≡ headerOf card start) where
+  pub maps-refuse : mapsReadable a cp ≡ false → openPack card a start ≡ Refused 8
   unfolding openPack
-  maps-refuse p = rw p
+  maps-refuse p = rw (← read, p)
 
-  module _ (v : Volume) (e : v ≡ volumeOf card a start) (p : mapsReadable a (card .block start) ≡ true) where
-    pub journal-refuses : journalReadable card v ≡ false → openPack card a start ≡ Refused 8
+  module _ (v : Volume) (e : v ≡ volumeOf a start cp) (p : mapsReadable a cp ≡ true) where
+    pub journal-refuses : journalReadable (journalOf card v) ≡ false → openPack card a start ≡ Refused 8
     unfolding openPack
-    journal-refuses q = rw (p, ← e, q)
+    journal-refuses q = rw (← read, p, rw e at q)
 
-    pub pack-opens : journalReadable card v ≡ true → openPack card a start ≡ Opened v
+    pub pack-opens : journalReadable (journalOf card v) ≡ true → openPack card a start ≡ Opened v
     unfolding openPack
-    pack-opens q = rw (p, ← e, q)
+    pack-opens q = rw (← read, p, rw e at q, ← e)
 
 -- an image out of shape, and in shape
 module _ (image : List ℕ) where

@@ -1,43 +1,39 @@
--- Where the NAT journal of a pack is.
+-- Where the NAT journal of a pack is, by the pack's header.
 use mathlib.Core.List.{List}
 use mathlib.Core.Bool.{Bool, _&&_, _||_}
 use Prim.Native.Nat.{ℕ, _-_, _/_, _%_}
 use lib.Dec.{eqb, leb}
-use Rattle.field.specs.Number.{le32}
 use Rattle.field.specs.Choice.{choose}
-use Rattle.checkpoint.specs.Pack.{totalOf}
-
--- "Flags (132): unmount 1, compact 4, fastboot 20 hex, large NAT map 400 hex."
-abbrev pub flagsOf : List ℕ → ℕ
-flagsOf first = le32 first 132
+use Rattle.checkpoint.specs.declared.Checkpoint.{Checkpoint}
 
 -- the flag of the value `one` is set
 abbrev pub flagSet : ℕ → ℕ → Bool
 flagSet flags one = eqb (flags / one % 2) 1
 
-abbrev pub unmount : ℕ → Bool
-unmount flags = flagSet flags 1
+-- "Flags (132): unmount 1, compact 4, fastboot 20 hex, large NAT map 400 hex."
+abbrev pub unmount : Checkpoint → Bool
+unmount cp = flagSet (cp .«ckpt_flags») 1
 
-abbrev pub compact : ℕ → Bool
-compact flags = flagSet flags 4
+abbrev pub compact : Checkpoint → Bool
+compact cp = flagSet (cp .«ckpt_flags») 4
 
-abbrev pub fastboot : ℕ → Bool
-fastboot flags = flagSet flags 32
+abbrev pub fastboot : Checkpoint → Bool
+fastboot cp = flagSet (cp .«ckpt_flags») 32
 
-abbrev pub largeNatMap : ℕ → Bool
-largeNatMap flags = flagSet flags 1024
+abbrev pub largeNatMap : Checkpoint → Bool
+largeNatMap cp = flagSet (cp .«ckpt_flags») 1024
 
 -- the journal block, counted in the pack. "Compact: the journal block is the start-of-summaries number (140)"; "Else it is block
 -- total − 7 with unmount or fastboot, total − 4 without": 0 where the pack is too short for that
-unfoldable pub journalIn : List ℕ → ℕ
-journalIn first =
-    choose (compact (flagsOf first)) (le32 first 140)
-    (totalOf first - choose (unmount (flagsOf first) || fastboot (flagsOf first)) 7 4)
+unfoldable pub journalIn : Checkpoint → ℕ
+journalIn cp =
+    choose (compact cp) (cp .«cp_pack_start_sum»)
+    (cp .«cp_pack_total_block_count» - choose (unmount cp || fastboot cp) 7 4)
 
 -- "1 to total − 2", "and at least 1": of the two places counted from the end neither is past total − 2
-unfoldable pub journalPlaced : List ℕ → Bool
-journalPlaced first = leb 1 (journalIn first) && leb (journalIn first) (totalOf first - 2)
+unfoldable pub journalPlaced : Checkpoint → Bool
+journalPlaced cp = leb 1 (journalIn cp) && leb (journalIn cp) (cp .«cp_pack_total_block_count» - 2)
 
 -- "NAT journal at its byte 0", "journal at its byte 3,584"
-unfoldable pub journalAt : List ℕ → ℕ
-journalAt first = choose (compact (flagsOf first)) 0 3584
+unfoldable pub journalAt : Checkpoint → ℕ
+journalAt cp = choose (compact cp) 0 3584

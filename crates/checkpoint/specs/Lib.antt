@@ -1,3 +1,4 @@
+pub mod Checkpoint
 pub mod Pack
 pub mod Journal
 pub mod Volume

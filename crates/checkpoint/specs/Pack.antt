@@ -4,38 +4,41 @@ use mathlib.Core.Bool.{Bool, _&&_}
 use Prim.Native.Nat.{ℕ, _+_, _-_}
 use lib.ListN.{take}
 use lib.Dec.{eqb, leb, ltb}
-use Rattle.field.specs.Number.{le32, le64}
+use Rattle.field.specs.Number.{le32}
 use Rattle.field.specs.Card.{Card}
 use Rattle.field.specs.Choice.{choose}
 use Rattle.crc32.specs.Checksum.{checksumOf}
+use Rattle.checkpoint.specs.declared.Checkpoint.{Checkpoint}
 use Rattle.checkpoint.specs.declared.Chosen.{Chosen}
 use Rattle.checkpoint.specs.declared.Chosen.the-variants.{Pack, Nothing}
+use Rattle.checkpoint.specs.Checkpoint.{checkpointOf, headerOf}
 
 -- "A block passes if its checksum offset (164) is 4,092 and the number there is the .. CRC-32 .. over the first 4,092 bytes."
 unfoldable pub blockPasses : List ℕ → Bool
-blockPasses block = eqb (le32 block 164) 4092 && eqb (le32 block 4092) (checksumOf (take 4092 block))
+blockPasses block = eqb (checkpointOf block .«checksum_offset») 4092 && eqb (le32 block 4092) (checksumOf (take 4092 block))
 
--- fields of a pack's first block: "total (offset 136)", "version (64 bits, offset 0)"
-abbrev pub totalOf : List ℕ → ℕ
-totalOf first = le32 first 136
+-- "its first block passes, its total (offset 136) is 2 to 512"
+unfoldable pub firstPasses : List ℕ → Bool
+firstPasses first =
+    blockPasses first && leb 2 (checkpointOf first .«cp_pack_total_block_count»)
+    && leb (checkpointOf first .«cp_pack_total_block_count») 512
 
-abbrev pub versionOf : List ℕ → ℕ
-versionOf first = le64 first 0
+-- a pack's last block "passes and has the same version (64 bits, offset 0)"
+unfoldable pub lastPasses : List ℕ → ℕ → Bool
+lastPasses last version = blockPasses last && eqb (checkpointOf last .«checkpoint_ver») version
 
 -- "block total − 1" of a pack
 abbrev pub lastBlock : Card → ℕ → ℕ
-lastBlock card start = start + (totalOf (card .block start) - 1)
+lastBlock card start = start + (headerOf card start .«cp_pack_total_block_count» - 1)
 
 -- "A pack passes if its first block passes, its total (offset 136) is 2 to 512, and block total − 1 passes and has the same version"
 unfoldable pub packPasses : Card → ℕ → Bool
 packPasses card start =
-    blockPasses (card .block start) && leb 2 (totalOf (card .block start)) && leb (totalOf (card .block start)) 512
-    && blockPasses (card .block (lastBlock card start))
-    && eqb (versionOf (card .block (lastBlock card start))) (versionOf (card .block start))
+    firstPasses (card .block start) && lastPasses (card .block (lastBlock card start)) (headerOf card start .«checkpoint_ver»)
 
 -- "the greater version as an unsigned number is chosen; if equal, the first": the second pack wins by its version
-unfoldable pub newer : ℕ → ℕ → Bool
-newer first second = ltb first second
+unfoldable pub newer : Checkpoint → Checkpoint → Bool
+newer first second = ltb (first .«checkpoint_ver») (second .«checkpoint_ver»)
 
 -- "Packs start at the checkpoint address and 512 blocks on."
 abbrev pub secondPack : ℕ → ℕ
@@ -45,5 +48,6 @@ secondPack address = address + 512
 unfoldable pub chosen : Card → ℕ → Chosen
 chosen card address =
     choose (packPasses card address)
-    (choose (packPasses card (secondPack address) && newer (versionOf (card .block address)) (versionOf (card .block (secondPack address)))) (Pack (secondPack address)) (Pack address))
+    (choose (packPasses card (secondPack address) && newer (headerOf card address) (headerOf card (secondPack address)))
+    (Pack (secondPack address)) (Pack address))
     (choose (packPasses card (secondPack address)) (Pack (secondPack address)) Nothing)

@@ -1,17 +1,17 @@
 // Opening a card: the checkpoint pack that is chosen, where its NAT map and journal are, and the volume that they describe.
-// What each means is in specs/: Pack, Journal, Volume.
+// What each means is in specs/: Checkpoint, Pack, Journal, Volume.
 ghost use mathlib.Core.Path.{_≡_};
-ghost use mathlib.Core.Bool.{true, _&&_, _||_};
+ghost use mathlib.Core.Bool.{true, _||_};
 ghost use Prim.Native.Nat.{_+_, _≤_, _<_};
 ghost use lib.ListN.{length};
-ghost use lib.Dec.{eqb};
 ghost use Rattle.field.specs.Card.{cardOf};
 ghost use Rattle.field.specs.Choice.{choose};
 ghost use Rattle.superblock.specs.Shape.{InShape};
 ghost use Rattle.superblock.specs.Areas.{AreasIn};
-ghost use Rattle.checkpoint.specs.Pack.{blockPasses, totalOf, versionOf, packPasses, newer, secondPack, chosen};
+ghost use Rattle.checkpoint.specs.Checkpoint.{checkpointOf};
+ghost use Rattle.checkpoint.specs.Pack.{blockPasses, firstPasses, lastPasses, packPasses, newer, chosen};
 ghost use Rattle.checkpoint.specs.Journal.{flagSet, unmount, fastboot, journalIn, journalPlaced, journalAt};
-ghost use Rattle.checkpoint.specs.Volume.{mapsReadable, volumeOf, journalReadable, openPack, openChosen, openedImage};
+ghost use Rattle.checkpoint.specs.Volume.{mapsReadable, volumeOf, journalOf, journalReadable, openPack, openChosen, openedImage};
 
 // The flags of a pack.
 const UNMOUNT: u32 = 1;
@@ -21,6 +21,17 @@ const COMPACT: u32 = 4;
 const FASTBOOT: u32 = 32;
 
 const LARGE_NAT_MAP: u32 = 1024;
+
+// What is read of a checkpoint block's header, under the names in the Linux header.
+pub struct Checkpoint {
+    pub checkpoint_ver: u64,
+    pub ckpt_flags: u32,
+    pub cp_pack_total_block_count: u32,
+    pub cp_pack_start_sum: u32,
+    pub sit_ver_bitmap_bytesize: u32,
+    pub nat_ver_bitmap_bytesize: u32,
+    pub checksum_offset: u32,
+}
 
 // The chosen pack's first block, or that no pack passes.
 pub enum Chosen {
@@ -49,61 +60,79 @@ pub enum Opening {
     Refused(u32),
 }
 
-// The offset is tested first, since a checksum is dear.
-fn block_passes(block: &[u8]) -> bool
+pub fn checkpoint_of(block: &[u8]) -> Checkpoint
     requires { ⌜ length (now block) ≡ 4096 ⌝ }
+    ensures { λ r. ⌜ r ≡ checkpointOf (now (block .entry)) ⌝ }
+{
+    Checkpoint {
+        checkpoint_ver: field::get64(block, 0),
+        ckpt_flags: field::get32(block, 132),
+        cp_pack_total_block_count: field::get32(block, 136),
+        cp_pack_start_sum: field::get32(block, 140),
+        sit_ver_bitmap_bytesize: field::get32(block, 156),
+        nat_ver_bitmap_bytesize: field::get32(block, 160),
+        checksum_offset: field::get32(block, 164),
+    }
+}
+
+// Whether a block passes, by its header. The offset is tested first, since a checksum is dear.
+fn block_passes(block: &[u8], cp: Checkpoint) -> bool
+    requires { ⌜ (length (now block) ≡ 4096) × (cp ≡ checkpointOf (now block)) ⌝ }
     ensures { λ r. ⌜ r ≡ blockPasses (now (block .entry)) ⌝ }
 {
-    if field::get32(block, 164) != 4092 {
+    if cp.checksum_offset != 4092 {
         return false;
     }
     let sum = crc32::checksum(&block[..4092]);
     field::get32(block, 4092) == sum
 }
 
-// Whether a pack's last block passes and has this version, which is tested first.
-fn last_passes(last: &[u8], version: u64) -> bool
-    requires { ⌜ length (now last) ≡ 4096 ⌝ }
-    ensures { λ r. ⌜ r ≡ (blockPasses (now (last .entry)) && eqb (versionOf (now (last .entry))) version) ⌝ }
+// Whether a pack's first block passes, by its header. The total is tested first, since a checksum is dear.
+pub fn first_passes(first: &[u8], cp: Checkpoint) -> bool
+    requires { ⌜ (length (now first) ≡ 4096) × (cp ≡ checkpointOf (now first)) ⌝ }
+    ensures { λ r. ⌜ r ≡ firstPasses (now (first .entry)) ⌝ }
 {
-    if field::get64(last, 0) != version {
-        return false;
-    }
-    block_passes(last)
-}
-
-// A pack has 512 blocks of the checkpoint area. The total is tested first, since checksums are dear.
-fn pack_passes(image: &[u8], start: u32) -> bool
-    requires { ⌜ InShape (cardOf (now image)) ⌝ }
-    requires { ⌜ start + 512 ≤ cardOf (now image) .blocks ⌝ }
-    ensures { λ r. ⌜ r ≡ packPasses (cardOf (now (image .entry))) start ⌝ }
-{
-    let first = field::block_at(image, start);
-    let total = field::get32(first, 136);
+    let total = cp.cp_pack_total_block_count;
     if total < 2 {
         return false;
     }
     if 512 < total {
         return false;
     }
-    if !block_passes(first) {
+    block_passes(first, cp)
+}
+
+// Whether a pack's last block passes and has this version, which is tested first.
+pub fn last_passes(last: &[u8], version: u64) -> bool
+    requires { ⌜ length (now last) ≡ 4096 ⌝ }
+    ensures { λ r. ⌜ r ≡ lastPasses (now (last .entry)) version ⌝ }
+{
+    let cp = checkpoint_of(last);
+    if cp.checkpoint_ver != version {
         return false;
     }
-    let last = field::block_at(image, start + (total - 1));
-    last_passes(last, field::get64(first, 0))
+    block_passes(last, cp)
 }
 
-fn version_at(image: &[u8], start: u32) -> u64
-    requires { ⌜ start < cardOf (now image) .blocks ⌝ }
-    ensures { λ r. ⌜ r ≡ versionOf (cardOf (now (image .entry)) .block start) ⌝ }
+// A pack has 512 blocks of the checkpoint area.
+fn pack_passes(image: &[u8], start: u32) -> bool
+    requires { ⌜ InShape (cardOf (now image)) ⌝ }
+    requires { ⌜ start + 512 ≤ cardOf (now image) .blocks ⌝ }
+    ensures { λ r. ⌜ r ≡ packPasses (cardOf (now (image .entry))) start ⌝ }
 {
-    field::get64(field::block_at(image, start), 0)
+    let first = field::block_at(image, start);
+    let cp = checkpoint_of(first);
+    if !first_passes(first, cp) {
+        return false;
+    }
+    let last = field::block_at(image, start + (cp.cp_pack_total_block_count - 1));
+    last_passes(last, cp.checkpoint_ver)
 }
 
-fn is_newer(first: u64, second: u64) -> bool
+pub fn is_newer(first: Checkpoint, second: Checkpoint) -> bool
     ensures { λ r. ⌜ r ≡ newer first second ⌝ }
 {
-    first < second
+    first.checkpoint_ver < second.checkpoint_ver
 }
 
 // The first of two packs that passes; the other is tested only if that one doesn't.
@@ -133,7 +162,9 @@ fn choose_pack(image: &[u8], address: u32) -> Chosen
     ensures { λ r. ⌜ r ≡ chosen (cardOf (now (image .entry))) address ⌝ }
 {
     let second = address + 512;
-    if is_newer(version_at(image, address), version_at(image, second)) {
+    let one = checkpoint_of(field::block_at(image, address));
+    let other = checkpoint_of(field::block_at(image, second));
+    if is_newer(one, other) {
         first_passing(image, second, address)
     } else {
         first_passing(image, address, second)
@@ -148,95 +179,93 @@ fn flag_set(flags: u32, one: u32) -> bool
 }
 
 // How far before the pack's end the journal block of a pack that isn't compact is.
-fn journal_back(flags: u32) -> u32
-    ensures { λ r. ⌜ r ≡ choose (unmount flags || fastboot flags) 7 4 ⌝ }
+fn journal_back(cp: Checkpoint) -> u32
+    ensures { λ r. ⌜ r ≡ choose (unmount cp || fastboot cp) 7 4 ⌝ }
 {
-    if flag_set(flags, UNMOUNT) | flag_set(flags, FASTBOOT) {
+    if flag_set(cp.ckpt_flags, UNMOUNT) | flag_set(cp.ckpt_flags, FASTBOOT) {
         7
     } else {
         4
     }
 }
 
-fn journal_in(first: &[u8]) -> u32
-    requires { ⌜ length (now first) ≡ 4096 ⌝ }
-    ensures { λ r. ⌜ r ≡ journalIn (now (first .entry)) ⌝ }
+fn journal_in(cp: Checkpoint) -> u32
+    ensures { λ r. ⌜ r ≡ journalIn cp ⌝ }
 {
-    let flags = field::get32(first, 132);
-    if flag_set(flags, COMPACT) {
-        return field::get32(first, 140);
+    if flag_set(cp.ckpt_flags, COMPACT) {
+        return cp.cp_pack_start_sum;
     }
-    let back = journal_back(flags);
-    let total = field::get32(first, 136);
+    let back = journal_back(cp);
+    let total = cp.cp_pack_total_block_count;
     if total < back { 0 } else { total - back }
 }
 
 // A pack's total is at least 2.
-fn journal_placed(first: &[u8]) -> bool
-    requires { ⌜ length (now first) ≡ 4096 ⌝ }
-    requires { ⌜ 2 ≤ totalOf (now first) ⌝ }
-    ensures { λ r. ⌜ r ≡ journalPlaced (now (first .entry)) ⌝ }
+fn journal_placed(cp: Checkpoint) -> bool
+    requires { ⌜ 2 ≤ cp .«cp_pack_total_block_count» ⌝ }
+    ensures { λ r. ⌜ r ≡ journalPlaced cp ⌝ }
 {
-    let block = journal_in(first);
-    (1 <= block) & (block <= field::get32(first, 136) - 2)
+    let block = journal_in(cp);
+    (1 <= block) & (block <= cp.cp_pack_total_block_count - 2)
 }
 
-fn journal_at(first: &[u8]) -> u32
-    requires { ⌜ length (now first) ≡ 4096 ⌝ }
-    ensures { λ r. ⌜ r ≡ journalAt (now (first .entry)) ⌝ }
+fn journal_at(cp: Checkpoint) -> u32
+    ensures { λ r. ⌜ r ≡ journalAt cp ⌝ }
 {
-    if flag_set(field::get32(first, 132), COMPACT) {
+    if flag_set(cp.ckpt_flags, COMPACT) {
         0
     } else {
         3584
     }
 }
 
-// In 64 bits the sums are exact, whatever sizes the block names.
-fn maps_readable(areas: superblock::Areas, first: &[u8]) -> bool
-    requires { ⌜ length (now first) ≡ 4096 ⌝ }
-    requires { ⌜ 2 ≤ totalOf (now first) ⌝ }
-    ensures { λ r. ⌜ r ≡ mapsReadable areas (now (first .entry)) ⌝ }
+// In 64 bits the sums are exact, whatever sizes the header names.
+pub fn maps_readable(areas: superblock::Areas, cp: Checkpoint) -> bool
+    requires { ⌜ 2 ≤ cp .«cp_pack_total_block_count» ⌝ }
+    ensures { λ r. ⌜ r ≡ mapsReadable areas cp ⌝ }
 {
-    let flags = field::get32(first, 132);
-    let sit = field::get32(first, 156) as u64;
-    let nat = field::get32(first, 160) as u64;
-    !flag_set(flags, LARGE_NAT_MAP)
+    let sit = cp.sit_ver_bitmap_bytesize as u64;
+    let nat = cp.nat_ver_bitmap_bytesize as u64;
+    !flag_set(cp.ckpt_flags, LARGE_NAT_MAP)
         & (sit == 32 * (areas.sit_segments as u64))
         & (nat == 32 * (areas.nat_segments as u64))
         & (192 + sit + nat <= 4092)
-        & journal_placed(first)
+        & journal_placed(cp)
 }
 
-// The volume of a pack that passes, whose maps are readable: each sum is a block address, or an offset in a block.
-fn volume_of(image: &[u8], areas: superblock::Areas, start: u32) -> Volume
-    requires { ⌜ InShape (cardOf (now image)) ⌝ }
-    requires { ⌜ start + 512 ≤ cardOf (now image) .blocks ⌝ }
-    requires { ⌜ packPasses (cardOf (now image)) start ≡ true ⌝ }
-    requires { ⌜ mapsReadable areas (cardOf (now image) .block start) ≡ true ⌝ }
-    ensures { λ r. ⌜ r ≡ volumeOf (cardOf (now (image .entry))) areas start ⌝ }
+// The volume of a pack whose maps are readable: each sum is a block address, or an offset in a block.
+pub fn volume_of(areas: superblock::Areas, start: u32, cp: Checkpoint) -> Volume
+    requires { ⌜ start + cp .«cp_pack_total_block_count» < 4294967296 ⌝ }
+    requires { ⌜ mapsReadable areas cp ≡ true ⌝ }
+    ensures { λ r. ⌜ r ≡ volumeOf areas start cp ⌝ }
 {
-    let first = field::block_at(image, start);
     Volume {
         areas,
         pack: start,
-        total: field::get32(first, 136),
-        flags: field::get32(first, 132),
-        nat_map: 192 + field::get32(first, 156),
-        journal_block: start + journal_in(first),
-        journal_at: journal_at(first),
+        total: cp.cp_pack_total_block_count,
+        flags: cp.ckpt_flags,
+        nat_map: 192 + cp.sit_ver_bitmap_bytesize,
+        journal_block: start + journal_in(cp),
+        journal_at: journal_at(cp),
     }
 }
 
-// The journal is read from its start on, as a part of the image.
-fn journal_readable(image: &[u8], v: Volume) -> bool
+// The journal, from its start to the end of its block.
+pub fn journal_of(image: &[u8], v: Volume) -> &[u8]
     requires { ⌜ v .«journal_block» < cardOf (now image) .blocks ⌝ }
     requires { ⌜ v .«journal_at» ≤ 3584 ⌝ }
-    ensures { λ r. ⌜ r ≡ journalReadable (cardOf (now (image .entry))) v ⌝ }
+    ensures { λ r. ⌜ now r ≡ journalOf (cardOf (now (image .entry))) v ⌝ }
 {
     let block = field::block_at(image, v.journal_block);
     let at = v.journal_at as usize;
-    field::get16(&block[at..], 0) <= 38
+    &block[at..]
+}
+
+pub fn journal_readable(journal: &[u8]) -> bool
+    requires { ⌜ 2 ≤ length (now journal) ⌝ }
+    ensures { λ r. ⌜ r ≡ journalReadable (now (journal .entry)) ⌝ }
+{
+    field::get16(journal, 0) <= 38
 }
 
 fn open_pack(image: &[u8], areas: superblock::Areas, start: u32) -> Opening
@@ -245,25 +274,26 @@ fn open_pack(image: &[u8], areas: superblock::Areas, start: u32) -> Opening
     requires { ⌜ packPasses (cardOf (now image)) start ≡ true ⌝ }
     ensures { λ r. ⌜ r ≡ openPack (cardOf (now (image .entry))) areas start ⌝ }
 {
-    if !maps_readable(areas, field::block_at(image, start)) {
-        return Opening::Refused(8);
+    let cp = checkpoint_of(field::block_at(image, start));
+    if !maps_readable(areas, cp) {
+        return Opening::Refused(answer::UNREADABLE);
     }
-    let volume = volume_of(image, areas, start);
-    if !journal_readable(image, volume) {
-        return Opening::Refused(8);
+    let volume = volume_of(areas, start, cp);
+    if !journal_readable(journal_of(image, volume)) {
+        return Opening::Refused(answer::UNREADABLE);
     }
     Opening::Opened(volume)
 }
 
 fn open_areas(image: &[u8], areas: superblock::Areas) -> Opening
     requires { ⌜ InShape (cardOf (now image)) ⌝ }
-    requires { ⌜ AreasIn (cardOf (now image)) areas ⌝ }
+    requires { ⌜ AreasIn (cardOf (now image) .blocks) areas ⌝ }
     ensures { λ r. ⌜ r ≡ openChosen (cardOf (now (image .entry))) areas (chosen (cardOf (now (image .entry))) (areas .checkpoint)) ⌝ }
 {
     let chosen = choose_pack(image, areas.checkpoint);
     match chosen {
         Chosen::Pack(start) => open_pack(image, areas, start),
-        Chosen::Nothing => Opening::Refused(7),
+        Chosen::Nothing => Opening::Refused(answer::NO_CHECKPOINT),
     }
 }
 
@@ -272,11 +302,11 @@ pub fn open(image: &[u8]) -> Opening
     ensures { λ r. ⌜ r ≡ openedImage (now (image .entry)) ⌝ }
 {
     if !superblock::in_shape(image.len()) {
-        return Opening::Refused(4);
+        return Opening::Refused(answer::OUT_OF_SHAPE);
     }
     let found = superblock::find_superblock(image);
     match found {
         superblock::Found::At(areas) => open_areas(image, areas),
-        superblock::Found::Refused(answer) => Opening::Refused(answer),
+        superblock::Found::Refused(number) => Opening::Refused(number),
     }
 }

@@ -3,7 +3,7 @@
 ghost use mathlib.Core.Path.{_≡_};
 ghost use Prim.Native.Nat.{_+_, _*_, _%_, _≤_, _<_};
 ghost use lib.ListN.{length};
-ghost use Rattle.field.specs.Number.{le16, le32, le64};
+ghost use Rattle.field.specs.Number.{le16, le32, le64, put32At};
 ghost use Rattle.field.specs.Map.{topBit, lowBit};
 ghost use Rattle.field.specs.Bytes.{sameAt};
 ghost use Rattle.field.specs.Card.{cardOf};
@@ -33,6 +33,17 @@ pub fn get64(bytes: &[u8], at: usize) -> u64
     ensures { λ r. ⌜ r ≡ le64 (now (bytes .entry)) at ⌝ }
 {
     (get32(bytes, at) as u64) + (get32(bytes, at + 4) as u64) * 4294967296
+}
+
+// x in four bytes, the lowest first.
+pub fn put32(bytes: &mut [u8], at: usize, x: u32)
+    requires { ⌜ at + 4 ≤ length (now bytes) ⌝ }
+    ensures { λ _. ⌜ now (bytes .exit) ≡ put32At (now (bytes .entry)) at x ⌝ }
+{
+    bytes[at] = (x % 256) as u8;
+    bytes[at + 1] = (x / 256 % 256) as u8;
+    bytes[at + 2] = (x / 65536 % 256) as u8;
+    bytes[at + 3] = (x / 16777216) as u8;
 }
 
 // The mask's rule is proved here once for both orders.

@@ -27,9 +27,12 @@ tableBlock number = number / 455
 abbrev pub copyAddress : ℕ → ℕ → ℕ → ℕ
 copyAddress nat b bit = nat + 2 * b - b % 512 + 512 * bit
 
--- the NAT map's bytes, and what follows them in the block
+-- the NAT map's bytes in the pack's first block, and what follows them there
+abbrev pub natMapIn : Volume → List ℕ → List ℕ
+natMapIn v first = drop (v .«nat_map») first
+
 abbrev pub natMapOf : Card → Volume → List ℕ
-natMapOf card v = drop (v .«nat_map») (card .block (v .pack))
+natMapOf card v = natMapIn v (card .block (v .pack))
 
 -- the address of the copy of table block b that is in use
 unfoldable pub tableAddress : Card → Volume → ℕ → ℕ

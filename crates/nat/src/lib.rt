@@ -5,10 +5,11 @@ ghost use mathlib.Core.Bool.{true};
 ghost use Prim.Native.Nat.{_+_, _*_, _%_, _≤_, _<_};
 ghost use lib.ListN.{length};
 ghost use Rattle.field.specs.Number.{le16};
+ghost use Rattle.field.specs.Map.{topBit};
 ghost use Rattle.field.specs.Card.{cardOf};
 ghost use Rattle.checkpoint.specs.Volume.{VolumeIn, journalOf};
 ghost use Rattle.nat.specs.Entry.{inodeAt, addressAt, inJournal};
-ghost use Rattle.nat.specs.Table.{inRange, copyAddress, tableAddress, entryIn, inTable, orTable, tableAnswer};
+ghost use Rattle.nat.specs.Table.{inRange, copyAddress, natMapIn, entryIn, inTable, orTable, tableAnswer};
 
 // What a journal says of a node number: inode and address, or nothing.
 pub enum InJournal {
@@ -46,7 +47,7 @@ fn address_at(bytes: &[u8], at: usize) -> u32
 }
 
 // The first of the journal's entries that has the number.
-fn journal_entry(journal: &[u8], number: u32) -> InJournal
+pub fn journal_entry(journal: &[u8], number: u32) -> InJournal
     requires { ⌜ (496 ≤ length (now journal)) × (le16 (now journal) 0 ≤ 38) ⌝ }
     ensures { λ r. ⌜ r ≡ inJournal (now (journal .entry)) number ⌝ }
 {
@@ -62,14 +63,11 @@ fn journal_entry(journal: &[u8], number: u32) -> InJournal
     InJournal::Absent
 }
 
-// The journal is the part of the image from its start in its block to the block's end.
 fn journal_says(image: &[u8], v: checkpoint::Volume, number: u32) -> InJournal
     requires { ⌜ VolumeIn (cardOf (now image)) v ⌝ }
     ensures { λ r. ⌜ r ≡ inJournal (journalOf (cardOf (now (image .entry))) v) number ⌝ }
 {
-    let start = v.journal_block as usize * 4096;
-    let at = v.journal_at as usize;
-    journal_entry(&image[start + at..start + 4096], number)
+    journal_entry(checkpoint::journal_of(image, v), number)
 }
 
 // Of each pair of copies the second lies a segment behind the first.
@@ -82,12 +80,12 @@ fn copy_address(a: superblock::Areas, b: u32, bit: u32) -> u32
 }
 
 // The address of the copy of table block b that is in use, by the map in the pack's first block.
-fn table_address(image: &[u8], v: checkpoint::Volume, b: u32) -> u32
-    requires { ⌜ VolumeIn (cardOf (now image)) v ⌝ }
+pub fn table_address(first: &[u8], v: checkpoint::Volume, b: u32) -> u32
+    requires { ⌜ (length (now first) ≡ 4096) × (v .«nat_map» + 32 * v .areas .«nat_segments» ≤ 4092) ⌝ }
+    requires { ⌜ (v .areas .ssa ≡ v .areas .nat + 512 * v .areas .«nat_segments») × (v .areas .«nat_segments» % 2 ≡ 0) ⌝ }
     requires { ⌜ b < 256 * v .areas .«nat_segments» ⌝ }
-    ensures { λ r. ⌜ r ≡ tableAddress (cardOf (now (image .entry))) v b ⌝ }
+    ensures { λ r. ⌜ r ≡ copyAddress (v .areas .nat) b (topBit (natMapIn v (now (first .entry))) b) ⌝ }
 {
-    let first = field::block_at(image, v.pack);
     let map = v.nat_map as usize;
     let bit = field::top_bit(&first[map..], b as usize);
     let areas = v.areas;
@@ -112,13 +110,14 @@ fn or_table(image: &[u8], v: checkpoint::Volume, number: u32, said: InJournal) -
     match said {
         InJournal::Held(inode, address) => TableAnswer::Entry(inode, address),
         InJournal::Absent => {
-            let address = table_address(image, v, number / 455);
+            let first = field::block_at(image, v.pack);
+            let address = table_address(first, v, number / 455);
             table_entry(field::block_at(image, address), number)
         }
     }
 }
 
-fn in_range(v: checkpoint::Volume, number: u32) -> bool
+pub fn in_range(v: checkpoint::Volume, number: u32) -> bool
     ensures { λ r. ⌜ r ≡ inRange v number ⌝ }
 {
     (1 <= number) & ((number as u64) < 455 * 256 * (v.areas.nat_segments as u64))

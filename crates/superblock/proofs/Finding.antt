@@ -1,8 +1,9 @@
 -- Which copy is used: the areas that are found come from a copy that passes.
 use mathlib.Core.Path.{_≡_, refl, _∙_}
+use mathlib.Core.List.{List}
 use mathlib.Core.Bool.{true, false, _&&_, and-false}
 use mathlib.Core.Logic.{_⊎_, inl, inr, ⊎-elim}
-use Prim.Native.Nat.{ℕ, _<_}
+use Prim.Native.Nat.{ℕ, _≤_, _<_}
 use native.Mathlib.Omega.{arith}
 use lib.Dec.{eqb}
 use Rattle.field.specs.Card.{Card}
@@ -14,31 +15,31 @@ use Rattle.superblock.specs.declared.Found.{Found}
 use Rattle.superblock.specs.declared.Found.the-variants.{At, Refused}
 use Rattle.superblock.specs.declared.Tried.{Tried}
 use Rattle.superblock.specs.declared.Tried.the-variants.{Passed, Failed}
-use Rattle.superblock.specs.Shape.{InShape}
-use Rattle.superblock.specs.Superblock.{copyIn, superblockOf, endOf, copyPasses}
+use Rattle.superblock.specs.Shape.{mostBlocks}
+use Rattle.superblock.specs.Superblock.{copyIn, superblockOf, endOf, passes, copyPasses}
 use Rattle.superblock.specs.Areas.{areasOf, acceptedCopy, found, AreasIn}
 use Rattle.superblock.proofs.Passing.{passes-in}
 
 -- the areas of a copy that passes
-passing : (card : Card) (b : ℕ) → copyPasses card b ≡ true → AreasIn card (areasOf (superblockOf (copyIn card b)))
-unfolding copyPasses
-passing card b p = passes-in card (superblockOf (copyIn card b)) (needed (λ q. simp (q, and-false)) p)
+passing : (blocks : ℕ) (copy : List ℕ) → passes blocks copy ≡ true → AreasIn blocks (areasOf (superblockOf copy))
+unfolding passes
+passing blocks copy p = passes-in blocks (superblockOf copy) (needed (λ q. simp (q, and-false)) p)
 
--- the answer `r` of trying the copy in block b
-module _ (card : Card) (b : ℕ) {r : Tried} (e : r ≡ choose (copyPasses card b) (Passed (superblockOf (copyIn card b))) Failed) where
-  pub passed : {s : Superblock} → r ≡ Passed s → (copyPasses card b ≡ true) × (s ≡ superblockOf (copyIn card b))
+-- the answer `r` of trying a copy
+module _ (blocks : ℕ) (copy : List ℕ) {r : Tried} (e : r ≡ choose (passes blocks copy) (Passed (superblockOf copy)) Failed) where
+  pub passed : {s : Superblock} → r ≡ Passed s → (passes blocks copy ≡ true) × (s ≡ superblockOf copy)
   passed k =
       ⊎-elim (λ p. let e′ = rw p at e in (p, cc)) (λ p. let e′ = rw p at e in (cc, cc))
-      (either (copyPasses card b))
+      (either (passes blocks copy))
 
-  pub failed : r ≡ Failed → copyPasses card b ≡ false
-  failed k = ⊎-elim (λ p. let e′ = rw p at e in cc) (λ p. p) (either (copyPasses card b))
+  pub failed : r ≡ Failed → passes blocks copy ≡ false
+  failed k = ⊎-elim (λ p. let e′ = rw p at e in cc) (λ p. p) (either (passes blocks copy))
 
   -- the end of its main area is a block address, so it fits 32 bits
-  pub passed-fits : InShape card → {s : Superblock} → r ≡ Passed s → endOf (s .«main_blkaddr») (s .«segment_count_main») < 4294967296
-  passed-fits shape k =
+  pub passed-fits : blocks ≤ mostBlocks → {s : Superblock} → r ≡ Passed s → endOf (s .«main_blkaddr») (s .«segment_count_main») < 4294967296
+  passed-fits few k =
       let w = passed k in
-      rw (w .1) (omega (arith, passing card b (w .0) .inCard, shape .most))
+      rw (w .1) (omega (arith, passing blocks copy (w .0) .inCard))
 
 -- the areas of a copy that passes, or answer 5 or 6
 abbrev pub Kinds : Card → Type 0
@@ -74,8 +75,8 @@ module _ (card : Card) where
 not-both : {f : Found} {a : Areas} {n : ℕ} → f ≡ At a → f ≡ Refused n → ⊥
 not-both p q = let z : _≡_ {A = ℕ} 0 1 = cc in omega arith
 
-pub areas-in : (card : Card) (a : Areas) → found card ≡ At a → AreasIn card a
+pub areas-in : (card : Card) (a : Areas) → found card ≡ At a → AreasIn (card .blocks) a
 areas-in card a e =
-    ⊎-elim (λ w. let same : areasOf (superblockOf (copyIn card (w .0))) ≡ a = cc in rw same at (passing card (w .0) (w .1)))
+    ⊎-elim (λ w. let same : areasOf (superblockOf (copyIn card (w .0))) ≡ a = cc in rw same at (passing (card .blocks) (copyIn card (w .0)) (w .1)))
     (λ w. absurd (⊎-elim (not-both e) (not-both e) w))
     (found-kinds card)

@@ -40,15 +40,15 @@ found card =
     choose (copyPasses card 0) (acceptedCopy card 0)
     (choose (copyPasses card 1) (acceptedCopy card 1) (Refused 5))
 
--- what holds of the areas that were found: they follow each other inside the card
-pub record AreasIn (card : Card) (a : Areas) : Type 0 where
+-- what holds of the areas that were found: they follow each other inside a card of so many blocks
+pub record AreasIn (blocks : ℕ) (a : Areas) : Type 0 where
   pub afterCopies : 2 ≤ a .checkpoint
   pub sitStarts : a .sit ≡ a .checkpoint + 1024
   pub natStarts : a .nat ≡ a .sit + 512 * a .«sit_segments»
   pub ssaStarts : a .ssa ≡ a .nat + 512 * a .«nat_segments»
   pub mainStarts : a .main ≡ a .ssa + 512 * a .«ssa_segments»
   pub mainEnds : a .«main_end» ≡ a .main + 512 * a .«main_segments»
-  pub inCard : a .«main_end» ≤ card .blocks
+  pub inCard : a .«main_end» ≤ blocks
   pub sitEven : a .«sit_segments» % 2 ≡ 0
   pub natEven : a .«nat_segments» % 2 ≡ 0
   pub sitSome : 2 ≤ a .«sit_segments»

@@ -9,9 +9,12 @@ use Rattle.field.specs.Card.{Card}
 use Rattle.superblock.specs.declared.Superblock.{Superblock}
 use Rattle.field.specs.Bytes.{sameAt}
 
--- "At byte 1,024 of block 0", and of block 1: the bytes of a copy from its start on
+-- "At byte 1,024 of block 0", and of block 1: the bytes of a block's copy from its start on
+abbrev pub copyOf : List ℕ → List ℕ
+copyOf block = drop 1024 block
+
 abbrev pub copyIn : Card → ℕ → List ℕ
-copyIn card b = drop 1024 (card .block b)
+copyIn card b = copyOf (card .block b)
 
 -- "The first four bytes must be 10 20 F5 F2."
 abbrev pub mark : List ℕ
@@ -89,6 +92,9 @@ endsPass blocks s =
 unfoldable pub fieldsPass : ℕ → Superblock → Bool
 fieldsPass blocks s = logsPass s && unitsPass s && countsPass s && areasPass s && endsPass blocks s
 
--- "A copy passes"
-unfoldable pub copyPasses : Card → ℕ → Bool
-copyPasses card b = sameAt (copyIn card b) 0 mark && fieldsPass (card .blocks) (superblockOf (copyIn card b))
+-- "A copy passes", on a card of so many blocks
+unfoldable pub passes : ℕ → List ℕ → Bool
+passes blocks copy = sameAt copy 0 mark && fieldsPass blocks (superblockOf copy)
+
+abbrev pub copyPasses : Card → ℕ → Bool
+copyPasses card b = passes (card .blocks) (copyIn card b)

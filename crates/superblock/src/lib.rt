@@ -1,15 +1,15 @@
 // The superblock: which copy is used, and the areas that it names.
 // What each means is in specs/: Shape, Superblock, Areas.
 ghost use mathlib.Core.Path.{_≡_};
-ghost use Prim.Native.Nat.{_+_, _≤_, _<_};
+ghost use Prim.Native.Nat.{_≤_, _<_};
 ghost use lib.ListN.{length};
 ghost use lib.Dec.{eqb};
 ghost use Rattle.field.specs.Card.{cardOf};
 ghost use Rattle.field.specs.Choice.{choose};
 ghost use Rattle.superblock.specs.Shape.{inShape, InShape};
 ghost use Rattle.field.specs.Bytes.{sameAt};
-ghost use Rattle.superblock.specs.Superblock.{copyIn, mark, superblockOf, logsPass, unitsPass, evenPairs};
-ghost use Rattle.superblock.specs.Superblock.{countsPass, endOf, areasPass, endsPass, fieldsPass, copyPasses};
+ghost use Rattle.superblock.specs.Superblock.{copyOf, mark, superblockOf, logsPass, unitsPass, evenPairs};
+ghost use Rattle.superblock.specs.Superblock.{countsPass, endOf, areasPass, endsPass, fieldsPass, passes};
 ghost use Rattle.superblock.specs.Areas.{areasOf, accepted, found};
 
 // A copy's fields, under their names in the Linux header.
@@ -61,7 +61,7 @@ pub enum Found {
 }
 
 // A copy's fields, if it passes.
-enum Tried {
+pub enum Tried {
     Passed(Superblock),
     Failed,
 }
@@ -184,27 +184,26 @@ fn fields_pass(blocks: u64, s: Superblock) -> bool
     logs_pass(s) & units_pass(s) & counts_pass(s) & areas_pass(s) & ends_pass(blocks, s)
 }
 
-// The bytes of the copy in block b, from its start on.
-fn copy_at(image: &[u8], b: u32) -> &[u8]
-    requires { ⌜ b < cardOf (now image) .blocks ⌝ }
-    ensures { λ r. ⌜ (now r ≡ copyIn (cardOf (now (image .entry))) b) × (length (now r) ≡ 3072) ⌝ }
+// The bytes of a block's copy, from its start on.
+fn copy_of(block: &[u8]) -> &[u8]
+    requires { ⌜ length (now block) ≡ 4096 ⌝ }
+    ensures { λ r. ⌜ (now r ≡ copyOf (now (block .entry))) × (length (now r) ≡ 3072) ⌝ }
 {
-    let block = field::block_at(image, b);
     &block[1024..]
 }
 
-// The copy in block b. Its fields are read once, for the test and for the answer.
-fn try_copy(image: &[u8], b: u32) -> Tried
-    requires { ⌜ b < cardOf (now image) .blocks ⌝ }
+// The copy in a block of a card of so many blocks. Its fields are read once, for the test and for the answer.
+pub fn try_copy(block: &[u8], blocks: u64) -> Tried
+    requires { ⌜ length (now block) ≡ 4096 ⌝ }
     ensures { λ r.
         ⌜ r
-        ≡ choose (copyPasses (cardOf (now (image .entry))) b)
-        (Tried.Passed (superblockOf (copyIn (cardOf (now (image .entry))) b)))
+        ≡ choose (passes blocks (copyOf (now (block .entry))))
+        (Tried.Passed (superblockOf (copyOf (now (block .entry)))))
         Tried.Failed ⌝ }
 {
-    let copy = copy_at(image, b);
+    let copy = copy_of(block);
     let s = read_fields(copy);
-    if has_mark(copy) & fields_pass(image.len() as u64 / 4096, s) {
+    if has_mark(copy) & fields_pass(blocks, s) {
         Tried::Passed(s)
     } else {
         Tried::Failed
@@ -238,7 +237,7 @@ fn accept(s: Superblock) -> Found
     if (s.feature == 0) & (s.cp_payload == 0) {
         Found::At(areas_of(s))
     } else {
-        Found::Refused(6)
+        Found::Refused(answer::FEATURES)
     }
 }
 
@@ -247,14 +246,15 @@ pub fn find_superblock(image: &[u8]) -> Found
     requires { ⌜ InShape (cardOf (now image)) ⌝ }
     ensures { λ r. ⌜ r ≡ found (cardOf (now (image .entry))) ⌝ }
 {
-    let first = try_copy(image, 0);
+    let blocks = image.len() as u64 / 4096;
+    let first = try_copy(field::block_at(image, 0), blocks);
     match first {
         Tried::Passed(s) => accept(s),
         Tried::Failed => {
-            let second = try_copy(image, 1);
+            let second = try_copy(field::block_at(image, 1), blocks);
             match second {
                 Tried::Passed(s) => accept(s),
-                Tried::Failed => Found::Refused(5),
+                Tried::Failed => Found::Refused(answer::NO_SUPERBLOCK),
             }
         }
     }

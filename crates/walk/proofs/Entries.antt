@@ -5,11 +5,11 @@ use mathlib.Core.List.{List, [], _∷_, _++_, append-assoc, append-nil}
 use native.Mathlib.Omega.{arith}
 use lib.ListN.{length, drop, length-append}
 use lib.Seq.{drop-drop}
-use Rattle.field.specs.Number.{le32}
+use Rattle.field.specs.Number.{le32, put32At}
 use Rattle.walk.specs.declared.Spot.{Spot}
 use Rattle.walk.specs.declared.Spot.the-variants.{Before, Present}
 use Rattle.walk.specs.Lists.{insert, Rising, numbers, Holds, Grown, HasInserted}
-use Rattle.walk.specs.Insertion.{put32At, Placed, Shifted}
+use Rattle.walk.specs.Insertion.{Placed, Shifted}
 use Rattle.walk.proofs.Rises.{insert-more, insert-front, insert-last, insert-there, rising-front}
 use Rattle.walk.proofs.Stores.{drop-put, le32-other, le32-put}
 

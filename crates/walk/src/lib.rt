@@ -4,7 +4,7 @@ ghost use mathlib.Core.Path.{_≡_};
 ghost use Prim.Native.Nat.{_+_, _*_, _≤_};
 ghost use lib.ListN.{length};
 ghost use Rattle.walk.specs.Lists.{Holds, HasInserted};
-ghost use Rattle.walk.specs.Insertion.{put32At, Placed, Shifted};
+ghost use Rattle.walk.specs.Insertion.{Placed, Shifted};
 
 // How many nodes and blocks are listed.
 pub struct Counts {
@@ -16,17 +16,6 @@ pub struct Counts {
 enum Spot {
     Before(usize),
     Present,
-}
-
-// x in four bytes, the lowest first.
-fn put32(list: &mut [u8], at: usize, x: u32)
-    requires { ⌜ at + 4 ≤ length (now list) ⌝ }
-    ensures { λ _. ⌜ now (list .exit) ≡ put32At (now (list .entry)) at x ⌝ }
-{
-    list[at] = (x % 256) as u8;
-    list[at + 1] = (x / 256 % 256) as u8;
-    list[at + 2] = (x / 65536 % 256) as u8;
-    list[at + 3] = (x / 16777216) as u8;
 }
 
 // The search starts at the end, where most numbers go.
@@ -57,11 +46,11 @@ fn shift_in(list: &mut [u8], p: usize, count: usize, x: u32)
     let mut carry = x;
     while i < count {
         let next = field::get32(list, 4 * i);
-        put32(list, 4 * i, carry);
+        field::put32(list, 4 * i, carry);
         carry = next;
         i += 1;
     }
-    put32(list, 4 * i, carry);
+    field::put32(list, 4 * i, carry);
 }
 
 // x put in its place among the first `count` numbers, unless it is there: how many there are then.

@@ -1,4 +1,6 @@
 use mathlib.Core.Path.{refl}
+use native.Mathlib.Omega.{arith}
+use Rattle.field.proofs.Blocks.{length-of-block}
 use Rattle.checkpoint.proofs.Choosing.{chosen-in-order}
 use borrow.Author.Needs.{needs}
 use Rattle.checkpoint.proofs.choose_pack.Statement.{statement}
@@ -7,11 +9,19 @@ use Rattle.checkpoint.proofs.choose_pack.Tie as tie
 add-second : tie.Need-add-second
 add-second c = search needs
 
-version-at-requires : tie.Need-version-at-requires
-version-at-requires c κs = search needs
+block-at-requires : tie.Need-block-at-requires
+block-at-requires c κs = search needs
 
-version-at-requires-2 : tie.Need-version-at-requires-2
-version-at-requires-2 c κs = search needs
+checkpoint-of-requires : tie.Need-checkpoint-of-requires
+checkpoint-of-requires c κs =
+    length-of-block _ _ (omega arith) (c .block-at .ensures)
+
+block-at-requires-2 : tie.Need-block-at-requires-2
+block-at-requires-2 c κs = search needs
+
+checkpoint-of-requires-2 : tie.Need-checkpoint-of-requires-2
+checkpoint-of-requires-2 c κs =
+    length-of-block _ _ (omega arith) (c .block-at2 .ensures)
 
 is-newer-requires : tie.Need-is-newer-requires
 is-newer-requires c κs = search needs
@@ -24,22 +34,32 @@ first-passing-requires-2 c κs = search needs
 
 returns : tie.Need-returns
 returns c =
+    let tested = c .before .before in
+    let two = tested .before in
+    let one = two .before .before in
     rw (
       chosen-in-order,
-      ← c .before .before .before .before .version-at .ensures,
-      ← c .before .before .before .version-at2 .ensures,
-      ← c .before .before .is-newer .ensures,
+      ← one .before .block-at .ensures,
+      ← one .checkpoint-of .ensures,
+      ← two .before .block-at2 .ensures,
+      ← two .checkpoint-of2 .ensures,
+      ← tested .is-newer .ensures,
       c .before .if1 .taken,
       c .first-passing .ensures,
     )
 
 returns-2 : tie.Need-returns-2
 returns-2 c =
+    let tested = c .before .before in
+    let two = tested .before in
+    let one = two .before .before in
     rw (
       chosen-in-order,
-      ← c .before .before .before .before .version-at .ensures,
-      ← c .before .before .before .version-at2 .ensures,
-      ← c .before .before .is-newer .ensures,
+      ← one .before .block-at .ensures,
+      ← one .checkpoint-of .ensures,
+      ← two .before .block-at2 .ensures,
+      ← two .checkpoint-of2 .ensures,
+      ← tested .is-newer .ensures,
       c .before .if1 .left,
       c .first-passing2 .ensures,
     )
@@ -49,8 +69,10 @@ choose-pack-spec =
     tie.close
     (tie.spec
     add-second
-    version-at-requires
-    version-at-requires-2
+    block-at-requires
+    checkpoint-of-requires
+    block-at-requires-2
+    checkpoint-of-requires-2
     is-newer-requires
     first-passing-requires
     first-passing-requires-2

@@ -1,5 +1,5 @@
-use Rattle.checkpoint.specs.Pack.{newer}
 use borrow.Author.Needs.{needs}
+use Rattle.checkpoint.specs.Pack.{newer}
 use Rattle.checkpoint.proofs.is_newer.Statement.{statement}
 use Rattle.checkpoint.proofs.is_newer.Tie as tie
 

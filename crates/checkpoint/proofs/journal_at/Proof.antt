@@ -4,21 +4,18 @@ use borrow.Author.Needs.{needs}
 use Rattle.checkpoint.proofs.journal_at.Statement.{statement}
 use Rattle.checkpoint.proofs.journal_at.Tie as tie
 
-get32-requires : tie.Need-get32-requires
-get32-requires c κs = search needs
-
 flag-set-requires : tie.Need-flag-set-requires
 flag-set-requires c κs = search needs
 
 returns : tie.Need-returns
 unfolding journalAt
 returns c =
-    rw (← c .before .before .get32 .ensures, ← c .before .flag-set .ensures, c .if1 .taken)
+    rw (← c .before .flag-set .ensures, c .if1 .taken)
 
 returns-2 : tie.Need-returns-2
 unfolding journalAt
 returns-2 c =
-    rw (← c .before .before .get32 .ensures, ← c .before .flag-set .ensures, c .if1 .left)
+    rw (← c .before .flag-set .ensures, c .if1 .left)
 
 pub journal-at-spec : {M : Type 1} → statement M
-journal-at-spec = tie.close (tie.spec get32-requires flag-set-requires returns returns-2)
+journal-at-spec = tie.close (tie.spec flag-set-requires returns returns-2)

@@ -7,16 +7,13 @@ use Rattle.checkpoint.proofs.journal_placed.Tie as tie
 journal-in-requires : tie.Need-journal-in-requires
 journal-in-requires c κs = search needs
 
-get32-requires : tie.Need-get32-requires
-get32-requires c κs = search needs
-
 sub-result : tie.Need-sub-result
 sub-result c = search needs
 
 returns : tie.Need-returns
 unfolding journalPlaced
 returns c =
-    rw (c .get32 .ensures, c .before .journal-in .ensures)
+    rw (c .before .journal-in .ensures)
 
 pub journal-placed-spec : {M : Type 1} → statement M
-journal-placed-spec = tie.close (tie.spec journal-in-requires get32-requires sub-result returns)
+journal-placed-spec = tie.close (tie.spec journal-in-requires sub-result returns)

@@ -4,17 +4,8 @@ use borrow.Author.Needs.{needs}
 use Rattle.checkpoint.proofs.maps_readable.Statement.{statement}
 use Rattle.checkpoint.proofs.maps_readable.Tie as tie
 
-get32-requires : tie.Need-get32-requires
-get32-requires c κs = search needs
-
-get32-requires-2 : tie.Need-get32-requires-2
-get32-requires-2 c κs = search needs
-
 cast-sit : tie.Need-cast-sit
 cast-sit c = search needs
-
-get32-requires-3 : tie.Need-get32-requires-3
-get32-requires-3 c κs = search needs
 
 cast-nat : tie.Need-cast-nat
 cast-nat c = search needs
@@ -46,22 +37,13 @@ journal-placed-requires c κs = search needs
 returns : tie.Need-returns
 unfolding mapsReadable
 returns c =
-    rw (
-      c .journal-placed .ensures,
-      c .before .before .before .flag-set .ensures,
-      c .before .before .before .before .get323 .ensures,
-      c .before .before .before .before .before .get322 .ensures,
-      c .before .before .before .before .before .before .get32 .ensures,
-    )
+    rw (c .journal-placed .ensures, c .before .before .before .flag-set .ensures)
 
 pub maps-readable-spec : {M : Type 1} → statement M
 maps-readable-spec =
     tie.close
     (tie.spec
-    get32-requires
-    get32-requires-2
     cast-sit
-    get32-requires-3
     cast-nat
     flag-set-requires
     cast-result

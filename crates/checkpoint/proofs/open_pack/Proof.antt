@@ -1,57 +1,94 @@
-use mathlib.Core.Path.{refl, sym, _∙_}
+use mathlib.Core.Path.{_≡_, sym}
+use mathlib.Core.Bool.{true}
+use Prim.Native.Nat.{_≤_, _<_}
 use native.Mathlib.Omega.{arith}
+use Rattle.field.specs.Card.{cardOf}
 use Rattle.field.proofs.Blocks.{length-of-block}
+use Rattle.checkpoint.specs.Checkpoint.{headerOf}
+use Rattle.checkpoint.specs.Volume.{mapsReadable}
 use Rattle.checkpoint.proofs.Passing.{passing-total}
 use Rattle.checkpoint.proofs.Reading.{journal-at-most, journal-inside}
+use Rattle.checkpoint.proofs.Inside.{journal-room}
 use Rattle.checkpoint.proofs.Ways.{maps-refuse, journal-refuses, pack-opens}
 use Rattle.checkpoint.proofs.Negated.{fails, holds}
 use borrow.Author.Needs.{needs}
 use Rattle.checkpoint.proofs.open_pack.Statement.{statement}
 use Rattle.checkpoint.proofs.open_pack.Tie as tie
 
+abbrev start-of : tie.After-checkpoint-of → tie.Start
+start-of k = k .before .before .before
+
+-- the header is the pack's, whose total is 2 to 512
+read-of : (k : tie.After-checkpoint-of) → let a = start-of k .args in k .checkpoint-of .result ≡ headerOf (cardOf (a .image .now)) (a .start)
+read-of k = rw (k .before .block-at .ensures) at (k .checkpoint-of .ensures)
+
+total : (k : tie.After-checkpoint-of) → let cp = k .checkpoint-of .result in
+    (2 ≤ cp .«cp_pack_total_block_count») × (cp .«cp_pack_total_block_count» ≤ 512)
+total k = rw (read-of k) (passing-total _ _ (start-of k .pre .1 .1))
+
+-- the maps are readable
+maps : (k : tie.Else1) → let read = k .before .before in mapsReadable (start-of read .args .areas) (read .checkpoint-of .result) ≡ true
+maps k = holds (k .before .maps-readable .ensures) (k .if1 .left)
+
+-- the journal lies in the card
+placed : (k : tie.After-volume-of) → let v = k .volume-of .result in
+    (v .«journal_block» < cardOf (start-of (k .before .before .before) .args .image .now) .blocks) × (v .«journal_at» ≤ 3584)
+placed k =
+    rw (k .volume-of .ensures)
+    (omega (arith, total (k .before .before .before), journal-inside _ _ (maps (k .before))), journal-at-most _)
+
 block-at-requires : tie.Need-block-at-requires
 block-at-requires c κs = search needs
 
+checkpoint-of-requires : tie.Need-checkpoint-of-requires
+checkpoint-of-requires c κs =
+    length-of-block _ _ (omega arith) (c .block-at .ensures)
+
 maps-readable-requires : tie.Need-maps-readable-requires
-maps-readable-requires c κs = (
-  length-of-block _ _ (omega arith) (c .block-at .ensures),
-  rw (c .block-at .ensures) (passing-total _ _ (c .before .before .pre .1 .1) .0),
-)
+maps-readable-requires c κs =
+    total c .0
 
 returns : tie.Need-returns
 returns c =
-    sym (maps-refuse _ _ _ (fails (rw (c .before .before .block-at .ensures) at (c .before .maps-readable .ensures)) (c .if1 .taken)))
+    sym (maps-refuse _ _ _ _ (read-of (c .before .before)) (fails (c .before .maps-readable .ensures) (c .if1 .taken)))
 
 volume-of-requires : tie.Need-volume-of-requires
 volume-of-requires c κs =
-    let pre = c .before .before .before .before .pre in
-    let maps = holds (rw (c .before .before .block-at .ensures) at (c .before .maps-readable .ensures)) (c .if1 .left) in
-    (pre .0, (pre .1 .0, (pre .1 .1, maps)))
+    let few = total (c .before .before) in
+    (omega arith, maps c)
+
+journal-of-requires : tie.Need-journal-of-requires
+journal-of-requires c κs =
+    placed c
 
 journal-readable-requires : tie.Need-journal-readable-requires
 journal-readable-requires c κs =
-    let pre = c .before .before .before .before .before .pre in
-    let maps = holds (rw (c .before .before .before .block-at .ensures) at (c .before .before .maps-readable .ensures)) (c .before .if1 .left) in
-    rw (c .volume-of .ensures) (journal-inside _ _ _ (pre .1 .0) (pre .1 .1) maps, journal-at-most _)
+    let v = c .before in
+    let image = start-of (v .before .before .before) .args .image .now in
+    rw (c .journal-of .ensures) (omega (arith, journal-room image (v .volume-of .result) (placed v .0) (placed v .1)))
 
 returns-2 : tie.Need-returns-2
 returns-2 c =
-    let maps = holds (rw (c .before .before .before .before .before .block-at .ensures) at (c .before .before .before .before .maps-readable .ensures)) (c .before .before .before .if1 .left) in
-    sym (journal-refuses _ _ _ _ (c .before .before .volume-of .ensures) maps (fails (c .before .journal-readable .ensures) (c .if2 .taken)))
+    let v = c .before .before .before in
+    let readable = rw (c .before .before .journal-of .ensures) at (c .before .journal-readable .ensures) in
+    sym (journal-refuses _ _ _ _ (read-of (v .before .before .before)) _ (v .volume-of .ensures) (maps (v .before)) (fails readable (c .if2 .taken)))
 
 returns-3 : tie.Need-returns-3
 returns-3 c =
-    let maps = holds (rw (c .before .before .before .before .before .block-at .ensures) at (c .before .before .before .before .maps-readable .ensures)) (c .before .before .before .if1 .left) in
-    sym (pack-opens _ _ _ _ (c .before .before .volume-of .ensures) maps (holds (c .before .journal-readable .ensures) (c .if2 .left)))
+    let v = c .before .before .before in
+    let readable = rw (c .before .before .journal-of .ensures) at (c .before .journal-readable .ensures) in
+    sym (pack-opens _ _ _ _ (read-of (v .before .before .before)) _ (v .volume-of .ensures) (maps (v .before)) (holds readable (c .if2 .left)))
 
 pub open-pack-spec : {M : Type 1} → statement M
 open-pack-spec =
     tie.close
     (tie.spec
     block-at-requires
+    checkpoint-of-requires
     maps-readable-requires
     returns
     volume-of-requires
+    journal-of-requires
     journal-readable-requires
     returns-2
     returns-3)

@@ -1,77 +1,69 @@
-use mathlib.Core.Path.{refl}
+use mathlib.Core.Path.{_≡_, refl}
+use Prim.Native.Nat.{_≤_}
 use native.Mathlib.Omega.{arith}
-use borrow.Author.Tests.{le-leb, lt-leb}
+use lib.ListN.{length}
 use Rattle.field.proofs.Blocks.{length-of-block}
-use Rattle.checkpoint.proofs.Passing.{pack-in-order}
+use Rattle.checkpoint.specs.Pack.{packPasses}
+use Rattle.checkpoint.proofs.Passing.{first-total}
 use Rattle.checkpoint.proofs.Negated.{fails, holds}
 use borrow.Author.Needs.{needs}
 use Rattle.checkpoint.proofs.pack_passes.Statement.{statement}
 use Rattle.checkpoint.proofs.pack_passes.Tie as tie
 
+whole : (k : tie.After-block-at) → length (k .block-at .result .now) ≡ 4096
+whole k = length-of-block _ _ (omega arith) (k .block-at .ensures)
+
+-- the total of a pack whose first block passes
+total : (k : tie.Else1) → let cp = k .before .before .checkpoint-of .result in
+    (2 ≤ cp .«cp_pack_total_block_count») × (cp .«cp_pack_total_block_count» ≤ 512)
+total k = rw (k .before .before .checkpoint-of .ensures) (first-total _ (holds (k .before .first-passes .ensures) (k .if1 .left)))
+
 block-at-requires : tie.Need-block-at-requires
 block-at-requires c κs = search needs
 
-get32-requires : tie.Need-get32-requires
-get32-requires c κs =
-    omega (arith, length-of-block _ _ (omega arith) (c .block-at .ensures))
+checkpoint-of-requires : tie.Need-checkpoint-of-requires
+checkpoint-of-requires c κs =
+    whole c
+
+first-passes-requires : tie.Need-first-passes-requires
+first-passes-requires c κs =
+    (whole (c .before), c .checkpoint-of .ensures)
 
 returns : tie.Need-returns
+unfolding packPasses
 returns c =
-    rw (pack-in-order, ← c .before .before .block-at .ensures, ← c .before .get32 .ensures, lt-leb _ _ (c .if1 .taken))
-
-returns-2 : tie.Need-returns-2
-returns-2 c =
-    rw (
-      pack-in-order,
-      ← c .before .before .before .block-at .ensures,
-      ← c .before .before .get32 .ensures,
-      le-leb _ _ (c .before .if1 .left),
-      lt-leb _ _ (c .if2 .taken),
-    )
-
-block-passes-requires : tie.Need-block-passes-requires
-block-passes-requires c κs =
-    length-of-block _ _ (omega arith) (c .before .before .before .block-at .ensures)
-
-returns-3 : tie.Need-returns-3
-returns-3 c =
-    rw (
-      pack-in-order,
-      ← c .before .before .before .before .before .block-at .ensures,
-      ← c .before .before .before .before .get32 .ensures,
-      le-leb _ _ (c .before .before .before .if1 .left),
-      le-leb _ _ (c .before .before .if2 .left),
-      fails (c .before .block-passes .ensures) (c .if3 .taken),
-    )
+    rw (← c .before .before .before .block-at .ensures, fails (c .before .first-passes .ensures) (c .if1 .taken))
 
 sub-block-at : tie.Need-sub-block-at
-sub-block-at c = search needs
+sub-block-at c =
+    let w = total (c .before) in
+    omega arith
 
 add-block-at : tie.Need-add-block-at
-add-block-at c = search needs
+add-block-at c =
+    let w = total (c .before) in
+    omega arith
 
 block-at-requires-2 : tie.Need-block-at-requires-2
-block-at-requires-2 c κs = search needs
-
-get64-requires : tie.Need-get64-requires
-get64-requires c κs =
-    omega (arith, length-of-block _ _ (omega arith) (c .before .before .before .before .before .before .block-at .ensures))
+block-at-requires-2 c κs =
+    let w = total (c .before) in
+    omega arith
 
 last-passes-requires : tie.Need-last-passes-requires
 last-passes-requires c κs =
-    length-of-block _ _ (omega arith) (c .before .block-at2 .ensures)
+    let w = total (c .before .before) in
+    length-of-block _ _ (omega arith) (c .block-at2 .ensures)
 
-returns-4 : tie.Need-returns-4
-returns-4 c =
+returns-2 : tie.Need-returns-2
+unfolding packPasses
+returns-2 c =
+    let k = c .before .before .before in
+    let read = k .before .before in
     rw (
-      pack-in-order,
-      ← c .before .before .before .before .before .before .before .before .block-at .ensures,
-      ← c .before .before .before .before .before .before .before .get32 .ensures,
-      le-leb _ _ (c .before .before .before .before .before .before .if1 .left),
-      le-leb _ _ (c .before .before .before .before .before .if2 .left),
-      holds (c .before .before .before .before .block-passes .ensures) (c .before .before .before .if3 .left),
-      ← c .before .before .block-at2 .ensures,
-      ← c .before .get64 .ensures,
+      ← read .before .block-at .ensures,
+      ← read .checkpoint-of .ensures,
+      holds (k .before .first-passes .ensures) (k .if1 .left),
+      ← c .before .block-at2 .ensures,
       c .last-passes .ensures,
     )
 
@@ -80,14 +72,11 @@ pack-passes-spec =
     tie.close
     (tie.spec
     block-at-requires
-    get32-requires
+    checkpoint-of-requires
+    first-passes-requires
     returns
-    returns-2
-    block-passes-requires
-    returns-3
     sub-block-at
     add-block-at
     block-at-requires-2
-    get64-requires
     last-passes-requires
-    returns-4)
+    returns-2)

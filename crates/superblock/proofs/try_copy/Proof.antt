@@ -1,14 +1,11 @@
-use mathlib.Core.Path.{_≡_}
-use mathlib.Core.Bool.{true, false}
-use denote.Ref.{now}
-use Rattle.field.specs.Card.{cardOf}
-use Rattle.superblock.specs.Superblock.{copyPasses}
+use mathlib.Core.Path.{refl}
+use Rattle.superblock.specs.Superblock.{passes}
 use borrow.Author.Needs.{needs}
 use Rattle.superblock.proofs.try_copy.Statement.{statement}
 use Rattle.superblock.proofs.try_copy.Tie as tie
 
-copy-at-requires : tie.Need-copy-at-requires
-copy-at-requires c κs = search needs
+copy-of-requires : tie.Need-copy-of-requires
+copy-of-requires c κs = search needs
 
 read-fields-requires : tie.Need-read-fields-requires
 read-fields-requires c κs = search needs
@@ -20,24 +17,36 @@ fields-pass-requires : tie.Need-fields-pass-requires
 fields-pass-requires c κs = search needs
 
 returns : tie.Need-returns
-unfolding copyPasses
+unfolding passes
 returns c =
-    let a = c .before .before .before .before .before .before .args in
-    let test : copyPasses (cardOf (now (a .image))) (a .b) ≡ true = cc in
-    rw test (cc)
+    let marked = c .before .before in
+    let read = marked .before in
+    rw (
+      ← read .before .copy-of .ensures .0,
+      ← read .read-fields .ensures,
+      ← marked .has-mark .ensures,
+      ← c .before .fields-pass .ensures,
+      c .if1 .taken,
+    )
 
 returns-2 : tie.Need-returns-2
-unfolding copyPasses
+unfolding passes
 returns-2 c =
-    let a = c .before .before .before .before .before .before .args in
-    let test : copyPasses (cardOf (now (a .image))) (a .b) ≡ false = cc in
-    rw test (cc)
+    let marked = c .before .before in
+    let read = marked .before in
+    rw (
+      ← read .before .copy-of .ensures .0,
+      ← read .read-fields .ensures,
+      ← marked .has-mark .ensures,
+      ← c .before .fields-pass .ensures,
+      c .if1 .left,
+    )
 
 pub try-copy-spec : {M : Type 1} → statement M
 try-copy-spec =
     tie.close
     (tie.spec
-    copy-at-requires
+    copy-of-requires
     read-fields-requires
     has-mark-requires
     fields-pass-requires
