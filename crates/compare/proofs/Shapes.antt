@@ -70,7 +70,7 @@ pub main-in-both : {kept fresh : Card} {v u : Volume} → VolumeIn kept v → Vo
     → AllOf (λ b. inMain (boundsOf v) b ≡ true) l → AllOf (InBoth kept fresh) l
 main-in-both {v = v} {u = u} k f s l h =
     let p : v .areas .«main_end» ≡ u .areas .«main_end» = ap (λ (m : Bounds). m .end) (same-bounds (boundsOf v) (boundsOf u) s) in
-    all-map (λ b q. let r = in-main (boundsOf v) b q in let x = k .areasIn .inCard in let y = f .areasIn .inCard in (omega arith, omega arith)) l h
+    all-map (λ b q. let r = in-main (boundsOf v) b q in let x = k .places .areasIn .inCard in let y = f .places .areasIn .inCard in (omega arith, omega arith)) l h
 
 -- ---- the whole
 pub record ListsFit (m : Bounds) (nodes blocks : Listed) : Type 0 where
