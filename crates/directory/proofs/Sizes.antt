@@ -15,11 +15,11 @@ use Rattle.directory.specs.Find.{Directory, fetchWalk, afterSlots, after
 use Rattle.directory.proofs.Levels.{blocks-low, early-or-late, bucket-past}
 
 -- how many blocks are left to fetch from a level on
-abbrev pub left : ℕ → ℕ
+abbrev left : ℕ → ℕ
 left level = 2 * (29 - level)
 
 module _ (d : Directory) where
-  pub fetch-within : (index : ℕ) → Small (d .bounds) 3 4 (fetchWalk d index)
+  fetch-within : (index : ℕ) → Small (d .bounds) 3 4 (fetchWalk d index)
   unfolding fetchWalk
   fetch-within index = block-within (d .bounds) (d .ino) (d .inode) (d .addresses) index
 
@@ -28,7 +28,7 @@ module _ (d : Directory) where
     unfolding fetchWalk
     fetch-past = block-past (d .bounds) (d .ino) (d .inode) (d .addresses) index h
 
-    pub fetch-none : Small (d .bounds) 0 0 (fetchWalk d index)
+    fetch-none : Small (d .bounds) 0 0 (fetchWalk d index)
     fetch-none = subst (Small (d .bounds) 0 0) (sym fetch-past) (ends tt)
 
   module _ (w : Wanted) where
@@ -42,7 +42,8 @@ module _ (d : Directory) where
     after-within h hole = h
     after-within h (held block) = slots-within h (inBlock block w)
 
-    bucket-within : {ns bs : ℕ} {rest : Walk (Outcome ℕ)} (level n k : ℕ) → Small (d .bounds) ns bs rest → Small (d .bounds) (ns + 3 * n) (bs + 4 * n) (bucketWalk d w level rest n k)
+    bucket-within : {ns bs : ℕ} {rest : Walk (Outcome ℕ)} (level n k : ℕ) → Small (d .bounds) ns bs rest
+        → Small (d .bounds) (ns + 3 * n) (bs + 4 * n) (bucketWalk d w level rest n k)
     unfolding bucketWalk
     bucket-within level zero k h = within-le _ _ (omega arith) (omega arith) h
     bucket-within level (suc n) k h =
@@ -50,7 +51,8 @@ module _ (d : Directory) where
         (within-then _ (fetch-within (bucketOf level (w .hash) + k)) (λ x _. after-within (bucket-within level n (k + 1) h) x))
 
     module _ (few : d .addresses ≤ 923) where
-      bucket-none : {ns bs : ℕ} {rest : Walk (Outcome ℕ)} (level n k : ℕ) → 29 ≤ level → Small (d .bounds) ns bs rest → Small (d .bounds) ns bs (bucketWalk d w level rest n k)
+      bucket-none : {ns bs : ℕ} {rest : Walk (Outcome ℕ)} (level n k : ℕ) → 29 ≤ level → Small (d .bounds) ns bs rest
+          → Small (d .bounds) ns bs (bucketWalk d w level rest n k)
       unfolding bucketWalk
       bucket-none level zero k late h = h
       bucket-none level (suc n) k late h =

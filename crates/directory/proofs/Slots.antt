@@ -14,7 +14,8 @@ use Rattle.field.specs.Bytes.{sameAt}
 use Rattle.field.proofs.Choosing.{needed-le}
 use Rattle.directory.specs.declared.Slot.{Slot}
 use Rattle.directory.specs.declared.Slot.the-variants.{Free, Match, Other, Malformed}
-use Rattle.directory.specs.Slot.{Wanted, entryAt, lengthIn, slotsFor, wellFormed, matches, slotAt, absent, found, malformed, afterSlot, slotsFrom, inBlock}
+use Rattle.directory.specs.Slot.{Wanted, entryAt, lengthIn, slotsFor, wellFormed, matches, slotAt}
+use Rattle.directory.specs.Slot.{absent, found, malformed, afterSlot, slotsFrom, inBlock}
 
 -- ---- one slot, in the order of its tests
 module _ (block : List ℕ) (w : Wanted) (slot : ℕ) where
@@ -22,7 +23,8 @@ module _ (block : List ℕ) (w : Wanted) (slot : ℕ) where
   unfolding slotAt
   slot-free z = rw (eq-eqb (lowBit block slot) 0 z)
 
-  pub slot-malformed : {size : ℕ} → (lowBit block slot ≡ 0 → ⊥) → size ≡ lengthIn block slot → wellFormed slot size ≡ false → slotAt block w slot ≡ Malformed
+  pub slot-malformed : {size : ℕ} → (lowBit block slot ≡ 0 → ⊥) → size ≡ lengthIn block slot → wellFormed slot size ≡ false
+      → slotAt block w slot ≡ Malformed
   unfolding slotAt
   slot-malformed used e f = rw (ne-eqb (lowBit block slot) 0 used, ← e, f)
 
@@ -64,7 +66,8 @@ unfolding wellFormed
 formed slot size h = (needed-le (λ e. rw e) h, needed-le (λ e. rw (e, and-false _)) h)
 
 -- where the choices end at `Other`, the entry is well-formed
-other-tests : (free formed same : Bool) (n m ino : ℕ) → Other n ≡ choose free Free (choose formed (choose same (Match ino) (Other m)) Malformed) → (formed ≡ true) × (n ≡ m)
+other-tests : (free formed same : Bool) (n m ino : ℕ)
+    → Other n ≡ choose free Free (choose formed (choose same (Match ino) (Other m)) Malformed) → (formed ≡ true) × (n ≡ m)
 other-tests true f s n m i p = let z : _≡_ {A = ℕ} 0 1 = cc in absurd (omega arith)
 other-tests false false s n m i p = let z : _≡_ {A = ℕ} 0 1 = cc in absurd (omega arith)
 other-tests false true true n m i p = let z : _≡_ {A = ℕ} 0 1 = cc in absurd (omega arith)

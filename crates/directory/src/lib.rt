@@ -118,7 +118,8 @@ fn fetch(
     file: node::File,
     index: usize,
 ) -> node::DataStep
-    requires { ⌜ Fits (imageView (now image) v) (fetchWalk (directoryOf (cardOf (now image)) v file) index) (lists (now nodes) (now blocks) counts) ⌝ }
+    requires { ⌜ Fits (imageView (now image) v) (fetchWalk (directoryOf (cardOf (now image)) v file) index)
+        (lists (now nodes) (now blocks) counts) ⌝ }
     requires { ⌜ VolumeIn (cardOf (now image)) v ⌝ }
     requires { ⌜ FileIn (cardOf (now image)) file ⌝ }
     ensures { λ r. ⌜ Walked (imageView (now (image .entry)) v) (fetchWalk (directoryOf (cardOf (now (image .entry))) v file) index)
@@ -155,14 +156,15 @@ pub fn find(
     requires { ⌜ FileIn (cardOf (now image)) file × (depth ≤ 63) ⌝ }
     ensures { λ r. ⌜ Walked (imageView (now (image .entry)) v)
         (findWalk (directoryOf (cardOf (now (image .entry))) v file) (wanted hash (now (name .entry))) depth)
-        (lists (now (nodes .entry)) (now (blocks .entry)) counts) (entryOf (r .entry)) (lists (now (nodes .exit)) (now (blocks .exit)) (r .counts)) ⌝ }
+        (lists (now (nodes .entry)) (now (blocks .entry)) counts) (entryOf (r .entry))
+        (lists (now (nodes .exit)) (now (blocks .exit)) (r .counts)) ⌝ }
 {
     let mut listed = counts;
     let mut level: usize = 0;
     let mut first: usize = 0;
     let entry = 'levels: loop {
         if depth <= level {
-            break 'levels Entry::Stop(2);
+            break 'levels Entry::Stop(answer::NO_NAME);
         }
         let here = level_at(level, first, hash);
         let count = here.count;
@@ -175,7 +177,7 @@ pub fn find(
             let data = step.data;
             let at = match data {
                 node::Data::Hole => continue 'bucket,
-                node::Data::Stop(answer) => break 'levels Entry::Stop(answer),
+                node::Data::Stop(number) => break 'levels Entry::Stop(number),
                 node::Data::At(address) => address,
             };
             let block = field::block_at(image, at);
@@ -189,7 +191,7 @@ pub fn find(
                     Slot::Other(passed) => {
                         slot += passed;
                     }
-                    Slot::Malformed => break 'levels Entry::Stop(14),
+                    Slot::Malformed => break 'levels Entry::Stop(answer::MALFORMED_SLOT),
                 }
             }
         }

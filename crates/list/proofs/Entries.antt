@@ -94,7 +94,8 @@ module _ (l : List ℕ) (n x : ℕ) where
     -- the entry before i is below x
     pub placed-before : le32 l (4 * (i - 1)) < x → Placed l n x (Before i)
     placed-before g =
-        let e : insert x (numbers l 0 i) ≡ numbers l 0 i ++ (x ∷ []) = rw (numbers-last l i z) (insert-last x (numbers l 0 (i - 1)) (le32 l (4 * (i - 1))) front g) in
+        let e : insert x (numbers l 0 i) ≡ numbers l 0 i ++ (x ∷ []) =
+        rw (numbers-last l i z) (insert-last x (numbers l 0 (i - 1)) (le32 l (4 * (i - 1))) front g) in
         (h, p ∙ rw (e, append-assoc))
 
     -- the entry before i is x

@@ -84,19 +84,19 @@ pub fn node_step(
     let entry = nat::table_answer(image, v, number);
     let nat::TableAnswer::Entry(table_inode, address) = entry else {
         return NodeStep {
-            found: Found::Stop(9),
+            found: Found::Stop(answer::NO_NODE),
             counts: looked,
         };
     };
     if address == 0 {
         return NodeStep {
-            found: Found::Stop(9),
+            found: Found::Stop(answer::NO_NODE),
             counts: looked,
         };
     }
     if !in_main(v, address) {
         return NodeStep {
-            found: Found::Stop(10),
+            found: Found::Stop(answer::NODE_OUTSIDE),
             counts: looked,
         };
     }
@@ -107,7 +107,7 @@ pub fn node_step(
     let block = field::block_at(image, address);
     if !belongs(block, number, ino, place, table_inode) {
         return NodeStep {
-            found: Found::Stop(11),
+            found: Found::Stop(answer::FOREIGN_NODE),
             counts: read,
         };
     }
@@ -148,7 +148,7 @@ fn data_at(
     }
     if !in_main(v, address) {
         return DataStep {
-            data: Data::Stop(13),
+            data: Data::Stop(answer::DATA_OUTSIDE),
             counts,
         };
     }
@@ -173,7 +173,8 @@ fn follow(
     number: u32,
     way: place::Way,
 ) -> DataStep
-    requires { ⌜ Fits (imageView (now image) v) (followWalk (boundsOf v) ino (afterInode way) number) (lists (now nodes) (now blocks) counts) ⌝ }
+    requires { ⌜ Fits (imageView (now image) v) (followWalk (boundsOf v) ino (afterInode way) number)
+        (lists (now nodes) (now blocks) counts) ⌝ }
     requires { ⌜ VolumeIn (cardOf (now image)) v ⌝ }
     requires { ⌜ WayIn (way .steps) (way .length) ⌝ }
     ensures { λ r. ⌜ Walked (imageView (now (image .entry)) v) (followWalk (boundsOf v) ino (afterInode way) number)
@@ -222,7 +223,8 @@ pub fn data_block(
     file: File,
     index: u32,
 ) -> DataStep
-    requires { ⌜ Fits (imageView (now image) v) (fileBlockWalk (cardOf (now image)) v file index) (lists (now nodes) (now blocks) counts) ⌝ }
+    requires { ⌜ Fits (imageView (now image) v) (fileBlockWalk (cardOf (now image)) v file index)
+        (lists (now nodes) (now blocks) counts) ⌝ }
     requires { ⌜ VolumeIn (cardOf (now image)) v ⌝ }
     requires { ⌜ FileIn (cardOf (now image)) file ⌝ }
     ensures { λ r. ⌜ Walked (imageView (now (image .entry)) v) (fileBlockWalk (cardOf (now (image .entry))) v file index)

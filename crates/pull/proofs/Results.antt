@@ -1,13 +1,11 @@
 -- From a walk over lent lists to a pull's result: every number and every lent byte. Then the call's shape, taken apart.
-use Prim.Native.Nat.{ℕ, _*_, _/_, _≤_, _<_}
+use Prim.Native.Nat.{ℕ, _/_, _≤_, _<_}
 use native.Mathlib.Omega.{arith}
-use mathlib.Core.Path.{_≡_, refl, sym, ap, _∙_}
-use mathlib.Core.Bool.{Bool, true, false, _&&_, and-false}
+use mathlib.Core.Path.{_≡_, refl, ap, _∙_}
+use mathlib.Core.Bool.{true, false, and-false}
 use mathlib.Core.List.{List}
 use lib.ListN.{length, getD}
-use lib.Dec.{eqb, leb}
 use Rattle.field.specs.Card.{Card, cardOf}
-use Rattle.field.specs.Choice.{choose}
 use Rattle.field.proofs.Choosing.{needed, needed-eq, needed-le}
 use Rattle.superblock.specs.Shape.{inShape}
 use Rattle.checkpoint.specs.declared.Volume.{Volume}
@@ -19,9 +17,8 @@ use Rattle.walk.specs.Walk.{View, viewOf, Outcome, lists, none, Walked, Fits}
 use Rattle.walk.proofs.Fits.{fits-start}
 use Rattle.walk.proofs.Written.{left-value, left-counts, left-nodes, left-blocks}
 use Rattle.node.specs.Node.{Bounds, boundsOf}
-use Rattle.pull.specs.declared.Pulled.{Pulled}
 use Rattle.pull.specs.Walk.{Block, pullWalk}
-use Rattle.pull.specs.Pull.{mostNodes, mostBlocks, Lent, lending, Result, result, lentInShape, callInShape}
+use Rattle.pull.specs.Pull.{mostNodes, mostBlocks, Lent, lending, result, lentInShape, callInShape}
 use Rattle.pull.specs.Pull.{answerOf, countOf, bufferAfter, refusedPull, written, pullRun, pulledFrom, pulled}
 use Rattle.pull.proofs.Sizes.{pull-within}
 

@@ -1,22 +1,19 @@
 -- A pull looks up at most 179 numbers and reads at most 238 blocks, all in the main area; it ends with one of 2, 3, 9 to 14, or
 -- with a block that holds 1 to 4,096 of the file's bytes. One pass over the walk shows all of that.
 use Prim.Native.Nat.{ℕ, _≤_}
-use native.Mathlib.Omega.{arith}
 use mathlib.Core.Path.{_≡_, refl}
 use mathlib.Core.Bool.{true}
 use mathlib.Core.List.{List}
 use lib.Dec.{eqb}
 use Rattle.walk.specs.Walk.{Walk, Outcome, Ended, Within, ends}
-use Rattle.walk.proofs.Sizes.{within-le, within-if, within-choose, within-then}
+use Rattle.walk.proofs.Sizes.{within-if, within-choose, within-then}
 use Rattle.inode.specs.Inode.{inodeOf, isDirectory, isRegular, addressesIn, isPast}
 use Rattle.inode.proofs.Counting.{count-in-block, few-addresses}
 use Rattle.node.specs.Node.{Bounds, inMain}
-use Rattle.node.specs.Block.{Fetched}
 use Rattle.node.proofs.Sizes.{Small, node-within, block-within}
-use Rattle.directory.specs.Find.{directory}
 use Rattle.directory.proofs.Sizes.{find-within}
 use Rattle.pull.specs.Pull.{mostNodes, mostBlocks}
-use Rattle.pull.specs.Walk.{rootIno, Block, counted, atFile, fileWalk, atRoot, rootWalk, pullWalk}
+use Rattle.pull.specs.Walk.{rootIno, Block, atFile, fileWalk, atRoot, rootWalk, pullWalk}
 
 -- "a byte count 1 to 4,096"
 abbrev pub Counted : Block → Type 0

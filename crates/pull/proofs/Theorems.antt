@@ -2,7 +2,7 @@
 -- that the contract cites.
 use Prim.Native.Nat.{ℕ, _<_, _≤_}
 use native.Mathlib.Omega.{arith}
-use mathlib.Core.Path.{_≡_, refl, sym, subst}
+use mathlib.Core.Path.{_≡_, refl}
 use mathlib.Core.Bool.{Bool, true, false, _&&_, _||_}
 use mathlib.Core.Logic.{_⊎_, inl, inr, _↔_}
 use borrow.Author.Tests.{eqb-true, leb-true}
@@ -16,7 +16,7 @@ use Rattle.checkpoint.specs.declared.Opening.the-variants.{Opened, Refused}
 use Rattle.checkpoint.specs.Volume.{openedImage}
 use Rattle.checkpoint.proofs.Inside.{refusals}
 use Rattle.list.specs.Lists.{Rising, AllOf, numbers, entries}
-use Rattle.walk.specs.Walk.{View, viewOf, empty, Walk, run, Outcome, ok, stop, ending, Ended, bind, andThen, AsksNode, AsksBlock}
+use Rattle.walk.specs.Walk.{viewOf, empty, Walk, Outcome, ok, stop, ending, Ended, bind, andThen, AsksNode, AsksBlock}
 use Rattle.walk.proofs.Runs.{run-rising}
 use Rattle.walk.proofs.Sizes.{few-listed, run-reads, run-value}
 use Rattle.walk.proofs.Asked.{nodes-exact, blocks-exact}
@@ -44,6 +44,15 @@ ending-inside answer h = go (eqb answer 2) refl (eqb answer 3) refl (leb 9 answe
     go false e false f true g true k t = let least = leb-true 9 answer g in (omega arith, leb-true answer 14 k, inr (omega arith))
     go false e false f true g false k t = let z : _≡_ {A = ℕ} 0 1 = cc in absurd (omega arith)
     go false e false f false g d k t = let z : _≡_ {A = ℕ} 0 1 = cc in absurd (omega arith)
+
+-- a hole or a block: the answer is 0 or 1
+content-few : (f : Fetched) → contentAnswer f ≤ 1
+content-few hole = omega arith
+content-few (held block) = omega arith
+
+-- an answer of the table with its byte count
+abbrev pub Answered : ℕ → ℕ → Type 0
+Answered answer count = (answer ≤ 14) × (answer ≤ 1 → (1 ≤ count) × (count ≤ 4096)) × (2 ≤ answer → count ≡ 0)
 
 -- ---- the walk's run, on any card
 module _ (card : Card) (v : Volume) (name : List ℕ) (index : ℕ) where
@@ -87,16 +96,16 @@ module _ (card : Card) (v : Volume) (name : List ℕ) (index : ℕ) where
 -- ---- every pull
 
 -- A pull is refused with 4 to 8, or the card opens and its walk's result is written.
-pub data Ends (image name : List ℕ) (index : ℕ) (lent : Lent) (r : Result) : Type 0 where
-  refusal : (answer : ℕ) → 4 ≤ answer → answer ≤ 8 → r ≡ refusedPull answer lent → Ends image name index lent r
+pub data PullEnds (image name : List ℕ) (index : ℕ) (lent : Lent) (r : Result) : Type 0 where
+  refusal : (answer : ℕ) → 4 ≤ answer → answer ≤ 8 → r ≡ refusedPull answer lent → PullEnds image name index lent r
   walked : (v : Volume) → callInShape image name lent ≡ true → openedImage image ≡ Opened v
-      → r ≡ written (pullRun (cardOf image) v name index) lent → Ends image name index lent r
+      → r ≡ written (pullRun (cardOf image) v name index) lent → PullEnds image name index lent r
 
 module _ (image name : List ℕ) (index : ℕ) (lent : Lent) where
-  pub ends : Ends image name index lent (pulled image name index lent)
+  pub ends : PullEnds image name index lent (pulled image name index lent)
   ends = go (callInShape image name lent) refl (openedImage image) refl
     where
-      go : (b : Bool) → callInShape image name lent ≡ b → (o : Opening) → openedImage image ≡ o → Ends image name index lent (pulled image name index lent)
+      go : (b : Bool) → callInShape image name lent ≡ b → (o : Opening) → openedImage image ≡ o → PullEnds image name index lent (pulled image name index lent)
       go false e o f = refusal 4 (omega arith) (omega arith) (call-refused image name index lent e)
       go true e (Refused answer) f =
           let few = refusals image answer f in
@@ -107,7 +116,7 @@ module _ (image name : List ℕ) (index : ℕ) (lent : Lent) where
   pub counts : (pulled image name index lent .numbers .«node_count» ≤ mostNodes) × (pulled image name index lent .numbers .«block_count» ≤ mostBlocks)
   counts = go ends
     where
-      go : {r : Result} → Ends image name index lent r → (r .numbers .«node_count» ≤ mostNodes) × (r .numbers .«block_count» ≤ mostBlocks)
+      go : {r : Result} → PullEnds image name index lent r → (r .numbers .«node_count» ≤ mostNodes) × (r .numbers .«block_count» ≤ mostBlocks)
       go (refusal answer p q e) = rw e (omega arith, omega arith)
       go (walked v p q e) = rw e (run-few (cardOf image) v name index)
 
@@ -116,7 +125,7 @@ module _ (image name : List ℕ) (index : ℕ) (lent : Lent) where
   unfolding numbers
   rising = go ends
     where
-      go : {r : Result} → Ends image name index lent r → Rising (entries (nodesLeft r)) × Rising (entries (blocksLeft r))
+      go : {r : Result} → PullEnds image name index lent r → Rising (entries (nodesLeft r)) × Rising (entries (blocksLeft r))
       go (refusal answer p q e) = rw e (tt, tt)
       go (walked v p q e) =
           let runs = pullRun (cardOf image) v name index .seen in
@@ -127,7 +136,7 @@ module _ (image name : List ℕ) (index : ℕ) (lent : Lent) where
   unfolding numbers
   in-main v opens = go ends
     where
-      go : {r : Result} → Ends image name index lent r → AllOf (λ b. inMain (boundsOf v) b ≡ true) (entries (blocksLeft r))
+      go : {r : Result} → PullEnds image name index lent r → AllOf (λ b. inMain (boundsOf v) b ≡ true) (entries (blocksLeft r))
       go (refusal answer p q e) = rw e tt
       go (walked u p q e) =
           let same : u ≡ v = cc in
@@ -144,20 +153,14 @@ module _ (image name : List ℕ) (index : ℕ) (lent : Lent) where
       (run-exact (cardOf image) v name index)
 
   -- the answer is a number of the table, and "a byte count 1 to 4,096" goes with 0 and 1 alone
-  pub answers : (pulled image name index lent .numbers .answer ≤ 14)
-      × (pulled image name index lent .numbers .answer ≤ 1 → (1 ≤ pulled image name index lent .numbers .«byte_count») × (pulled image name index lent .numbers .«byte_count» ≤ 4096))
-      × (2 ≤ pulled image name index lent .numbers .answer → pulled image name index lent .numbers .«byte_count» ≡ 0)
+  pub answers : Answered (pulled image name index lent .numbers .answer) (pulled image name index lent .numbers .«byte_count»)
   answers = go ends
     where
-      ended : (o : Outcome Block) → Ended Counted o → (answerOf o ≤ 14) × (answerOf o ≤ 1 → (1 ≤ countOf o) × (countOf o ≤ 4096)) × (2 ≤ answerOf o → countOf o ≡ 0)
-      ended (ok b) q = content (b .content) (b .count) q
-        where
-          content : (f : Fetched) (count : ℕ) → (1 ≤ count) × (count ≤ 4096) → (contentAnswer f ≤ 14) × (contentAnswer f ≤ 1 → (1 ≤ count) × (count ≤ 4096)) × (2 ≤ contentAnswer f → count ≡ 0)
-          content hole count q = (omega arith, λ _. q, λ l. absurd (omega arith))
-          content (held block) count q = (omega arith, λ _. q, λ l. absurd (omega arith))
+      ended : (o : Outcome Block) → Ended Counted o → Answered (answerOf o) (countOf o)
+      ended (ok b) q = let few = content-few (b .content) in (omega arith, λ _. q, λ l. absurd (omega arith))
       ended (stop answer) q = let inside = ending-inside answer q in (inside .1, λ l. absurd (omega arith), λ _. refl)
 
-      go : {r : Result} → Ends image name index lent r → (r .numbers .answer ≤ 14) × (r .numbers .answer ≤ 1 → (1 ≤ r .numbers .«byte_count») × (r .numbers .«byte_count» ≤ 4096)) × (2 ≤ r .numbers .answer → r .numbers .«byte_count» ≡ 0)
+      go : {r : Result} → PullEnds image name index lent r → Answered (r .numbers .answer) (r .numbers .«byte_count»)
       go (refusal answer p q e) = rw e (omega arith, λ l. absurd (omega arith), λ _. refl)
       go (walked v p q e) = rw e (ended (pullRun (cardOf image) v name index .value) (run-ended (cardOf image) v name index))
 
@@ -166,13 +169,9 @@ module _ (image name : List ℕ) (index : ℕ) (lent : Lent) where
   untouched = go ends
     where
       outcome : (o : Outcome Block) → 2 ≤ answerOf o → bufferAfter o (lent .block) ≡ lent .block
-      outcome (ok b) l = content (b .content) l
-        where
-          content : (f : Fetched) → 2 ≤ contentAnswer f → bufferAfter (ok (record { count = b .count; content = f })) (lent .block) ≡ lent .block
-          content hole l = absurd (omega arith)
-          content (held block) l = absurd (omega arith)
+      outcome (ok b) l = let few = content-few (b .content) in absurd (omega arith)
       outcome (stop answer) l = refl
 
-      go : {r : Result} → Ends image name index lent r → 2 ≤ r .numbers .answer → r .memory .block ≡ lent .block
+      go : {r : Result} → PullEnds image name index lent r → 2 ≤ r .numbers .answer → r .memory .block ≡ lent .block
       go (refusal answer p q e) = rw e (λ l. refl)
       go (walked v p q e) = rw e (outcome (pullRun (cardOf image) v name index .value))

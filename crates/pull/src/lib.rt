@@ -12,7 +12,8 @@ ghost use Rattle.node.specs.Node.{boundsOf};
 ghost use Rattle.node.specs.Found.{DataIn};
 ghost use Rattle.directory.specs.Find.{entryOf};
 ghost use Rattle.pull.specs.Walk.{atFile, fileWalk, blockFound, atRoot, rootWalk, pullWalk};
-ghost use Rattle.pull.specs.Pull.{mostNodes, mostBlocks, lending, result, lentInShape, answerOf, countOf, bufferAfter, written, pullRun, pulled};
+ghost use Rattle.pull.specs.Pull.{mostNodes, mostBlocks, lending, result, lentInShape};
+ghost use Rattle.pull.specs.Pull.{answerOf, countOf, bufferAfter, written, pullRun, pulled};
 
 // The most nodes and blocks that a pull lists.
 const MOST_NODES: usize = 179;
@@ -46,7 +47,8 @@ fn block_from_inode(
     at: u32,
     index: u32,
 ) -> BlockStep
-    requires { ⌜ Fits (imageView (now image) v) (atFile (boundsOf v) index ino (cardOf (now image) .block at)) (lists (now nodes) (now blocks) counts) ⌝ }
+    requires { ⌜ Fits (imageView (now image) v) (atFile (boundsOf v) index ino (cardOf (now image) .block at))
+        (lists (now nodes) (now blocks) counts) ⌝ }
     requires { ⌜ VolumeIn (cardOf (now image)) v ⌝ }
     requires { ⌜ at < cardOf (now image) .blocks ⌝ }
     ensures { λ r. ⌜ Walked (imageView (now (image .entry)) v) (atFile (boundsOf v) index ino (cardOf (now (image .entry)) .block at))
@@ -57,14 +59,14 @@ fn block_from_inode(
     let i = inode::inode_of(field::block_at(image, at));
     if !inode::is_regular(i) {
         return BlockStep {
-            data: node::Data::Stop(12),
+            data: node::Data::Stop(answer::KIND_NOT_READ),
             bytes: 0,
             counts,
         };
     }
     if inode::is_past(i, index) {
         return BlockStep {
-            data: node::Data::Stop(3),
+            data: node::Data::Stop(answer::PAST_END),
             bytes: 0,
             counts,
         };
@@ -125,22 +127,25 @@ fn find_from_inode(
     at: u32,
     name: &[u8],
 ) -> directory::EntryStep
-    requires { ⌜ Fits (imageView (now image) v) (atRoot (boundsOf v) (now name) (cardOf (now image) .block at)) (lists (now nodes) (now blocks) counts) ⌝ }
+    requires { ⌜ Fits (imageView (now image) v) (atRoot (boundsOf v) (now name) (cardOf (now image) .block at))
+        (lists (now nodes) (now blocks) counts) ⌝ }
     requires { ⌜ VolumeIn (cardOf (now image)) v ⌝ }
     requires { ⌜ at < cardOf (now image) .blocks ⌝ }
-    ensures { λ r. ⌜ Walked (imageView (now (image .entry)) v) (atRoot (boundsOf v) (now (name .entry)) (cardOf (now (image .entry)) .block at))
-        (lists (now (nodes .entry)) (now (blocks .entry)) counts) (entryOf (r .entry)) (lists (now (nodes .exit)) (now (blocks .exit)) (r .counts)) ⌝ }
+    ensures { λ r. ⌜ Walked (imageView (now (image .entry)) v)
+        (atRoot (boundsOf v) (now (name .entry)) (cardOf (now (image .entry)) .block at))
+        (lists (now (nodes .entry)) (now (blocks .entry)) counts) (entryOf (r .entry))
+        (lists (now (nodes .exit)) (now (blocks .exit)) (r .counts)) ⌝ }
 {
     let i = inode::inode_of(field::block_at(image, at));
     if !inode::is_directory(i) {
         return directory::EntryStep {
-            entry: directory::Entry::Stop(12),
+            entry: directory::Entry::Stop(answer::KIND_NOT_READ),
             counts,
         };
     }
     if i.size == 0 {
         return directory::EntryStep {
-            entry: directory::Entry::Stop(2),
+            entry: directory::Entry::Stop(answer::NO_NAME),
             counts,
         };
     }
@@ -166,7 +171,8 @@ fn find_in_root(
     requires { ⌜ Fits (imageView (now image) v) (rootWalk (boundsOf v) (now name)) (lists (now nodes) (now blocks) counts) ⌝ }
     requires { ⌜ VolumeIn (cardOf (now image)) v ⌝ }
     ensures { λ r. ⌜ Walked (imageView (now (image .entry)) v) (rootWalk (boundsOf v) (now (name .entry)))
-        (lists (now (nodes .entry)) (now (blocks .entry)) counts) (entryOf (r .entry)) (lists (now (nodes .exit)) (now (blocks .exit)) (r .counts)) ⌝ }
+        (lists (now (nodes .entry)) (now (blocks .entry)) counts) (entryOf (r .entry))
+        (lists (now (nodes .exit)) (now (blocks .exit)) (r .counts)) ⌝ }
 {
     let step = node::node_step(image, v, nodes, blocks, counts, 3, 3, 0);
     let found = step.found;
@@ -232,18 +238,21 @@ fn deliver(image: &[u8], data: node::Data, count: usize, buffer: &mut [u8]) -> D
         node::Data::Hole => {
             buffer::clear(buffer);
             Delivered {
-                answer: 1,
+                answer: answer::HOLE,
                 count: bytes,
             }
         }
         node::Data::At(at) => {
             buffer::put_block(field::block_at(image, at), count, buffer);
             Delivered {
-                answer: 0,
+                answer: answer::DATA,
                 count: bytes,
             }
         }
-        node::Data::Stop(answer) => Delivered { answer, count: 0 },
+        node::Data::Stop(number) => Delivered {
+            answer: number,
+            count: 0,
+        },
     }
 }
 
@@ -303,15 +312,16 @@ pub fn pull(
     blocks: &mut [u8],
 ) -> Pulled
     ensures { λ r. ⌜ result r (lending (now (block .exit)) (now (nodes .exit)) (now (blocks .exit)))
-        ≡ pulled (now (image .entry)) (now (name .entry)) index (lending (now (block .entry)) (now (nodes .entry)) (now (blocks .entry))) ⌝ }
+        ≡ pulled (now (image .entry)) (now (name .entry)) index
+        (lending (now (block .entry)) (now (nodes .entry)) (now (blocks .entry))) ⌝ }
 {
     if !(superblock::in_shape(image.len())
         & name_hash::is_name(name)
         & lent_in_shape(block.len(), nodes.len(), blocks.len())) {
-        return refused_pull(4);
+        return refused_pull(answer::OUT_OF_SHAPE);
     }
     match checkpoint::open(image) {
-        checkpoint::Opening::Refused(answer) => refused_pull(answer),
+        checkpoint::Opening::Refused(number) => refused_pull(number),
         checkpoint::Opening::Opened(v) => pull_opened(image, v, name, index, block, nodes, blocks),
     }
 }

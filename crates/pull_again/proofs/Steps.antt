@@ -22,7 +22,7 @@ use Rattle.node.specs.Node.{Bounds, boundsOf, inMain}
 use Rattle.pull.specs.Walk.{Block, pullWalk}
 use Rattle.pull.specs.Pull.{Lent, Result, callInShape, contentAnswer, answerOf, bufferAfter, written, pullRun, pulled, nodesLeft, blocksLeft}
 use Rattle.pull.proofs.Sizes.{Counted}
-use Rattle.pull.proofs.Theorems.{Ends, refusal, walked, ends, ending-inside, run-rises, run-inside, run-ended, run-some}
+use Rattle.pull.proofs.Theorems.{PullEnds, refusal, walked, ends, ending-inside, run-rises, run-inside, run-ended, run-some}
 use Rattle.compare.specs.Lists.{listsInShape}
 use Rattle.compare.specs.declared.Compared.{Compared}
 use Rattle.compare.specs.Compare.{compared}
@@ -42,7 +42,7 @@ pub record Came (image name : List ℕ) (index : ℕ) (lent : Lent) : Type 0 whe
 pub past-came : (image name : List ℕ) (index : ℕ) (lent : Lent) → PastOpening (pulled image name index lent) → Came image name index lent
 past-came image name index lent past = go refl (ends image name index lent)
   where
-    go : {r : Result} → pulled image name index lent ≡ r → Ends image name index lent r → Came image name index lent
+    go : {r : Result} → pulled image name index lent ≡ r → PullEnds image name index lent r → Came image name index lent
     go e (refusal answer p q f) =
         let g : pulled image name index lent .numbers .answer ≡ answer = ap (λ (x : Result). x .numbers .answer) (e ∙ f) in
         absurd (⊎-elim (λ l. omega arith) (λ l. omega arith) past)
@@ -150,7 +150,7 @@ some-past image name index lent some = go (ends image name index lent) some
         content (held block) = inl (omega arith)
     outcome (stop answer) q = ending-inside answer q .2
 
-    go : {r : Result} → Ends image name index lent r → 1 ≤ nodesLeft r .count → PastOpening r
+    go : {r : Result} → PullEnds image name index lent r → 1 ≤ nodesLeft r .count → PastOpening r
     go {r} (refusal answer p q e) l =
         let none : nodesLeft r .count ≡ 0 = ap (λ (r : Result). nodesLeft r .count) e in
         absurd (omega arith)

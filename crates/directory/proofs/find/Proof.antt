@@ -52,29 +52,37 @@ abbrev μ-levels : tie.MeasureT-levels
 -- ---- the places on the way
 
 -- a turn of the loop over blocks, the level that it is in, and the start
-abbrev level-of : tie.In-bucket Inv-slots μ-slots Inv-bucket μ-bucket Inv-levels μ-levels → tie.After-level-at Inv-slots μ-slots Inv-bucket μ-bucket Inv-levels μ-levels
+abbrev level-of :
+    tie.In-bucket Inv-slots μ-slots Inv-bucket μ-bucket Inv-levels μ-levels → tie.After-level-at Inv-slots μ-slots Inv-bucket μ-bucket Inv-levels μ-levels
 level-of b = b .before .before
 
-abbrev within-of : tie.In-bucket Inv-slots μ-slots Inv-bucket μ-bucket Inv-levels μ-levels → tie.Else1 Inv-slots μ-slots Inv-bucket μ-bucket Inv-levels μ-levels
+abbrev within-of :
+    tie.In-bucket Inv-slots μ-slots Inv-bucket μ-bucket Inv-levels μ-levels → tie.Else1 Inv-slots μ-slots Inv-bucket μ-bucket Inv-levels μ-levels
 within-of b = level-of b .before
 
-abbrev levels-of : tie.In-bucket Inv-slots μ-slots Inv-bucket μ-bucket Inv-levels μ-levels → tie.At-levels Inv-slots μ-slots Inv-bucket μ-bucket Inv-levels μ-levels
+abbrev levels-of :
+    tie.In-bucket Inv-slots μ-slots Inv-bucket μ-bucket Inv-levels μ-levels → tie.At-levels Inv-slots μ-slots Inv-bucket μ-bucket Inv-levels μ-levels
 levels-of b = within-of b .before
 
-abbrev start-of : tie.In-bucket Inv-slots μ-slots Inv-bucket μ-bucket Inv-levels μ-levels → tie.Start Inv-slots μ-slots Inv-bucket μ-bucket Inv-levels μ-levels
+abbrev start-of :
+    tie.In-bucket Inv-slots μ-slots Inv-bucket μ-bucket Inv-levels μ-levels → tie.Start Inv-slots μ-slots Inv-bucket μ-bucket Inv-levels μ-levels
 start-of b = levels-of b .before .before .before .before .before
 
 -- a block was fetched, and held by the index; its slots are searched
-abbrev fetch-of : tie.After-listed Inv-slots μ-slots Inv-bucket μ-bucket Inv-levels μ-levels → tie.After-fetch Inv-slots μ-slots Inv-bucket μ-bucket Inv-levels μ-levels
+abbrev fetch-of :
+    tie.After-listed Inv-slots μ-slots Inv-bucket μ-bucket Inv-levels μ-levels → tie.After-fetch Inv-slots μ-slots Inv-bucket μ-bucket Inv-levels μ-levels
 fetch-of l = l .before .before .before .before .before
 
-abbrev turn-of : tie.After-listed Inv-slots μ-slots Inv-bucket μ-bucket Inv-levels μ-levels → tie.In-bucket Inv-slots μ-slots Inv-bucket μ-bucket Inv-levels μ-levels
+abbrev turn-of :
+    tie.After-listed Inv-slots μ-slots Inv-bucket μ-bucket Inv-levels μ-levels → tie.In-bucket Inv-slots μ-slots Inv-bucket μ-bucket Inv-levels μ-levels
 turn-of l = fetch-of l .before .before .before
 
-abbrev listed-of : tie.After-block-at Inv-slots μ-slots Inv-bucket μ-bucket Inv-levels μ-levels → tie.After-listed Inv-slots μ-slots Inv-bucket μ-bucket Inv-levels μ-levels
+abbrev listed-of :
+    tie.After-block-at Inv-slots μ-slots Inv-bucket μ-bucket Inv-levels μ-levels → tie.After-listed Inv-slots μ-slots Inv-bucket μ-bucket Inv-levels μ-levels
 listed-of k = k .before .before .before .before
 
-abbrev block-of : tie.In-slots Inv-slots μ-slots Inv-bucket μ-bucket Inv-levels μ-levels → tie.After-block-at Inv-slots μ-slots Inv-bucket μ-bucket Inv-levels μ-levels
+abbrev block-of :
+    tie.In-slots Inv-slots μ-slots Inv-bucket μ-bucket Inv-levels μ-levels → tie.After-block-at Inv-slots μ-slots Inv-bucket μ-bucket Inv-levels μ-levels
 block-of k = k .before .before
 
 -- ---- what is known there
@@ -90,7 +98,8 @@ index : (b : tie.In-bucket Inv-slots μ-slots Inv-bucket μ-bucket Inv-levels μ
 index b = ap (λ (l : Level). l .bucket + b .before .bucket .k) (level-of b .level-at .ensures)
 
 -- the block that was fetched lies in the card
-in-card : (k : tie.After-data2 Inv-slots μ-slots Inv-bucket μ-bucket Inv-levels μ-levels) → k .data2 .given .0 .0 < card-of (turn-of (k .before .before)) .blocks
+in-card :
+    (k : tie.After-data2 Inv-slots μ-slots Inv-bucket μ-bucket Inv-levels μ-levels) → k .data2 .given .0 .0 < card-of (turn-of (k .before .before)) .blocks
 in-card k =
     let l = k .before .before in
     subst (DataIn (card-of (turn-of l))) (k .data2 .given .1) (fetch-of l .fetch .ensures .1)
@@ -102,7 +111,9 @@ held-of k =
     ap (dataOf (card-of (turn-of (listed-of k)))) (k .before .before .data2 .given .1) ∙ ap (λ (l : List ℕ). ok (held l)) (sym (k .block-at .ensures))
 
 -- another entry has a slot at least, and ends before the block does
-passed-within : (k : tie.After-passed Inv-slots μ-slots Inv-bucket μ-bucket Inv-levels μ-levels) → let slot = k .before .before .before .before .slots .slot in let n = k .passed .given .0 .0 in
+passed-within : (k : tie.After-passed Inv-slots μ-slots Inv-bucket μ-bucket Inv-levels μ-levels) →
+    let slot = k .before .before .before .before .slots .slot in
+    let n = k .passed .given .0 .0 in
     (1 ≤ n) × (slot + n ≤ 214)
 passed-within k = other-bounds _ _ _ _ (sym (k .passed .given .1) ∙ k .before .before .slot-at .ensures)
 
@@ -173,7 +184,8 @@ bucket-again-2 c =
     let k = c .before .before in
     let l = listed-of k in
     let b = turn-of l in
-    bucket-absent (b .before .bucket .inv) (more b) (index b) (fetch-of l .fetch .ensures .0) (held-of k) (seeking-end (c .before .slots .inv) (c .slots-test .left))
+    let none = seeking-end (c .before .slots .inv) (c .slots-test .left) in
+    bucket-absent (b .before .bucket .inv) (more b) (index b) (fetch-of l .fetch .ensures .0) (held-of k) none
 
 slot-at-requires : tie.Need-slot-at-requires Inv-slots μ-slots Inv-bucket μ-bucket Inv-levels μ-levels
 slot-at-requires c κs =

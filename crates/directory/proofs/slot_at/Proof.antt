@@ -9,13 +9,25 @@ use Rattle.directory.proofs.Slots.{slot-free, slot-malformed, Formed, o
 use Rattle.directory.proofs.slot_at.Statement.{statement}
 use Rattle.directory.proofs.slot_at.Tie as tie
 
--- past the first test the slot is in use, and past the second a well-formed entry starts in it
-used : (k : tie.Else1) → lowBit (k .before .before .before .before .args .block .now) (k .before .before .before .before .args .slot) ≡ 0 → ⊥
+-- ---- the places on the way
+abbrev start-of : tie.Else1 → tie.Start
+start-of k = k .before .before .before .before
+
+-- past the first test the slot is in use
+used : (k : tie.Else1) → lowBit (start-of k .args .block .now) (start-of k .args .slot) ≡ 0 → ⊥
 used k z = k .if1 .left (k .before .slot-bit .ensures ∙ z)
 
-entry : (k : tie.Else2) → Formed (k .before .before .before .before .before .before .args .block .now) (k .before .before .before .before .before .before .args .slot) (k .before .get16 .result)
+-- and past the second a well-formed entry starts in it
+abbrev used-of : tie.Else2 → tie.Else1
+used-of k = k .before .before
+
+entry : (k : tie.Else2) → let a = start-of (used-of k) .args in Formed (a .block .now) (a .slot) (k .before .get16 .result)
 unfolding wellFormed
-entry k = record { used = used (k .before .before); sized = k .before .get16 .ensures; fits = not-false _ (k .if2 .left) }
+entry k = record { used = used (used-of k); sized = k .before .get16 .ensures; fits = not-false _ (k .if2 .left) }
+
+-- of the name's hash and length: its bytes were compared
+abbrev hash-of : tie.After-same-at → tie.After-get32
+hash-of k = k .before .before .before
 
 slot-bit-requires : tie.Need-slot-bit-requires
 slot-bit-requires c κs = search needs
@@ -79,11 +91,17 @@ get32-requires-2 c κs = search needs
 
 returns-5 : tie.Need-returns-5
 returns-5 c =
-    sym (slot-match _ (entry (c .before .before .before .before .before .before)) (c .before .before .before .before .before .get32 .ensures) (c .before .before .before .before .if3 .left) (c .before .before .before .if4 .left) (c .before .before .same-at .ensures) (c .before .if5 .taken) (c .get322 .ensures))
+    let k = c .before .before in
+    let h = hash-of k in
+    let own = c .before .if5 .taken in
+    let wide = k .before .if4 .left in
+    sym (slot-match _ (entry (h .before)) (h .get32 .ensures) (k .before .before .if3 .left) wide (k .same-at .ensures) own (c .get322 .ensures))
 
 returns-6 : tie.Need-returns-6
 returns-6 c =
-    sym (other-bytes _ (entry (c .before .before .before .before .before)) (c .before .before .before .before .get32 .ensures) (c .before .before .before .if3 .left) (c .before .before .if4 .left) (c .before .same-at .ensures) (c .if5 .left))
+    let k = c .before in
+    let h = hash-of k in
+    sym (other-bytes _ (entry (h .before)) (h .get32 .ensures) (k .before .before .if3 .left) (k .before .if4 .left) (k .same-at .ensures) (c .if5 .left))
 
 pub slot-at-spec : {M : Type 1} → statement M
 slot-at-spec =

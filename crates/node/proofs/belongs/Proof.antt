@@ -1,5 +1,4 @@
 -- `belongs` meets its contract: four numbers of the block, compared.
-use native.Mathlib.Omega.{arith}
 use Rattle.node.specs.Node.{belongs}
 use borrow.Author.Needs.{needs}
 use Rattle.node.proofs.belongs.Statement.{statement}

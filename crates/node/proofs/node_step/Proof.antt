@@ -176,7 +176,8 @@ returns-5 : tie.Need-returns-5
 returns-5 c =
     let k = c .before in
     let own = block-own _ _ _ _ _ (sym (k .belongs .ensures) ∙ not-false _ (c .if3 .left)) in
-    (reached-done (reached-to (block-read (k .before)) (own ∙ ap (λ (l : List ℕ). done (ok l)) (k .before .block-at .ensures))), in-image (inside-of (read-of (k .before))))
+    let same = ap (λ (l : List ℕ). done (ok l)) (k .before .block-at .ensures) in
+    (reached-done (reached-to (block-read (k .before)) (own ∙ same)), in-image (inside-of (read-of (k .before))))
 
 pub node-step-spec : {M : Type 1} → statement M
 node-step-spec =

@@ -26,7 +26,8 @@ opened-of k = k .before .before
 
 -- ---- what is known there
 tested : (k : tie.After-lent-in-shape) → let s = start-of k in
-    callInShape (s .args .image .now) (s .args .name .now) (lent-of s) ≡ (k .before .before .in-shape .result && k .before .is-name .result && k .lent-in-shape .result)
+    callInShape (s .args .image .now) (s .args .name .now) (lent-of s)
+    ≡ (k .before .before .in-shape .result && k .before .is-name .result && k .lent-in-shape .result)
 unfolding callInShape lentInShape
 tested k = rw (← k .before .before .in-shape .ensures, ← k .before .is-name .ensures, ← k .lent-in-shape .ensures)
 
@@ -52,7 +53,8 @@ returns c =
     let k = c .before .before in
     let s = start-of k in
     let out = tested k ∙ not-true _ (c .before .if1 .taken) in
-    ap (λ (p : Pulled). result p (lent-of s)) (c .refused-pull .ensures) ∙ sym (call-refused (s .args .image .now) (s .args .name .now) (s .args .index) (lent-of s) out)
+    ap (λ (p : Pulled). result p (lent-of s)) (c .refused-pull .ensures)
+    ∙ sym (call-refused (s .args .image .now) (s .args .name .now) (s .args .index) (lent-of s) out)
 
 open-requires : tie.Need-open-requires
 open-requires c κs = search needs
@@ -71,14 +73,15 @@ pull-opened-requires c κs =
     let k = c .before .before .before .before in
     let o = opened-of k in
     let s = begun o in
-    (image-volume _ _ (sym (o .«open» .ensures) ∙ k .v .given .1), lent-shape (s .args .image .now) (s .args .name .now) (s .args .index) (lent-of s) (in-shape o))
+    let opens = sym (o .«open» .ensures) ∙ k .v .given .1 in
+    (image-volume _ _ opens, lent-shape (s .args .image .now) (s .args .name .now) (s .args .index) (lent-of s) (in-shape o))
 
 returns-2 : tie.Need-returns-2
 returns-2 c =
     let k = c .before .before in
     let o = k .before .before in
     let s = begun o in
-    let opens = sym (o .«open» .ensures) ∙ k .answer .given .1 in
+    let opens = sym (o .«open» .ensures) ∙ k .number .given .1 in
     ap (λ (p : Pulled). result p (lent-of s)) (c .refused-pull2 .ensures)
     ∙ sym (call-opens (s .args .image .now) (s .args .name .now) (s .args .index) (lent-of s) _ (in-shape o) opens)
 

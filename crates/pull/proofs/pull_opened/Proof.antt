@@ -55,7 +55,8 @@ returns c =
     let l = listed-of k in
     let node-bytes = l .before .before .before .slice-known4 .given in
     let block-bytes = l .before .slice-known5 .given in
-    pull-written _ _ _ _ _ (start-of l .pre .1) (walked-of l .walk-to .ensures .0) (λ k. node-bytes k .fits) (λ k. block-bytes k .fits) (put .0) (put .1) (put .2)
+    pull-written _ _ _ _ _ (start-of l .pre .1) (walked-of l .walk-to .ensures .0)
+    (λ k. node-bytes k .fits) (λ k. block-bytes k .fits) (put .0) (put .1) (put .2)
 
 pub pull-opened-spec : {M : Type 1} → statement M
 pull-opened-spec =
