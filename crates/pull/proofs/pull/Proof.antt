@@ -59,8 +59,8 @@ returns c =
 open-requires : tie.Need-open-requires
 open-requires c κs = search needs
 
-enum-known-answer : tie.Need-enum-known-answer
-enum-known-answer c = search needs
+enum-known-number : tie.Need-enum-known-number
+enum-known-number c = search needs
 
 refused-pull-requires-2 : tie.Need-refused-pull-requires-2
 refused-pull-requires-2 c κs = search needs
@@ -113,7 +113,7 @@ pull-spec =
     refused-pull-requires
     returns
     open-requires
-    enum-known-answer
+    enum-known-number
     refused-pull-requires-2
     enum-known-v
     pull-opened-requires
