@@ -166,6 +166,5 @@ bool is_block(uint32_t answer)
 
 uint32_t list_number(const uint8_t *list, uint32_t i)
 {
-    const uint8_t *bytes = list + 4 * (size_t)i;
-    return (uint32_t)bytes[0] | (uint32_t)bytes[1] << 8 | (uint32_t)bytes[2] << 16 | (uint32_t)bytes[3] << 24;
+    return harptimber_list_entry(list, i);
 }

@@ -5,30 +5,9 @@
 
 #include "text.h"
 
-enum { FEWEST_CARD_BLOCKS = 2, MOST_CARD_BLOCKS = 262144, MOST_NAME_BYTES = 255 };
-
 const char *meaning_of(uint32_t answer)
 {
-    static const char *const meanings[] = {
-        [HARPTIMBER_DATA] = "data",
-        [HARPTIMBER_HOLE] = "hole: zeros",
-        [HARPTIMBER_NO_NAME] = "no such name in the root directory",
-        [HARPTIMBER_PAST_END] = "past the end of the file",
-        [HARPTIMBER_OUT_OF_SHAPE] = "out of shape: the image's length, the name or A",
-        [HARPTIMBER_NO_SUPERBLOCK] = "neither copy of the superblock passes",
-        [HARPTIMBER_FEATURES] = "the card has features or a payload, which aren't read",
-        [HARPTIMBER_NO_CHECKPOINT] = "neither checkpoint pack passes",
-        [HARPTIMBER_UNREADABLE] = "the checkpoint pack in use has its maps or journal out of place",
-        [HARPTIMBER_NO_NODE] = "a node number out of range or not in use",
-        [HARPTIMBER_NODE_OUTSIDE] = "a node's address lies outside the main area",
-        [HARPTIMBER_FOREIGN_NODE] = "a node block belongs elsewhere",
-        [HARPTIMBER_KIND_NOT_READ] = "an inode of a kind that isn't read: no regular file, or inline",
-        [HARPTIMBER_DATA_OUTSIDE] = "a data address lies outside the main area",
-        [HARPTIMBER_MALFORMED_SLOT] = "a directory entry doesn't fit its block",
-        [HARPTIMBER_SAME] = "same",
-        [HARPTIMBER_CHANGED] = "changed",
-    };
-    return answer < sizeof meanings / sizeof *meanings ? meanings[answer] : "unknown";
+    return harptimber_answer_words(answer);
 }
 
 const char *lookup_meaning_of(uint32_t answer)
@@ -48,7 +27,8 @@ const char *lookup_meaning_of(uint32_t answer)
 bool length_is_in_shape(const struct card *card)
 {
     size_t blocks = card->len / BLOCK_SIZE;
-    return card->len % BLOCK_SIZE == 0 && blocks >= FEWEST_CARD_BLOCKS && blocks <= MOST_CARD_BLOCKS;
+    return card->len % BLOCK_SIZE == 0 && blocks >= HARPTIMBER_CARD_BLOCKS_LEAST &&
+           blocks <= HARPTIMBER_CARD_BLOCKS_MOST;
 }
 
 static void show_bad_length(FILE *out, const struct card *card)
@@ -60,7 +40,7 @@ static void show_bad_length(FILE *out, const struct card *card)
         fputs(", which isn't a whole number of 4,096-byte blocks", out);
     } else {
         show_count(out, blocks, "block");
-        fputs(blocks < FEWEST_CARD_BLOCKS ? "; a card has at least 2" : "; at most 262,144 are read", out);
+        fputs(blocks < HARPTIMBER_CARD_BLOCKS_LEAST ? "; a card has at least 2" : "; at most 262,144 are read", out);
     }
 }
 
@@ -73,7 +53,7 @@ static void show_out_of_shape(FILE *out, const struct card *card, const char *na
         fputs("A has to be 873 or 923", out);
     else if (*name == '\0')
         fputs("the name is empty", out);
-    else if (strlen(name) > MOST_NAME_BYTES)
+    else if (strlen(name) > HARPTIMBER_NAME_BYTES_MOST)
         fprintf(out, "the name has %zu bytes; at most 255 are possible", strlen(name));
     else
         fprintf(out, "the name has a slash%s", card == NULL ? "" : "; only the root directory is read");

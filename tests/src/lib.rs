@@ -27,6 +27,7 @@ pub mod random_card;
 pub mod random_files;
 pub mod running;
 pub mod scene;
+pub mod sizes;
 pub mod tree;
 pub mod trial;
 pub mod walk_damage;

@@ -134,6 +134,16 @@ impl Tight {
         }
     }
 
+    /// A pull that reads no block: the root's number isn't in use.
+    fn no_blocks(&mut self, script: &mut Script) {
+        let sound = self.card.image.clone();
+        self.card.set_entry(ROOT, ROOT, 0);
+        let (_, blocks) = lists(&Call::new(&self.card.image, NAME, 0));
+        assert!(blocks.is_empty(), "{blocks:?}");
+        assert_eq!(script.pull(&sound, &self.card.image, NAME, 0), 9);
+        self.card.image.undo(0);
+    }
+
     /// Entries in the last slots of a directory block at the image's end, that fit and that don't.
     fn slots(&mut self, script: &mut Script) {
         let sound = self.card.image.clone();
@@ -194,6 +204,7 @@ fn tight_card(script: &mut Script) {
     let mut tight = Tight::new();
     tight.pulls(script);
     tight.slots(script);
+    tight.no_blocks(script);
     tight.ends(script);
 }
 

@@ -6,7 +6,7 @@ use std::sync::Arc;
 
 use harptimber_tests::image::Image;
 use harptimber_tests::json::Json;
-use harptimber_tests::knobs::{Knobs, MOST_BLOCKS};
+use harptimber_tests::knobs::Knobs;
 use harptimber_tests::layout::checkpoint::{CHECKSUM, CKPT_FLAGS, CP_LARGE_NAT_BITMAP_FLAG};
 use harptimber_tests::layout::journal::N_NATS;
 use harptimber_tests::layout::superblock::{
@@ -17,6 +17,7 @@ use harptimber_tests::on_disk::{OnDisk, Shared};
 use harptimber_tests::program::{run, Words};
 use harptimber_tests::program_page::{expect_head, expect_name, meaning};
 use harptimber_tests::published::{formatted, Scratch};
+use harptimber_tests::sizes::CARD_BLOCKS_MOST;
 
 const NAME: &[u8] = b"road.bin";
 
@@ -74,7 +75,7 @@ impl Images {
     fn add_lengths(&mut self) {
         let block = BLOCK_SIZE as u64;
         let whole = sound().bytes().len() as u64;
-        let most = u64::from(MOST_BLOCKS) * block;
+        let most = u64::from(CARD_BLOCKS_MOST) * block;
         for len in [1, 2 * block - 1, whole - 1, whole + 1, most + 1] {
             let bytes = if len == 1 { "byte" } else { "bytes" };
             let not_whole = "which isn't a whole number of 4,096-byte blocks";
