@@ -13,6 +13,7 @@
 
 #include "request.h"
 #include "text.h"
+#include "whole.h"
 
 /* The cards that are mapped now; compare has two. */
 static const struct card *mapped[2];
@@ -33,6 +34,7 @@ static void on_bus_error(int number, siginfo_t *info, void *context)
             message = mapped[i]->lost;
     ssize_t written = write(STDERR_FILENO, message, strlen(message));
     (void)written;
+    whole_drop_at_once();
     _exit(REFUSED);
 }
 

@@ -72,6 +72,12 @@ static bool copy(struct cat *cat)
     return nothing || write_piece(cat);
 }
 
+/* Whether there is something for whoever reads the output: of a file, all or nothing. */
+static bool has_written(const struct cat *cat)
+{
+    return cat->output_is_open && (cat->answer == HARPTIMBER_PAST_END || !cat->output.waits);
+}
+
 static void show_words(const struct cat *cat)
 {
     if (cat->answer == HARPTIMBER_PAST_END)
@@ -80,7 +86,10 @@ static void show_words(const struct cat *cat)
     show(stderr, cat->name);
     fprintf(stderr, ", block %" PRIu32 ": ", cat->blocks);
     show_answer(stderr, cat->answer, meaning_of(cat->answer), &cat->card, cat->name);
-    fprintf(stderr, "; %" PRIu64 " bytes were written\n", cat->bytes);
+    if (has_written(cat))
+        fprintf(stderr, "; %" PRIu64 " bytes were written\n", cat->bytes);
+    else
+        fputs("; nothing was written\n", stderr);
 }
 
 static void show_json(const struct cat *cat)
@@ -92,21 +101,31 @@ static void show_json(const struct cat *cat)
     json_string(&json, "image", cat->card.path);
     json_name(&json, cat->name);
     json_string(&json, "output", cat->request->output);
-    json_number(&json, "bytes", cat->bytes);
-    json_number(&json, "blocks", cat->blocks);
-    json_number(&json, "holes", cat->holes);
+    bool written = has_written(cat);
+    json_number(&json, "bytes", written ? cat->bytes : 0);
+    json_number(&json, "blocks", written ? cat->blocks : 0);
+    json_number(&json, "holes", written ? cat->holes : 0);
     if (!whole)
         json_number(&json, "index", cat->blocks);
     json_end(&json);
+}
+
+/* Ends the output, which is whole if the file was read to its end. Returns false if there is no more to say. */
+static bool end_output(struct cat *cat, bool written)
+{
+    bool settled = written && card_is_settled(&cat->card);
+    if (settled && cat->output_is_open && cat->answer == HARPTIMBER_PAST_END)
+        return output_close(&cat->output);
+    if (cat->output_is_open)
+        output_drop(&cat->output);
+    return settled;
 }
 
 static enum status cat_and_tell(struct cat *cat)
 {
     bool written = copy(cat);
     progress_end(&cat->progress);
-    if (cat->output_is_open)
-        written = output_close(&cat->output) && written;
-    if (!written || !card_is_settled(&cat->card))
+    if (!end_output(cat, written))
         return REFUSED;
     (cat->request->json ? show_json : show_words)(cat);
     return cat->answer == HARPTIMBER_PAST_END ? DONE : REFUSED;

@@ -24,8 +24,10 @@ static bool write_block(const struct pull *pull, const char *word)
     struct output output;
     if (!output_open(&output, word, pull->card))
         return false;
-    bool written = output_write(&output, pull->block, pull->pulled.byte_count);
-    return output_close(&output) && written;
+    if (output_write(&output, pull->block, pull->pulled.byte_count))
+        return output_close(&output);
+    output_drop(&output);
+    return false;
 }
 
 static void show_list(FILE *out, const char *what, const uint8_t *list, uint32_t count)
