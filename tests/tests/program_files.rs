@@ -2,9 +2,8 @@
 
 use std::fs::{self, File};
 use std::os::unix::ffi::OsStrExt;
-use std::os::unix::fs::{MetadataExt, PermissionsExt};
+use std::os::unix::fs::PermissionsExt;
 use std::path::Path;
-use std::process::{Command, Stdio};
 
 use harptimber_tests::held::make_fifo;
 use harptimber_tests::program::*;
@@ -72,20 +71,6 @@ fn devices() {
     for device in ["/dev/null", "/dev/zero", "/dev/full"] {
         expect_unreadable(Path::new(device), NO_IMAGE, run);
     }
-}
-
-/// As somebody who may not read what isn't theirs to read, as root may.
-fn run_without_privilege(words: Words) -> Ran {
-    let command = command(words);
-    if fs::metadata("/proc/self").unwrap().uid() != 0 {
-        return run(words);
-    }
-    let mut without = Command::new("setpriv");
-    let none = "-dac_override,-dac_read_search";
-    without.arg(format!("--bounding-set={none}"));
-    without.arg(format!("--inh-caps={none}"));
-    without.arg(command.get_program()).args(command.get_args());
-    ran(&mut without, Stdio::piped())
 }
 
 #[test]
