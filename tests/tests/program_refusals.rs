@@ -193,7 +193,7 @@ fn in_words() {
             let meaning = meaning.split(": ").next().unwrap();
             let part = format!(": {meaning} (answer {answer}){why}");
             let behind = text.split_once(&part).map(|(_, behind)| behind);
-            let ends = ["\n", "; 0 bytes were written\n"].map(Some);
+            let ends = ["\n", "; nothing was written\n"].map(Some);
             assert!(ends.contains(&behind), "no '{part}' in {ran:?}");
         }
     }
