@@ -7,58 +7,32 @@
 #include <string.h>
 #include <unistd.h>
 
-#include "request.h"
+#include "commands.h"
+#include "help.h"
 #include "text.h"
 
-static const char help[] =
-    "Usage: harptimber pull [--lists] [-o FILE] [--json] IMAGE NAME INDEX\n"
-    "       harptimber cat [-o FILE] [--json] IMAGE NAME\n"
-    "       harptimber compare [--json] KEPT NEW NAME [INDEX]\n"
-    "       harptimber node [--json] IMAGE NUMBER\n"
-    "       harptimber place [--json] A INDEX\n"
-    "       harptimber hash [--json] NAME\n"
-    "Read blocks of an F2FS card image, and say whether another still gives the same.\n"
-    "\n"
-    "  pull     one block of a file in the root directory; on a terminal its bytes too\n"
-    "  cat      a whole file, to standard output\n"
-    "  compare  whether a block, or all blocks, read from KEPT are still good on NEW\n"
-    "  node     a node's entry in the node address table\n"
-    "  place    the way from an inode with A addresses to the address of a block\n"
-    "  hash     the hash of a name in directory entries\n"
-    "\n"
-    "  -o, --output=FILE  write the bytes to FILE; - is standard output\n"
-    "      --lists        print the nodes and blocks that the answer rested on\n"
-    "      --json         print one JSON object\n"
-    "  -h, --help         print this summary\n"
-    "      --version      print the version\n"
-    "\n"
-    "Exit status: 0 read or still good, 1 changed, 2 refused, 3 usage.\n";
-
-static const struct command {
-    const char *name;
-    const char *words; /* what follows the command */
-    int fewest, most;  /* of them */
-    bool takes_output, takes_lists;
-    enum status (*run)(const struct request *request);
-} commands[] = {
-    {"pull", "IMAGE NAME INDEX", 3, 3, true, true, run_pull},
-    {"cat", "IMAGE NAME", 2, 2, true, false, run_cat},
-    {"compare", "KEPT NEW NAME [INDEX]", 3, 4, false, false, run_compare},
-    {"node", "IMAGE NUMBER", 2, 2, false, false, run_node},
-    {"place", "A INDEX", 2, 2, false, false, run_place},
-    {"hash", "NAME", 1, 1, false, false, run_hash},
+/* What was given on the command line. */
+struct given {
+    struct request request;
+    unsigned options; /* bits of 1 << OUTPUT and so on */
+    bool help, version;
 };
 
-static const struct command *find_command(const char *name)
+/* Says which option the command doesn't take, if there is one. */
+static bool takes_all(const struct command *command, unsigned given)
 {
-    for (size_t i = 0; i < sizeof commands / sizeof *commands; i++)
-        if (strcmp(commands[i].name, name) == 0)
-            return &commands[i];
-    return NULL;
+    char word[32];
+    for (unsigned i = 0; i < OPTION_COUNT; i++)
+        if (((given & ~command->takes) >> i & 1) != 0) {
+            complain(command->name, "takes no %s", option_word(&options[i], word, sizeof word));
+            return false;
+        }
+    return true;
 }
 
-static enum status run(const struct request *request)
+static enum status run(const struct given *given)
 {
+    const struct request *request = &given->request;
     const struct command *command = request->command == NULL ? NULL : find_command(request->command);
     if (request->command == NULL)
         fputs("harptimber: a command is missing\n", stderr);
@@ -66,78 +40,113 @@ static enum status run(const struct request *request)
         complain(request->command, "no such command");
     else if (request->word_count < command->fewest || request->word_count > command->most)
         complain(command->name, "takes %s", command->words);
-    else if (request->output != NULL && !command->takes_output)
-        complain(command->name, "takes no -o");
-    else if (request->lists && !command->takes_lists)
-        complain(command->name, "takes no --lists");
-    else
+    else if (takes_all(command, given->options))
         return command->run(request);
     return misused();
 }
 
-/* The command is the first word. Words past the most that any command takes are only counted. */
-static void add_word(struct request *request, const char *word)
+/* A page, or the version; a command that there isn't is misuse all the same. */
+static enum status inform(const struct given *given)
 {
-    if (request->command == NULL)
-        request->command = word;
-    else if (request->word_count++ < MOST_WORDS)
-        request->words[request->word_count - 1] = word;
+    const char *name = given->request.command;
+    const struct command *command = name == NULL ? NULL : find_command(name);
+    if (name != NULL && command == NULL)
+        return run(given);
+    if (given->version)
+        puts("harptimber " HARPTIMBER_VERSION);
+    else if (command != NULL)
+        show_page(stdout, command);
+    else
+        show_overview(stdout);
+    return DONE;
 }
 
-/* Long options without a letter are numbered past all letters. */
-enum { WORD = 1, LISTS = 256, JSON, HELP, VERSION };
+/* What getopt_long returns: long options are numbered past all letters. */
+enum { WORD = 1, HELP = UCHAR_MAX + 1, VERSION, FIRST_OPTION };
 
-/* What getopt_long didn't take: `argument` is where it stopped. */
+/* What getopt_long is told, from the table of options. The '-' makes it find them wherever they stand. */
+static void describe(struct option *longs, char *letters)
+{
+    letters += sprintf(letters, "-:h");
+    *longs++ = (struct option){"help", no_argument, NULL, HELP};
+    *longs++ = (struct option){"version", no_argument, NULL, VERSION};
+    for (int i = 0; i < OPTION_COUNT; i++) {
+        bool valued = options[i].value != NULL;
+        *longs++ = (struct option){options[i].name, valued ? required_argument : no_argument, NULL, FIRST_OPTION + i};
+        if (options[i].letter != 0)
+            letters += sprintf(letters, "%c%s", options[i].letter, valued ? ":" : "");
+    }
+    *longs = (struct option){NULL, 0, NULL, 0};
+}
+
+/* Which option of the table it is that getopt_long returned, or complains of; OPTION_COUNT if none. */
+static int option_of(int got)
+{
+    if (got >= FIRST_OPTION)
+        return got - FIRST_OPTION;
+    int i = 0;
+    while (i < OPTION_COUNT && (options[i].letter == 0 || options[i].letter != got))
+        i++;
+    return i;
+}
+
+static void take_option(struct given *given, int i)
+{
+    char *field = (char *)&given->request + options[i].field;
+    given->options |= 1U << i;
+    if (options[i].value == NULL)
+        *(bool *)field = true;
+    else
+        *(const char **)field = optarg;
+}
+
+/* What getopt_long didn't take, and where it stands. */
 static enum status misused_option(int got, const char *argument)
 {
-    const char letter[] = {'-', (char)optopt, '\0'};
     if (got == ':')
-        complain(letter, "needs a FILE");
+        complain(argument, "needs a %s", options[option_of(optopt)].value);
     else if (optopt > UCHAR_MAX)
         complain(argument, "takes no value");
     else
-        complain(optopt == 0 ? argument : letter, "no such option");
+        complain(argument, "no such option; before a name or number that starts with a dash, put --");
     return misused();
 }
 
-/* Reads the command line and runs it. The '-' makes getopt_long find options wherever they stand. */
+/* The command is the first word. The others take places of words that were read already. */
+static void add_word(struct request *request, char **words, char *word)
+{
+    if (request->command == NULL)
+        request->command = word;
+    else
+        words[request->word_count++] = word;
+}
+
+/* Reads the command line and runs it. */
 static enum status run_arguments(int argc, char **argv)
 {
-    static const struct option options[] = {
-        {"output", required_argument, NULL, 'o'}, {"lists", no_argument, NULL, LISTS},
-        {"json", no_argument, NULL, JSON},        {"help", no_argument, NULL, HELP},
-        {"version", no_argument, NULL, VERSION},  {NULL, 0, NULL, 0},
-    };
-    struct request request = {.command = NULL};
-    int got;
-    while ((got = getopt_long(argc, argv, "-:o:h", options, NULL)) != -1) {
-        switch (got) {
-        case WORD:
-            add_word(&request, optarg);
+    struct given given = {.request.words = argv};
+    struct option longs[OPTION_COUNT + 3];
+    char letters[2 * OPTION_COUNT + 4];
+    describe(longs, letters);
+    for (;;) {
+        int at = optind; /* within letters behind one dash it stays */
+        int got = getopt_long(argc, argv, letters, longs, NULL);
+        if (got == -1)
             break;
-        case 'o':
-            request.output = optarg;
-            break;
-        case LISTS:
-            request.lists = true;
-            break;
-        case JSON:
-            request.json = true;
-            break;
-        case 'h':
-        case HELP:
-            fputs(help, stdout);
-            return DONE;
-        case VERSION:
-            puts("harptimber " HARPTIMBER_VERSION);
-            return DONE;
-        default:
-            return misused_option(got, argv[optind - 1]);
-        }
+        if (got == WORD)
+            add_word(&given.request, argv, optarg);
+        else if (got == HELP || (got == 'h' && strcmp(argv[at], "-h") == 0))
+            given.help = true;
+        else if (got == VERSION)
+            given.version = true;
+        else if (got != '?' && got != ':' && option_of(got) != OPTION_COUNT)
+            take_option(&given, option_of(got));
+        else
+            return misused_option(got, argv[at]);
     }
     for (; optind < argc; optind++)
-        add_word(&request, argv[optind]);
-    return run(&request);
+        add_word(&given.request, argv, argv[optind]);
+    return given.help || given.version ? inform(&given) : run(&given);
 }
 
 /*
@@ -155,7 +164,7 @@ int main(int argc, char **argv)
 {
     take_standard_files();
     if (argc < 2) {
-        fputs(help, stderr);
+        show_overview(stderr);
         return MISUSED;
     }
     enum status status = run_arguments(argc, argv);

@@ -8,11 +8,9 @@
 /* What the program ends with; the man page promises these. */
 enum status { DONE = 0, CHANGED = 1, REFUSED = 2, MISUSED = 3 };
 
-enum { MOST_WORDS = 4 };
-
 struct request {
     const char *command;
-    const char *words[MOST_WORDS]; /* behind the command, options left out */
+    char *const *words; /* behind the command, options left out */
     int word_count;
     const char *output; /* -o's FILE, or null */
     bool lists, json;

@@ -3,7 +3,7 @@
 use std::process::{Command, Stdio};
 
 use harptimber_tests::json::Json;
-use harptimber_tests::program::{host, ran, run, Word};
+use harptimber_tests::program::{host, ran, run, Word, Words};
 use harptimber_tests::program_page::{expect_keys_on_page, meaning};
 
 /// Each command with as many words as it needs. The files aren't there: usage comes first.
@@ -179,6 +179,66 @@ fn help() {
             assert!(ran.words().contains(option), "no {option} in {ran:?}");
         }
     }
+}
+
+/// The options of each command's own page, beside --help.
+const PAGES: [(&str, &[&str]); 6] = [
+    ("pull", &["-o", "--lists", "--json"]),
+    ("cat", &["-o", "--json"]),
+    ("compare", &["--json"]),
+    ("node", &["--json"]),
+    ("place", &["--json"]),
+    ("hash", &["--json"]),
+];
+
+/// With or without the command's words, and wherever `--help` stands.
+#[test]
+fn own_pages() {
+    for (command, taken) in PAGES {
+        let page = run(&[&command, &"--help"]).expect(0);
+        assert_eq!(page.err, "");
+        let usage = format!("Usage: harptimber {command} ");
+        assert!(page.words().starts_with(&usage), "of {page:?}");
+        assert!(page.words().contains("\nExit status:\n"), "of {page:?}");
+        for option in ["-o", "--lists", "--json"] {
+            let takes = taken.contains(&option);
+            let usage = page.words().lines().next().unwrap();
+            assert_eq!(usage.contains(&format!("[{option}")), takes, "{page:?}");
+            let described = |line: &str| line.split([' ', ',', '=']).any(|word| word == option);
+            let described = page.words().lines().skip(1).any(described);
+            assert!(described || !takes, "no {option} in {page:?}");
+        }
+        let lines: [Words; 3] = [
+            &[&"-h", &command],
+            &[&"--help", &command],
+            &[&command, &"x", &"-h"],
+        ];
+        for line in lines {
+            assert_eq!(run(line).expect(0).words(), page.words());
+        }
+    }
+    expect_usage(&["push", "--help"]);
+}
+
+/// A name or a number that looks like an option: the message says what to do.
+#[test]
+fn dashes() {
+    for wrong in ["-1", "-dash", "-home", "-hh", "--dash"] {
+        let lines: [&[&str]; 3] = [
+            &["pull", "card.img", "road.bin", wrong],
+            &["pull", "card.img", wrong, "0"],
+            &["hash", wrong],
+        ];
+        for line in lines {
+            let words: Vec<&dyn Word> = line.iter().map(|word| word as &dyn Word).collect();
+            let ran = run(&words).expect(3);
+            let start = format!("harptimber: {wrong}: no such option; ");
+            assert!(ran.err.starts_with(&start), "of {ran:?}");
+            let message = ran.err.lines().next().unwrap();
+            assert!(message.ends_with(" put --"), "of {ran:?}");
+        }
+    }
+    assert_eq!(json(&["hash", "--json", "--", "-1"])["name"].text(), "-1");
 }
 
 #[test]

@@ -1,0 +1,77 @@
+#include "commands.h"
+
+#include <stdio.h>
+#include <string.h>
+
+#define FIELD(name) offsetof(struct request, name)
+
+const struct program_option options[OPTION_COUNT] = {
+    [OUTPUT] = {'o', "output", "FILE", "write the bytes to FILE; - is standard output", FIELD(output)},
+    [LISTS] = {0, "lists", NULL, "print the nodes and blocks that the answer rested on", FIELD(lists)},
+    [JSON] = {0, "json", NULL, "print one JSON object", FIELD(json)},
+};
+
+#define TAKES(option) (1U << (option))
+
+const struct command commands[] = {
+    {"pull", "IMAGE NAME INDEX", 3, 3, TAKES(OUTPUT) | TAKES(LISTS) | TAKES(JSON),
+     "one block of a file in the root directory",
+     "Pull block INDEX of the file NAME from the card IMAGE. Blocks have 4,096 bytes, and a file's\n"
+     "first is block 0. The answer is told in words; on a terminal the block's bytes follow.\n",
+     "  0  data or a hole\n"
+     "  2  there is no such block, or the card can't be read\n",
+     run_pull},
+    {"cat", "IMAGE NAME", 2, 2, TAKES(OUTPUT) | TAKES(JSON),
+     "a whole file, to standard output",
+     "Write the file NAME of the card IMAGE to standard output. Holes are zeros. With --json, -o is\n"
+     "needed too.\n",
+     "  0  the whole file was written\n"
+     "  2  a block was refused; the message says how much was written\n",
+     run_cat},
+    {"compare", "KEPT NEW NAME [INDEX]", 3, 4, TAKES(JSON),
+     "whether a block, or all blocks, read from KEPT are still good on NEW",
+     "Say whether block INDEX of the file NAME, or without it every block, read from the card KEPT is\n"
+     "still good on the card NEW, and if not, what changed.\n",
+     "  0  still good\n"
+     "  1  something that the answer rested on has changed\n"
+     "  2  KEPT has no such block, or a card can't be read\n",
+     run_compare},
+    {"node", "IMAGE NUMBER", 2, 2, TAKES(JSON),
+     "a node's entry in the node address table",
+     "Say what the node address table of the card IMAGE, with its journal, has for node NUMBER.\n",
+     "  0  an entry, in use or not\n"
+     "  2  the number is out of range, or the card can't be read\n",
+     run_node},
+    {"place", "A INDEX", 2, 2, TAKES(JSON),
+     "the way from an inode with A addresses to the address of a block",
+     "Say which nodes lead from an inode that holds A addresses, 873 or 923, to the address of block\n"
+     "INDEX, and which slot is taken in each.\n",
+     "  0  a way\n"
+     "  2  no file has such a block, or A is neither\n",
+     run_place},
+    {"hash", "NAME", 1, 1, TAKES(JSON),
+     "the hash of a name in directory entries",
+     "Print the hash of a name, as directory entries store it.\n",
+     "  0  a hash\n"
+     "  2  no file can have that name\n",
+     run_hash},
+};
+
+const size_t command_count = sizeof commands / sizeof *commands;
+
+const struct command *find_command(const char *name)
+{
+    for (size_t i = 0; i < command_count; i++)
+        if (strcmp(commands[i].name, name) == 0)
+            return &commands[i];
+    return NULL;
+}
+
+const char *option_word(const struct program_option *option, char *room, size_t len)
+{
+    if (option->letter != 0)
+        snprintf(room, len, "-%c", option->letter);
+    else
+        snprintf(room, len, "--%s", option->name);
+    return room;
+}

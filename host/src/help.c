@@ -1,0 +1,54 @@
+#include "help.h"
+
+enum { COMMAND_WIDTH = 29, OPTION_WIDTH = 20, ROOM = 64 };
+
+/* A line on an option: '  -o, --output=FILE  TEXT'. */
+static void show_option(FILE *out, char letter, const char *name, const char *value, const char *text)
+{
+    char letters[ROOM] = "", names[ROOM];
+    if (letter != 0)
+        snprintf(letters, sizeof letters, "-%c, ", letter);
+    snprintf(names, sizeof names, "--%s%s%s", name, value == NULL ? "" : "=", value == NULL ? "" : value);
+    fprintf(out, "  %4s%-*s  %s\n", letters, OPTION_WIDTH, names, text);
+}
+
+/* Those of these bits, and what every command takes. */
+static void show_options(FILE *out, unsigned taken)
+{
+    for (unsigned i = 0; i < OPTION_COUNT; i++)
+        if ((taken >> i & 1) != 0)
+            show_option(out, options[i].letter, options[i].name, options[i].value, options[i].text);
+    show_option(out, 'h', "help", NULL, "print this page");
+}
+
+void show_overview(FILE *out)
+{
+    fputs("Usage: harptimber COMMAND [OPTION].. WORD..\n"
+          "Read blocks of an F2FS card image, and say whether another still gives the same.\n\n", out);
+    for (size_t i = 0; i < command_count; i++) {
+        char line[ROOM];
+        snprintf(line, sizeof line, "%s %s", commands[i].name, commands[i].words);
+        fprintf(out, "  %-*s  %s\n", COMMAND_WIDTH, line, commands[i].summary);
+    }
+    fputs("\nOptions, of which each command takes some:\n", out);
+    show_options(out, ~0U);
+    show_option(out, 0, "version", NULL, "print the version");
+    fputs("Options may stand anywhere; behind -- every word is a name or a number.\n\n"
+          "'harptimber COMMAND --help' is that command's own page.\n\n"
+          "Exit status: 0 read or still good, 1 changed, 2 refused, 3 usage.\n", out);
+}
+
+void show_page(FILE *out, const struct command *command)
+{
+    fprintf(out, "Usage: harptimber %s", command->name);
+    for (unsigned i = 0; i < OPTION_COUNT; i++) {
+        char word[ROOM];
+        const char *value = options[i].value;
+        if ((command->takes >> i & 1) != 0)
+            fprintf(out, " [%s%s%s]", option_word(&options[i], word, sizeof word), value == NULL ? "" : " ",
+                    value == NULL ? "" : value);
+    }
+    fprintf(out, " %s\n%s\n", command->words, command->text);
+    show_options(out, command->takes);
+    fprintf(out, "\nExit status:\n%s  3  usage\n", command->statuses);
+}
