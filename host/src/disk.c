@@ -112,3 +112,34 @@ void disk_bit_names(char *text, size_t room, const char *const names[], uint32_t
             space = " ";
         }
 }
+
+/* Writes a character in UTF-8, and returns what follows it. */
+static char *put_utf8(char *text, uint32_t character)
+{
+    if (character < 0x80) {
+        *text++ = (char)character;
+        return text;
+    }
+    int more = character < 0x800 ? 1 : character < 0x10000 ? 2 : 3;
+    static const uint8_t leads[] = {0, 0xC0, 0xE0, 0xF0};
+    *text++ = (char)(leads[more] | character >> 6 * more);
+    while (more-- > 0)
+        *text++ = (char)(0x80 | (character >> 6 * more & 0x3F));
+    return text;
+}
+
+void disk_label(const uint8_t *superblock, char label[DISK_LABEL_ROOM])
+{
+    const uint8_t *units = superblock + 124;
+    for (int i = 0; i < DISK_LABEL_UNITS && disk16(units + 2 * i) != 0; i++) {
+        uint32_t unit = disk16(units + 2 * i);
+        uint32_t next = i + 1 < DISK_LABEL_UNITS ? disk16(units + 2 * i + 2) : 0;
+        bool pair = unit >= 0xD800 && unit < 0xDC00 && next >= 0xDC00 && next < 0xE000;
+        if (pair) {
+            unit = 0x10000 + ((unit - 0xD800) << 10) + (next - 0xDC00);
+            i++;
+        }
+        label = put_utf8(label, unit >= 0xD800 && unit < 0xE000 ? 0xFFFD : unit);
+    }
+    *label = '\0';
+}

@@ -80,7 +80,11 @@ const char *disk_bit_name(const char *const names[], int bit, char room[DISK_BIT
 void disk_bit_names(char *text, size_t room, const char *const names[], uint32_t word);
 
 /* Where a superblock has them. */
-enum { DISK_LABEL_AT = 124, DISK_PAYLOAD_AT = 1664, DISK_FEATURES_AT = 2180 };
+enum { DISK_BLOCK_COUNT_AT = 36, DISK_PAYLOAD_AT = 1664, DISK_FEATURES_AT = 2180 };
+
+/* A superblock's volume name, in UTF-8; what isn't UTF-16 there becomes U+FFFD. */
+enum { DISK_LABEL_UNITS = 512, DISK_LABEL_ROOM = 3 * DISK_LABEL_UNITS + 1 };
+void disk_label(const uint8_t *superblock, char label[DISK_LABEL_ROOM]);
 
 enum { DISK_UNMOUNT = 0x1, DISK_COMPACT = 0x4, DISK_FASTBOOT = 0x20, DISK_LARGE_NAT_MAP = 0x400 };
 

@@ -38,6 +38,7 @@ static void node_words(const struct card *card, uint32_t number, struct harptimb
 static void node_json(const struct card *card, uint32_t number, struct harptimber_entry entry)
 {
     struct json json = begin("node", entry.answer);
+    json_reason(&json, entry.answer, card, NULL);
     json_string(&json, "image", card->path);
     json_number(&json, "number", number);
     json_number(&json, "inode", entry.inode);
@@ -51,10 +52,11 @@ enum status run_node(const struct request *request)
     uint32_t number;
     if (!read_number(request->words[1], "NUMBER", &number))
         return MISUSED;
-    if (!card_open(&card, request->words[0]))
-        return REFUSED;
+    enum status status = card_open(&card, request, request->words[0]);
+    if (status != DONE)
+        return status;
     struct harptimber_entry entry = harptimber_node_lookup(card.bytes, card.len, number);
-    enum status status = REFUSED;
+    status = REFUSED;
     if (card_is_settled(&card)) {
         (request->json ? node_json : node_words)(&card, number, entry);
         status = status_of(entry.answer);
@@ -93,6 +95,7 @@ static void place_words(uint32_t addresses, uint32_t index, const struct harptim
 static void place_json(uint32_t addresses, uint32_t index, const struct harptimber_place *place)
 {
     struct json json = begin("place", place->answer);
+    json_reason(&json, place->answer, NULL, NULL);
     json_number(&json, "addresses", addresses);
     json_number(&json, "index", index);
     json_open(&json, "way", '[');
@@ -132,6 +135,7 @@ static void hash_json(const char *name, struct harptimber_hashed hashed)
     char hex[9];
     snprintf(hex, sizeof hex, "%08" PRIx32, hashed.hash);
     struct json json = begin("hash", hashed.answer);
+    json_reason(&json, hashed.answer, NULL, name);
     json_name(&json, name);
     json_number(&json, "hash", hashed.hash);
     json_string(&json, "hash_hex", hex);

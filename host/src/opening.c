@@ -93,8 +93,8 @@ static void read_copy(struct opening_copy *copy, const struct card *card, uint32
 {
     const uint8_t *bytes = disk_superblock(card, number);
     uint64_t blocks = card->len / BLOCK_SIZE;
-    *copy->why = '\0';
-    if (bytes == NULL || disk32(bytes) != DISK_MARK)
+    copy->marked = bytes != NULL && disk32(bytes) == DISK_MARK;
+    if (!copy->marked)
         copy->passes = because(copy->why, "no F2FS mark");
     else
         copy->passes = fixed_numbers_pass(bytes, copy->why) && other_numbers_pass(bytes, copy->why) &&
@@ -255,6 +255,7 @@ void opening_read(struct opening *opening, const struct card *card)
     *opening = (struct opening){.copy_in_use = NONE_IN_USE, .pack_in_use = NONE_IN_USE};
     uint32_t judged = judge(opening, card);
     opening->answer = harptimber_node_lookup(card->bytes, card->len, DISK_ROOT).answer;
-    if (judged != opening->answer)
+    opening->agrees = judged == opening->answer;
+    if (!opening->agrees)
         *opening->why = '\0';
 }

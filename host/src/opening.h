@@ -12,7 +12,7 @@ enum { WHY_ROOM = 640 };
 
 /* A copy of the superblock: empty words if it passes. */
 struct opening_copy {
-    bool passes;
+    bool marked, passes;
     char why[WHY_ROOM];
 };
 
@@ -28,11 +28,12 @@ enum { NONE_IN_USE = -1 };
 
 struct opening {
     uint32_t answer; /* the library's: 0, or 4 to 8 */
+    bool agrees;     /* what was read here leads to that answer; else it isn't worth saying */
     struct opening_copy copies[2];
     int copy_in_use;
     struct opening_pack packs[2]; /* read if a copy is in use */
     int pack_in_use;
-    char why[WHY_ROOM]; /* of answers 5 to 8: the reason, in plain text; empty if this has no words for it */
+    char why[WHY_ROOM]; /* of answers 5 to 8: the reason, in plain text; empty if there are no words for it */
 };
 
 /* Asks the library, and finds the words. */

@@ -52,6 +52,24 @@ void show_count(FILE *out, uint64_t count, const char *thing)
     fprintf(out, "%" PRIu64 " %s%s", count, thing, count == 1 ? "" : "s");
 }
 
+void show_size(FILE *out, uint64_t bytes)
+{
+    static const char *const units[] = {"KiB", "MiB", "GiB", "TiB"};
+    int power = 0;
+    while (power < 4 && bytes >> 10 * (power + 1) != 0)
+        power++;
+    if (power == 0) {
+        show_count(out, bytes, "byte");
+        return;
+    }
+    uint64_t whole = bytes >> 10 * power, rest = bytes & (((uint64_t)1 << 10 * power) - 1);
+    uint64_t tenths = rest * 10 >> 10 * power;
+    fprintf(out, "%" PRIu64, whole);
+    if (tenths != 0)
+        fprintf(out, ".%" PRIu64, tenths);
+    fprintf(out, " %s", units[power - 1]);
+}
+
 void show_subject(FILE *out, const char *subject)
 {
     fputs("harptimber: ", out);

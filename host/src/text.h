@@ -22,6 +22,9 @@ int show(FILE *out, const char *text);
 /* Prints a number of things: '1 block', '2 blocks'. */
 void show_count(FILE *out, uint64_t count, const char *thing);
 
+/* Prints a number of bytes in the greatest unit of which there is one: '64 MiB', '1.4 GiB', '1 byte'. */
+void show_size(FILE *out, uint64_t bytes);
+
 /* Prints 'harptimber: SUBJECT: ', with which each message begins. */
 void show_subject(FILE *out, const char *subject);
 

@@ -1,11 +1,14 @@
 #include "words.h"
 
 #include <inttypes.h>
+#include <stdlib.h>
 #include <string.h>
 
+#include "opening.h"
+#include "partitions.h"
 #include "text.h"
 
-enum { FEWEST_CARD_BLOCKS = 2, MOST_CARD_BLOCKS = 262144, MOST_NAME_BYTES = 255 };
+enum { MOST_NAME_BYTES = 255 };
 
 const char *meaning_of(uint32_t answer)
 {
@@ -64,12 +67,27 @@ static void show_bad_length(FILE *out, const struct card *card)
     }
 }
 
+/* What the file is if it is a disk. Returns whether that was said. */
+static bool show_disk(FILE *out, const struct card *card)
+{
+    struct partitions partitions;
+    partitions_read(&partitions, card->map, card->file_len);
+    if (partitions.table == NULL)
+        return false;
+    fputs("; the file is ", out);
+    show_partitions(out, &partitions);
+    if (partitions.count != 0)
+        fputs("; --partition N takes one", out);
+    return true;
+}
+
 /* Why a call is out of shape. With neither card nor name it is place's, which has nothing else to refuse. */
 static void show_out_of_shape(FILE *out, const struct card *card, const char *name)
 {
-    if (card != NULL && !length_is_in_shape(card))
+    if (card != NULL && !length_is_in_shape(card)) {
         show_bad_length(out, card);
-    else if (name == NULL)
+        show_disk(out, card);
+    } else if (name == NULL)
         fputs("A has to be 873 or 923", out);
     else if (*name == '\0')
         fputs("the name is empty", out);
@@ -79,45 +97,58 @@ static void show_out_of_shape(FILE *out, const struct card *card, const char *na
         fprintf(out, "the name has a slash%s", card == NULL ? "" : "; only the root directory is read");
 }
 
-/* A number of a superblock copy; the copies start 1,024 bytes into blocks 0 and 1. */
-static uint64_t superblock_number(const struct card *card, size_t copy, size_t at, size_t len)
+/* Why a card doesn't open. */
+static void show_unopened(FILE *out, const struct card *card, uint32_t answer)
 {
-    const uint8_t *bytes = card->bytes + copy * BLOCK_SIZE + 1024 + at;
-    uint64_t number = 0;
-    while (len-- > 0)
-        number = number << 8 | bytes[len];
-    return number;
+    struct opening opening;
+    opening_read(&opening, card);
+    fputs(opening.answer == answer ? opening.why : "", out);
+    bool marked = opening.copies[0].marked || opening.copies[1].marked;
+    if (answer == HARPTIMBER_NO_SUPERBLOCK && !show_disk(out, card) && !marked)
+        fputs("; is it another file system?", out);
 }
 
-/* What may be wrong where no superblock passes. It is a hint alone: the library has judged. */
-static void show_no_superblock(FILE *out, const struct card *card)
+static void show_reason(FILE *out, uint32_t answer, const struct card *card, const char *name)
 {
-    uint64_t blocks = card->len / BLOCK_SIZE, counted = 0;
-    bool marked = false;
-    for (size_t copy = 0; copy < 2; copy++)
-        if (superblock_number(card, copy, 0, 4) == 0xF2F52010) {
-            uint64_t count = superblock_number(card, copy, 36, 8);
-            counted = count > counted ? count : counted;
-            marked = true;
-        }
-    if (!marked)
-        fputs("; no F2FS mark: is it another file system, or a whole disk with partitions?", out);
-    else if (counted > blocks)
-        fprintf(out, "; the superblock counts %" PRIu64 " blocks, the image has %" PRIu64, counted, blocks);
+    if (answer == HARPTIMBER_OUT_OF_SHAPE)
+        show_out_of_shape(out, card, name);
+    else if (answer >= HARPTIMBER_NO_SUPERBLOCK && answer <= HARPTIMBER_UNREADABLE)
+        show_unopened(out, card, answer);
+    else if (answer == HARPTIMBER_KIND_NOT_READ)
+        fputs("small and empty files usually are", out);
+}
+
+char *reason_of(uint32_t answer, const struct card *card, const char *name)
+{
+    char *reason = NULL;
+    size_t len = 0;
+    FILE *out = open_memstream(&reason, &len);
+    if (out == NULL)
+        return NULL;
+    show_reason(out, answer, card, name);
+    if (fclose(out) == 0 && len != 0)
+        return reason;
+    free(reason);
+    return NULL;
 }
 
 void show_answer(FILE *out, uint32_t answer, const char *meaning, const struct card *card, const char *name)
 {
-    if (answer == HARPTIMBER_OUT_OF_SHAPE) {
-        fprintf(out, "out of shape (answer %" PRIu32 "): ", answer);
-        show_out_of_shape(out, card, name);
-        return;
-    }
-    fprintf(out, "%s (answer %" PRIu32 ")", meaning, answer);
-    if (answer == HARPTIMBER_NO_SUPERBLOCK)
-        show_no_superblock(out, card);
-    if (answer == HARPTIMBER_KIND_NOT_READ)
-        fputs("; small and empty files usually are", out);
+    char *reason = reason_of(answer, card, name);
+    if (answer == HARPTIMBER_OUT_OF_SHAPE)
+        fprintf(out, "out of shape (answer %" PRIu32 ")%s", answer, reason == NULL ? "" : ": ");
+    else
+        fprintf(out, "%s (answer %" PRIu32 ")%s", meaning, answer, reason == NULL ? "" : "; ");
+    fputs(reason == NULL ? "" : reason, out);
+    free(reason);
+}
+
+void json_reason(struct json *json, uint32_t answer, const struct card *card, const char *name)
+{
+    char *reason = reason_of(answer, card, name);
+    if (reason != NULL)
+        json_string(json, "reason", reason);
+    free(reason);
 }
 
 void show_entry(FILE *out, struct harptimber_entry entry)
