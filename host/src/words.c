@@ -67,16 +67,19 @@ static void show_bad_length(FILE *out, const struct card *card)
     }
 }
 
-/* What the file is if it is a disk. Returns whether that was said. */
+/* What the file is if it is a disk, and what to do then. Returns whether that was said. */
 static bool show_disk(FILE *out, const struct card *card)
 {
     struct partitions partitions;
     partitions_read(&partitions, card->map, card->file_len);
     if (partitions.table == NULL)
         return false;
-    fputs("; the file is ", out);
+    fputs("; ", out);
     show_partitions(out, &partitions);
-    if (partitions.count != 0)
+    const struct partition *marked = partitions_only_marked(&partitions);
+    if (marked != NULL)
+        fprintf(out, "; --partition %" PRIu32 " takes that one", marked->number);
+    else if (partitions.count != 0)
         fputs("; --partition N takes one", out);
     return true;
 }
@@ -88,7 +91,7 @@ static void show_out_of_shape(FILE *out, const struct card *card, const char *na
         show_bad_length(out, card);
         show_disk(out, card);
     } else if (name == NULL)
-        fputs("A has to be 873 or 923", out);
+        fputs(card == NULL ? "A has to be 873 or 923" : "", out);
     else if (*name == '\0')
         fputs("the name is empty", out);
     else if (strlen(name) > MOST_NAME_BYTES)
