@@ -7,8 +7,9 @@ use harptimber_tests::image::Image;
 use harptimber_tests::json::Json;
 use harptimber_tests::knobs::{Knobs, Pack};
 use harptimber_tests::layout::checkpoint::*;
-use harptimber_tests::layout::superblock::{self, *};
-use harptimber_tests::layout::{Field, SEGMENT_BLOCKS};
+use harptimber_tests::layout::journal::N_NATS;
+use harptimber_tests::layout::superblock::*;
+use harptimber_tests::layout::Field;
 use harptimber_tests::node_lookup;
 use harptimber_tests::on_disk::OnDisk;
 use harptimber_tests::outside::CardFile;
@@ -18,6 +19,8 @@ use harptimber_tests::published::{self, formatted};
 use harptimber_tests::random_card::sound_knobs;
 use harptimber_tests::special_build::SpecialBuild;
 use harptimber_tests::trial::Random;
+
+use Which::{First, Journal, Last};
 
 const ROOT: u32 = 3;
 
@@ -132,10 +135,10 @@ fn sound_cards() {
 /// In words, line by line.
 #[test]
 fn words() {
-    let mut dirty = Pack::plain(0x1_0000_0007, CP_FASTBOOT_FLAG);
+    let dirty = Pack::plain(0x1_0000_0007, CP_FASTBOOT_FLAG);
     let knobs = Knobs {
         ssa_segments: 0,
-        packs: [Some(dirty.clone()), None],
+        packs: [Some(dirty), None],
         ..Knobs::sound()
     };
     let mut image = Image::new(&knobs);
@@ -163,8 +166,13 @@ fn words() {
     ];
     let ran = run(&[&"info", &disk.path()]).expect(0);
     assert_eq!(ran.words().lines().collect::<Vec<_>>(), lines);
-    dirty.flags = CP_UMOUNT_FLAG;
-    let knobs = Knobs::sound().with_pack(1, dirty);
+}
+
+/// A second pack that is in use, of a clean card without a label.
+#[test]
+fn words_of_a_clean_card() {
+    let clean = Pack::plain(0x1_0000_0007, CP_UMOUNT_FLAG);
+    let knobs = Knobs::sound().with_pack(1, clean);
     let disk = OnDisk::new(Image::new(&knobs));
     let ran = run(&[&"info", &disk.path()]).expect(0);
     let last = "checkpoint pack 2: in use; version 4294967303 (hex 100000007); flags: unmount";
@@ -213,7 +221,47 @@ fn labels() {
     }
 }
 
-/// Labels, features and versions by the published tools.
+/// The words behind one of dump.f2fs's lines, sorted.
+fn dumped<'a>(dump: &'a str, start: &str) -> Vec<&'a str> {
+    let found = dump.lines().find_map(|line| line.strip_prefix(start));
+    let found = found.unwrap_or_else(|| panic!("no '{start}' in {dump}"));
+    let (_, names) = found.split_once(':').unwrap_or(("", found));
+    let mut names: Vec<&str> = names.split_whitespace().collect();
+    names.sort();
+    names
+}
+
+/// A card with these options, in what dump.f2fs says of it too.
+fn expect_dumped(options: &str) {
+    let image = formatted(64, options);
+    let card = CardFile::of(&image);
+    let dump = published::run(Command::new("dump.f2fs").arg(card.path()));
+    let dump = String::from_utf8(dump).unwrap();
+    let features = dumped(&dump, "Info: superblock features = ");
+    let answer = if features.is_empty() { 0 } else { 6 };
+    let json = run(&[&"info", &"--json", &card.path()]).expect(status_of(answer));
+    let json = json.json();
+    expect_head(&json, "info", answer);
+    let mut named = texts(&json["features"]);
+    if answer == 6 {
+        let reason = format!("features: {}", named.join(" "));
+        assert_eq!(json["reason"].text(), reason);
+        let pull: Words = &[&"pull", &"--json", &card.path(), &"name", &"0"];
+        assert_eq!(run(pull).expect(2).json()["reason"].text(), reason);
+    }
+    named.sort();
+    assert_eq!(named, features);
+    let label = options.strip_prefix("-l ").unwrap_or_default();
+    assert_eq!(json["label"].text(), label.split(' ').next().unwrap());
+    let mut packs = json["packs"].list().iter();
+    let used = packs.find(|pack| flag(&pack["in_use"])).unwrap();
+    let version = format!("{:x}", used["version"].number());
+    assert_eq!(dumped(&dump, "Info: CKPT version = "), [version]);
+    let mut flags = texts(&used["flags"]);
+    flags.sort();
+    assert_eq!(dumped(&dump, "Info: checkpoint state = "), flags);
+}
+
 #[test]
 fn published_cards() {
     for options in [
@@ -223,116 +271,118 @@ fn published_cards() {
         "-O extra_attr,compression,ro",
         "-l kept",
     ] {
-        let image = formatted(64, options);
-        let card = CardFile::of(&image);
-        let dump = published::run(Command::new("dump.f2fs").arg(card.path()));
-        let dump = String::from_utf8(dump).unwrap();
-        let words_of = |start: &str| {
-            let mut lines = dump.lines();
-            let found = lines.find_map(|line| line.strip_prefix(start));
-            let found = found.unwrap_or_else(|| panic!("no '{start}' in {dump}"));
-            let (_, names) = found.split_once(':').unwrap_or(("", found));
-            let mut names: Vec<&str> = names.split_whitespace().collect();
-            names.sort();
-            names
-        };
-        let features = words_of("Info: superblock features = ");
-        let status = if features.is_empty() { 0 } else { 2 };
-        let json = run(&[&"info", &"--json", &card.path()]).expect(status);
-        let json = json.json();
-        expect_head(&json, "info", if features.is_empty() { 0 } else { 6 });
-        let mut named = texts(&json["features"]);
-        if !named.is_empty() {
-            let reason = format!("features: {}", named.join(" "));
-            assert_eq!(json["reason"].text(), reason);
-            let pull = run(&[&"pull", &card.path(), &"name", &"0"]).expect(2);
-            let end = format!("(answer 6); {reason}\n");
-            assert!(pull.words().ends_with(&end), "no '{end}' in {pull:?}");
-        }
-        named.sort();
-        assert_eq!(named, features);
-        let label = options.strip_prefix("-l ").unwrap_or_default();
-        assert_eq!(json["label"].text(), label.split(' ').next().unwrap());
-        let packs = json["packs"].list();
-        let used = packs.iter().find(|pack| flag(&pack["in_use"])).unwrap();
-        let version = format!("{:x}", used["version"].number());
-        assert_eq!(words_of("Info: CKPT version = "), [version]);
-        let mut flags = texts(&used["flags"]);
-        flags.sort();
-        assert_eq!(words_of("Info: checkpoint state = "), flags);
+        expect_dumped(options);
     }
 }
 
-/// A card that each of these damages leaves unread, by one rule of the superblock.
-#[test]
-fn superblock_rules() {
-    let knobs = Knobs {
+/// A card with room everywhere, so that a small change breaks one rule and no other.
+fn roomy() -> Knobs {
+    Knobs {
         segment0: 5,
         spare_segments: 2,
         spare_blocks: 600,
         spare_image_blocks: 600,
         ..Knobs::sound()
-    };
-    let areas = knobs.areas();
-    let image_blocks = knobs.image_blocks();
-    let segments_end = areas.main_end + 2 * SEGMENT_BLOCKS;
-    let shifted = |name: &str, first: u32, before: &str| {
-        format!("{name} is {}, but the {before} area ends at {first}", first + 1)
-    };
-    let rules: Vec<(Field, u64, String)> = vec![
-        (MAGIC, 1, "no F2FS mark".into()),
-        (LOG_BLOCKSIZE, 13, "log_blocksize is 13, not 12".into()),
-        (LOG_BLOCKS_PER_SEG, 8, "log_blocks_per_seg is 8, not 9".into()),
-        (LOG_SECTORSIZE, 8, "log_sectorsize is 8, not 9 to 12".into()),
-        (LOG_SECTORSIZE, 13, "log_sectorsize is 13, not 9 to 12".into()),
-        (LOG_SECTORS_PER_BLOCK, 4, "log_sectors_per_block is 4, not 3".into()),
-        (SEGS_PER_SEC, 0, "segs_per_sec is 0".into()),
-        (SECS_PER_ZONE, 0, "secs_per_zone is 0".into()),
-        (ROOT_INO, 4, "root_ino is 4, not 3".into()),
-        (NODE_INO, 0, "node_ino is 0, not 1".into()),
-        (META_INO, 3, "meta_ino is 3, not 2".into()),
-        (SEGMENT_COUNT_CKPT, 3, "segment_count_ckpt is 3, not 2".into()),
-        (SEGMENT_COUNT_SIT, 0, "segment_count_sit is 0, not an even number from 2 on".into()),
-        (SEGMENT_COUNT_NAT, 3, "segment_count_nat is 3, not an even number from 2 on".into()),
-        (SEGMENT0_BLKADDR, 1, "segment0_blkaddr is 1, but blocks 0 and 1 have the superblock".into()),
-        (CP_BLKADDR, 6, "cp_blkaddr is 6, but segment0_blkaddr 5".into()),
-        (SIT_BLKADDR, u64::from(areas.sit) + 1, shifted("sit_blkaddr", areas.sit, "checkpoint")),
-        (NAT_BLKADDR, u64::from(areas.nat) + 1, shifted("nat_blkaddr", areas.nat, "SIT")),
-        (SSA_BLKADDR, u64::from(areas.ssa) + 1, shifted("ssa_blkaddr", areas.ssa, "NAT")),
-        (MAIN_BLKADDR, u64::from(areas.main) + 1, shifted("main_blkaddr", areas.main, "SSA")),
-        (
-            SEGMENT_COUNT,
-            7,
-            format!("the main area ends at {}, but segment_count at {}", areas.main_end, 5 + 7 * SEGMENT_BLOCKS),
-        ),
-        (
-            BLOCK_COUNT,
-            9,
-            format!("segment_count ends at {segments_end}, but block_count is 9"),
-        ),
-        (
-            BLOCK_COUNT,
-            u64::from(image_blocks) + 1,
-            format!("it counts {} blocks, the image has {image_blocks}", image_blocks + 1),
-        ),
-    ];
-    let mut disk = OnDisk::new(Image::new(&knobs));
-    for (field, value, why) in rules {
+    }
+}
+
+/// Changes to a copy of that card's superblock, and why it doesn't pass by them.
+const COPY_RULES: [(Field, u64, &str); 24] = [
+    (MAGIC, 1, "no F2FS mark"),
+    (LOG_BLOCKSIZE, 13, "log_blocksize is 13, not 12"),
+    (LOG_BLOCKS_PER_SEG, 8, "log_blocks_per_seg is 8, not 9"),
+    (LOG_SECTORSIZE, 8, "log_sectorsize is 8, not 9 to 12"),
+    (LOG_SECTORSIZE, 13, "log_sectorsize is 13, not 9 to 12"),
+    (
+        LOG_SECTORS_PER_BLOCK,
+        4,
+        "log_sectors_per_block is 4, not 3",
+    ),
+    (SEGS_PER_SEC, 0, "segs_per_sec is 0"),
+    (SECS_PER_ZONE, 0, "secs_per_zone is 0"),
+    (ROOT_INO, 4, "root_ino is 4, not 3"),
+    (NODE_INO, 0, "node_ino is 0, not 1"),
+    (META_INO, 3, "meta_ino is 3, not 2"),
+    (SEGMENT_COUNT_CKPT, 3, "segment_count_ckpt is 3, not 2"),
+    (
+        SEGMENT_COUNT_SIT,
+        0,
+        "segment_count_sit is 0, not an even number from 2 on",
+    ),
+    (
+        SEGMENT_COUNT_NAT,
+        3,
+        "segment_count_nat is 3, not an even number from 2 on",
+    ),
+    (
+        SEGMENT_COUNT_SSA,
+        2,
+        "main_blkaddr is 3589, but the SSA area ends at 4101",
+    ),
+    (
+        SEGMENT0_BLKADDR,
+        1,
+        "segment0_blkaddr is 1, but blocks 0 and 1 have the superblock",
+    ),
+    (CP_BLKADDR, 6, "cp_blkaddr is 6, but segment0_blkaddr 5"),
+    (
+        SIT_BLKADDR,
+        1030,
+        "sit_blkaddr is 1030, but the checkpoint area ends at 1029",
+    ),
+    (
+        NAT_BLKADDR,
+        2054,
+        "nat_blkaddr is 2054, but the SIT area ends at 2053",
+    ),
+    (
+        SSA_BLKADDR,
+        3078,
+        "ssa_blkaddr is 3078, but the NAT area ends at 3077",
+    ),
+    (
+        MAIN_BLKADDR,
+        3590,
+        "main_blkaddr is 3590, but the SSA area ends at 3589",
+    ),
+    (
+        SEGMENT_COUNT,
+        7,
+        "the main area ends at 4101, but segment_count at 3589",
+    ),
+    (
+        BLOCK_COUNT,
+        9,
+        "segment_count ends at 5125, but block_count is 9",
+    ),
+    (
+        BLOCK_COUNT,
+        6326,
+        "it counts 6326 blocks, the image has 6325",
+    ),
+];
+
+/// In one copy or in both.
+#[test]
+fn superblock_rules() {
+    let mut disk = OnDisk::new(Image::new(&roomy()));
+    for (field, value, why) in COPY_RULES {
         for damaged in [&[0][..], &[1], &[0, 1]] {
-            damaged.iter().for_each(|&copy| disk.image.set(copy, field, value));
+            for &copy in damaged {
+                disk.image.set(copy, field, value);
+            }
             disk.write_blocks(&[0, 1]);
             let json = info(&disk);
             let both = damaged.len() == 2;
             assert_eq!(json["answer"].number(), if both { 5 } else { 0 });
             for (copy, json) in json["copies"].list().iter().enumerate() {
-                let fails = damaged.contains(&(copy as u32));
                 let reason = json.get("reason").map(Json::text);
-                assert_eq!(reason, fails.then_some(why.as_str()));
+                let fails = damaged.contains(&(copy as u32));
+                assert_eq!(reason, fails.then_some(why));
             }
-            if both {
-                let reason = json["reason"].text();
-                assert!(reason.starts_with(&format!("both copies: {why}")), "{reason}");
-            }
+            let reason = json.get("reason").map_or("", Json::text);
+            let starts = reason.starts_with(&format!("both copies: {why}"));
+            assert_eq!(starts, both, "{json:?}");
             disk.image.undo(0);
         }
     }
@@ -341,74 +391,165 @@ fn superblock_rules() {
     disk.write_blocks(&[0, 1]);
     let reason = "copy 1: root_ino is 4, not 3; copy 2: meta_ino is 4, not 2";
     assert_eq!(info(&disk)["reason"].text(), reason);
-    assert!(superblock::ALL.len() == 25, "a field without a rule here");
 }
 
-/// A change to a pack's blocks, whether their checksums are made right, and why the pack fails by it.
-type PackRule = (u32, Field, u64, bool, String);
+/// Which block of the first pack is changed.
+#[derive(Clone, Copy, Debug)]
+enum Which {
+    First,
+    Last,
+    Journal,
+}
 
-/// Packs that don't pass, and the one in use that can't be read.
+/// A change to the pack of the sound card, and why it doesn't pass by it.
+type PackRule = (Which, Field, u64, &'static str);
+
+/// With the checksum made right.
+const PACK_RULES: [PackRule; 6] = [
+    (
+        First,
+        CHECKSUM_OFFSET,
+        4088,
+        "its first block has checksum_offset 4088, not 4092",
+    ),
+    (
+        Last,
+        CHECKSUM_OFFSET,
+        0,
+        "its last block has checksum_offset 0, not 4092",
+    ),
+    (
+        First,
+        CP_PACK_TOTAL_BLOCK_COUNT,
+        1,
+        "cp_pack_total_block_count is 1, not 2 to 512",
+    ),
+    (
+        First,
+        CP_PACK_TOTAL_BLOCK_COUNT,
+        513,
+        "cp_pack_total_block_count is 513, not 2 to 512",
+    ),
+    (
+        First,
+        CP_PACK_TOTAL_BLOCK_COUNT,
+        7,
+        "its last block is all zeros",
+    ),
+    (
+        Last,
+        CHECKPOINT_VER,
+        9,
+        "its first block has version 1, its last 9",
+    ),
+];
+
+const NO_SUMMARIES: &str =
+    "the journal block is out of place: the pack has 6 blocks, and it lies 7 before the end";
+
+/// Why the pack in use can't be read.
+const READ_RULES: [PackRule; 8] = [
+    (
+        First,
+        CKPT_FLAGS,
+        0x405,
+        "large_nat_bitmap is set, which isn't read",
+    ),
+    (
+        First,
+        SIT_VER_BITMAP_BYTESIZE,
+        65,
+        "sit_ver_bitmap_bytesize is 65, not 64",
+    ),
+    (
+        First,
+        NAT_VER_BITMAP_BYTESIZE,
+        0,
+        "nat_ver_bitmap_bytesize is 0, not 64",
+    ),
+    (
+        First,
+        CP_PACK_START_SUM,
+        0,
+        "the journal block is out of place: cp_pack_start_sum is 0 in a pack of 6 blocks",
+    ),
+    (
+        First,
+        CP_PACK_START_SUM,
+        5,
+        "the journal block is out of place: cp_pack_start_sum is 5 in a pack of 6 blocks",
+    ),
+    (First, CKPT_FLAGS, 0x1, NO_SUMMARIES),
+    (First, CKPT_FLAGS, 0x20, NO_SUMMARIES),
+    (
+        Journal,
+        N_NATS,
+        39,
+        "the NAT journal counts 39 entries, at most 38 fit",
+    ),
+];
+
+const NO_PACK: &str = "its first block is all zeros";
+
+fn block_of(image: &Image, which: Which) -> u32 {
+    match which {
+        First => image.first_block(0),
+        Last => image.last_block(0),
+        Journal => image.first_block(0) + 1,
+    }
+}
+
+/// Packs that don't pass, and one in use that can't be read.
 #[test]
 fn pack_rules() {
-    let knobs = Knobs::sound();
-    let disk = OnDisk::new(Image::new(&knobs));
-    let (first, last) = (disk.image.first_block(0), disk.image.last_block(0));
-    let sum = |block| disk.image.get(block, CHECKSUM);
-    let wrong_sum = |which: &str, block| {
-        let sum = sum(block);
-        format!("the checksum of its {which} block is {:08x}, its bytes make {sum:08x}", sum ^ 1)
-    };
-    let rules: Vec<PackRule> = vec![
-        (first, CHECKSUM_OFFSET, 4088, true, "its first block has checksum_offset 4088, not 4092".into()),
-        (last, CHECKSUM_OFFSET, 0, true, "its last block has checksum_offset 0, not 4092".into()),
-        (first, CHECKSUM, sum(first) ^ 1, false, wrong_sum("first", first)),
-        (last, CHECKSUM, sum(last) ^ 1, false, wrong_sum("last", last)),
-        (first, CP_PACK_TOTAL_BLOCK_COUNT, 1, true, "cp_pack_total_block_count is 1, not 2 to 512".into()),
-        (first, CP_PACK_TOTAL_BLOCK_COUNT, 513, true, "cp_pack_total_block_count is 513, not 2 to 512".into()),
-        (first, CP_PACK_TOTAL_BLOCK_COUNT, 7, true, "its last block is all zeros".into()),
-        (last, CHECKPOINT_VER, 9, true, "its first block has version 1, its last 9".into()),
-    ];
-    let none = "its first block is all zeros";
-    for (block, field, value, sealed, why) in rules {
-        let reason = format!("pack 1: {why}; pack 2: {none}");
-        expect_pack_rule(&knobs, (block, field, value, sealed), 7, &reason);
+    let rules = PACK_RULES.iter().map(|rule| (7, rule));
+    for (answer, &(which, field, value, why)) in
+        rules.chain(READ_RULES.iter().map(|rule| (8, rule)))
+    {
+        let mut image = Image::new(&Knobs::sound());
+        let block = block_of(&image, which);
+        match which {
+            Journal => image.set(block, field, value),
+            _ => image.set_sealed(block, field, value),
+        }
+        let reason = match answer {
+            7 => format!("pack 1: {why}; pack 2: {NO_PACK}"),
+            _ => why.to_string(),
+        };
+        expect_reason(image, answer, &reason);
     }
-    let flags = disk.image.get(first, CKPT_FLAGS);
-    let out = "the journal block is out of place: ";
-    let unreadable: [(Field, u64, String); 7] = [
-        (CKPT_FLAGS, flags | 0x400, "large_nat_bitmap is set, which isn't read".into()),
-        (SIT_VER_BITMAP_BYTESIZE, 65, "sit_ver_bitmap_bytesize is 65, not 64".into()),
-        (NAT_VER_BITMAP_BYTESIZE, 0, "nat_ver_bitmap_bytesize is 0, not 64".into()),
-        (CP_PACK_START_SUM, 0, format!("{out}cp_pack_start_sum is 0 in a pack of 6 blocks")),
-        (CP_PACK_START_SUM, 5, format!("{out}cp_pack_start_sum is 5 in a pack of 6 blocks")),
-        (CKPT_FLAGS, 1, format!("{out}the pack has 6 blocks, and it lies 7 before the end")),
-        (CKPT_FLAGS, 0x20, format!("{out}the pack has 6 blocks, and it lies 7 before the end")),
-    ];
-    for (field, value, why) in unreadable {
-        expect_pack_rule(&knobs, (first, field, value, true), 8, &why);
-    }
-    let journal = (first + 1, harptimber_tests::layout::journal::N_NATS, 39, false);
-    expect_pack_rule(&knobs, journal, 8, "the NAT journal counts 39 entries, at most 38 fit");
-    let maps = Knobs {
-        sit_segments: 64,
-        nat_segments: 58,
-        ..knobs
-    };
-    let disk = OnDisk::new(Image::new(&maps));
-    assert_eq!(info(&disk)["reason"].text(), "the maps end at byte 4096 of their block, behind 4092");
 }
 
-/// The reason of info, in JSON and in words, and in those of pull.
-fn expect_pack_rule(knobs: &Knobs, change: (u32, Field, u64, bool), answer: u32, reason: &str) {
-    let (block, field, value, sealed) = change;
-    let mut image = Image::new(knobs);
-    match sealed {
-        true => image.set_sealed(block, field, value),
-        false => image.set(block, field, value),
+#[test]
+fn pack_checksums() {
+    for (which, word) in [(First, "first"), (Last, "last")] {
+        let mut image = Image::new(&Knobs::sound());
+        let block = block_of(&image, which);
+        let sum = image.get(block, CHECKSUM);
+        image.set(block, CHECKSUM, sum ^ 1);
+        let sums = format!("is {:08x}, its bytes make {sum:08x}", sum ^ 1);
+        let reason = format!("pack 1: the checksum of its {word} block {sums}; pack 2: {NO_PACK}");
+        expect_reason(image, 7, &reason);
     }
+}
+
+/// Maps that are as long as they should be, but too long for their block.
+#[test]
+fn long_maps() {
+    let knobs = Knobs {
+        sit_segments: 64,
+        nat_segments: 58,
+        ..Knobs::sound()
+    };
+    let reason = "the maps end at byte 4096 of their block, behind 4092";
+    expect_reason(Image::new(&knobs), 8, reason);
+}
+
+/// The reason of info, in JSON and in words, and in those of other commands.
+fn expect_reason(image: Image, answer: u32, reason: &str) {
     let disk = OnDisk::new(image);
     let json = info(&disk);
-    assert_eq!(json["answer"].number(), u64::from(answer), "of {change:?}");
+    assert_eq!(json["answer"].number(), u64::from(answer), "{reason}");
     assert_eq!(json["reason"].text(), reason);
     let pull: Words = &[&"pull", &"--json", &disk.path(), &"name", &"0"];
     assert_eq!(run(pull).expect(2).json()["reason"].text(), reason);
@@ -450,11 +591,22 @@ fn expect_agreement(image: &Image, ran: &Ran) -> u32 {
     let reason = json.get("reason").map_or("", Json::text);
     assert_eq!(reason.is_empty(), answer == 0, "{json:?} on {image:?}");
     let used = |key: &str| match json.get(key) {
-        Some(list) => list.list().iter().filter(|one| flag(&one["in_use"])).count(),
+        Some(list) => list
+            .list()
+            .iter()
+            .filter(|one| flag(&one["in_use"]))
+            .count(),
         None => 0,
     };
-    assert_eq!(used("copies"), usize::from(answer != 5), "{json:?} on {image:?}");
-    assert!(used("packs") == 1 || answer != 0 && answer != 8, "{json:?} on {image:?}");
+    assert_eq!(
+        used("copies"),
+        usize::from(answer != 5),
+        "{json:?} on {image:?}"
+    );
+    assert!(
+        used("packs") == 1 || answer != 0 && answer != 8,
+        "{json:?} on {image:?}"
+    );
     answer
 }
 
@@ -492,7 +644,10 @@ fn damage(random: &mut Random, cards: u32, damages: u32, run: impl Fn(Words) -> 
         }
     }
     let seen = [0, 5, 6, 7, 8].map(|answer| answers[answer]);
-    println!("info on damaged cards: {} inputs compared, answers {seen:?}", cards * damages);
+    println!(
+        "info on damaged cards: {} inputs compared, answers {seen:?}",
+        cards * damages
+    );
     assert!(seen.iter().all(|&count| count > 0), "{seen:?}");
 }
 
@@ -513,11 +668,28 @@ fn cut_cards_sanitized() {
     let build = SpecialBuild::sanitized();
     let disk = OnDisk::new(Image::new(&Knobs::sound()));
     let pack = u64::from(disk.image.first_block(0)) * 4096;
-    for len in [1, 511, 512, 1024, 1028, 4096, 5120, 5124, 8191, 8192, 8193, pack + 100, pack + 4096] {
+    for len in [
+        1,
+        511,
+        512,
+        1024,
+        1028,
+        4096,
+        5120,
+        5124,
+        8191,
+        8192,
+        8193,
+        pack + 100,
+        pack + 4096,
+    ] {
         let file = std::fs::File::options().write(true).open(disk.path());
         file.unwrap().set_len(len).unwrap();
         let whole = len % 4096 == 0 && len >= 8192;
-        let json = build.run(&[&"info", &"--json", &disk.path()]).expect(2).json();
+        let json = build
+            .run(&[&"info", &"--json", &disk.path()])
+            .expect(2)
+            .json();
         expect_head(&json, "info", if whole { 5 } else { 4 });
         build.run(&[&"info", &disk.path()]).expect(2);
         build.run(&[&"info", &"--offset=1", &disk.path()]);
@@ -535,7 +707,10 @@ fn library_against_words() {
         for answer in [0, 4, 5, 6, 7, 8] {
             let run = |words: Words| {
                 let mut command = build.command(words);
-                let ran = ran(command.env("ANY_ANSWER", answer.to_string()), Stdio::piped());
+                let ran = ran(
+                    command.env("ANY_ANSWER", answer.to_string()),
+                    Stdio::piped(),
+                );
                 ran.expect(status_of(answer))
             };
             let json = run(&[&"info", &"--json", &disk.path()]).json();
@@ -544,11 +719,18 @@ fn library_against_words() {
             for key in ["label", "areas", "features", "copies", "packs"] {
                 assert_eq!(json.get(key).is_some(), agrees, "'{key}' in {json:?}");
             }
-            assert_eq!(json.get("reason").is_some(), agrees && own != 0, "in {json:?}");
+            assert_eq!(
+                json.get("reason").is_some(),
+                agrees && own != 0,
+                "in {json:?}"
+            );
             let words = run(&[&"info", &disk.path()]);
             let lines = words.words().lines().count();
             assert_eq!(lines > 1, agrees, "of {words:?}");
-            assert!(words.words().contains(&format!("(answer {answer})")), "of {words:?}");
+            assert!(
+                words.words().contains(&format!("(answer {answer})")),
+                "of {words:?}"
+            );
         }
     }
 }
@@ -558,10 +740,15 @@ fn library_against_words() {
 fn path() {
     let disk = OnDisk::new(Image::new(&Knobs::sound()));
     let name = b"caf\xE9 \x1B.img";
-    let path = disk.scratch.path(<std::ffi::OsStr as std::os::unix::ffi::OsStrExt>::from_bytes(name));
+    let path = disk
+        .scratch
+        .path(<std::ffi::OsStr as std::os::unix::ffi::OsStrExt>::from_bytes(name));
     std::fs::rename(disk.path(), &path).unwrap();
     let json = run(&[&"info", &"--json", &path]).expect(0).json();
     assert!(json["image"].text().ends_with(&shown(name)));
     let ran = run(&[&"info", &path]).expect(0);
-    assert!(ran.words().contains("caf\\xE9 \\x1B.img: can be read"), "of {ran:?}");
+    assert!(
+        ran.words().contains("caf\\xE9 \\x1B.img: can be read"),
+        "of {ran:?}"
+    );
 }
