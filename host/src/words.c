@@ -1,8 +1,10 @@
 #include "words.h"
 
 #include <inttypes.h>
+#include <stdlib.h>
 #include <string.h>
 
+#include "reason.h"
 #include "text.h"
 
 enum { FEWEST_CARD_BLOCKS = 2, MOST_CARD_BLOCKS = 262144, MOST_NAME_BYTES = 255 };
@@ -22,7 +24,7 @@ const char *meaning_of(uint32_t answer)
         [HARPTIMBER_NO_NODE] = "a node number out of range or not in use",
         [HARPTIMBER_NODE_OUTSIDE] = "a node's address lies outside the main area",
         [HARPTIMBER_FOREIGN_NODE] = "a node block belongs elsewhere",
-        [HARPTIMBER_KIND_NOT_READ] = "an inode of a kind that isn't read: no regular file, or inline",
+        [HARPTIMBER_KIND_NOT_READ] = "an inode of a kind that isn't read",
         [HARPTIMBER_DATA_OUTSIDE] = "a data address lies outside the main area",
         [HARPTIMBER_MALFORMED_SLOT] = "a directory entry doesn't fit its block",
         [HARPTIMBER_SAME] = "same",
@@ -53,30 +55,36 @@ bool length_is_in_shape(const struct card *card)
 
 static void show_bad_length(FILE *out, const struct card *card)
 {
-    size_t blocks = card->len / BLOCK_SIZE;
     fputs("the image has ", out);
     if (card->len % BLOCK_SIZE != 0) {
         show_count(out, card->len, "byte");
         fputs(", which isn't a whole number of 4,096-byte blocks", out);
+    } else if (card->len / BLOCK_SIZE < FEWEST_CARD_BLOCKS) {
+        fputs("1 block of 4,096 bytes; a card has at least 2", out);
     } else {
-        show_count(out, blocks, "block");
-        fputs(blocks < FEWEST_CARD_BLOCKS ? "; a card has at least 2" : "; at most 262,144 are read", out);
+        show_size(out, card->len);
+        fputs("; at most 1 GiB is read", out);
     }
 }
 
 /* Why a call is out of shape. With neither card nor name it is place's, which has nothing else to refuse. */
-static void show_out_of_shape(FILE *out, const struct card *card, const char *name)
+static void show_out_of_shape(FILE *out, const struct asked *asked)
 {
-    if (card != NULL && !length_is_in_shape(card))
-        show_bad_length(out, card);
-    else if (name == NULL)
+    if (asked->card != NULL && !length_is_in_shape(asked->card)) {
+        show_bad_length(out, asked->card);
+    } else if (asked->name == NULL) {
         fputs("A has to be 873 or 923", out);
-    else if (*name == '\0')
+    } else if (asked->len == 0) {
         fputs("the name is empty", out);
-    else if (strlen(name) > MOST_NAME_BYTES)
-        fprintf(out, "the name has %zu bytes; at most 255 are possible", strlen(name));
-    else
-        fprintf(out, "the name has a slash%s", card == NULL ? "" : "; only the root directory is read");
+    } else if (asked->len > MOST_NAME_BYTES) {
+        fputs("the name has ", out);
+        show_count(out, asked->len, "byte");
+        fputs("; at most 255 are possible", out);
+    } else if (memchr(asked->name, '/', asked->len) == NULL) {
+        fputs("the name has a zero byte", out);
+    } else {
+        fprintf(out, "the name has a slash%s", asked->card == NULL ? "" : "; only the root directory is read");
+    }
 }
 
 /* A number of a superblock copy; the copies start 1,024 bytes into blocks 0 and 1. */
@@ -100,24 +108,75 @@ static void show_no_superblock(FILE *out, const struct card *card)
             counted = count > counted ? count : counted;
             marked = true;
         }
-    if (!marked)
-        fputs("; no F2FS mark: is it another file system, or a whole disk with partitions?", out);
-    else if (counted > blocks)
-        fprintf(out, "; the superblock counts %" PRIu64 " blocks, the image has %" PRIu64, counted, blocks);
+    if (!marked) {
+        fputs("no F2FS mark: another file system, perhaps, or a whole disk with partitions", out);
+    } else if (counted > blocks) {
+        fputs("the superblock counts ", out);
+        show_count(out, counted, "block");
+        fputs(", the image has ", out);
+        show_number(out, blocks);
+    }
+}
+
+/* A walk that stops elsewhere than the library found no reason. */
+static void show_pull_reason(FILE *out, uint32_t answer, const struct asked *asked)
+{
+    struct stop stop = walk_pull(asked->card, (const uint8_t *)asked->name, asked->len, asked->index);
+    if (stop.answer == answer)
+        show_stop(out, &stop, asked->card);
+}
+
+static void show_reason(FILE *out, uint32_t answer, const struct asked *asked)
+{
+    if (answer == HARPTIMBER_OUT_OF_SHAPE)
+        show_out_of_shape(out, asked);
+    else if (answer == HARPTIMBER_NO_SUPERBLOCK)
+        show_no_superblock(out, asked->card);
+    else if (asked->is_pull && (answer == HARPTIMBER_PAST_END || answer > HARPTIMBER_UNREADABLE))
+        show_pull_reason(out, answer, asked);
+}
+
+struct asked pull_of(const struct card *card, const char *name, uint32_t index)
+{
+    return (struct asked){.card = card, .name = name, .len = strlen(name), .is_pull = true, .index = index};
+}
+
+char *reason_of(uint32_t answer, const struct asked *asked)
+{
+    char *text = NULL;
+    size_t len = 0;
+    FILE *out = open_memstream(&text, &len);
+    if (out == NULL)
+        return NULL;
+    show_reason(out, answer, asked);
+    if (fclose(out) == 0 && len != 0)
+        return text;
+    free(text);
+    return NULL;
+}
+
+/* What is out of shape is told by the reason, instead of all that could be. */
+void show_asked(FILE *out, uint32_t answer, const char *meaning, const struct asked *asked)
+{
+    char *reason = reason_of(answer, asked);
+    fprintf(out, "%s (answer %" PRIu32 ")", answer == HARPTIMBER_OUT_OF_SHAPE ? "out of shape" : meaning, answer);
+    if (reason != NULL)
+        fprintf(out, ": %s", reason);
+    free(reason);
 }
 
 void show_answer(FILE *out, uint32_t answer, const char *meaning, const struct card *card, const char *name)
 {
-    if (answer == HARPTIMBER_OUT_OF_SHAPE) {
-        fprintf(out, "out of shape (answer %" PRIu32 "): ", answer);
-        show_out_of_shape(out, card, name);
-        return;
-    }
-    fprintf(out, "%s (answer %" PRIu32 ")", meaning, answer);
-    if (answer == HARPTIMBER_NO_SUPERBLOCK)
-        show_no_superblock(out, card);
-    if (answer == HARPTIMBER_KIND_NOT_READ)
-        fputs("; small and empty files usually are", out);
+    struct asked asked = {.card = card, .name = name, .len = name == NULL ? 0 : strlen(name)};
+    show_asked(out, answer, meaning, &asked);
+}
+
+void json_reason(struct json *json, uint32_t answer, const struct asked *asked)
+{
+    char *reason = reason_of(answer, asked);
+    if (reason != NULL)
+        json_string(json, "reason", reason);
+    free(reason);
 }
 
 void show_entry(FILE *out, struct harptimber_entry entry)
