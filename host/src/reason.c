@@ -7,10 +7,10 @@
 const char *kind_of(uint16_t mode)
 {
     static const char *const kinds[16] = {
-        [1] = "a FIFO",       [2] = "a character device", [4] = "a directory", [6] = "a block device",
-        [8] = "a regular file", [10] = "a symbolic link", [12] = "a socket",
+        [1] = "FIFO",         [2] = "character device", [4] = "directory", [6] = "block device",
+        [8] = "regular file", [10] = "symbolic link",   [12] = "socket",
     };
-    return kinds[mode >> 12] == NULL ? "of no known kind" : kinds[mode >> 12];
+    return kinds[mode >> 12] == NULL ? "file of no known kind" : kinds[mode >> 12];
 }
 
 static const char *owner_of(const struct stop *stop)
@@ -100,7 +100,7 @@ static void show_file_kind(FILE *out, const struct disk_inode *inode)
 {
     bool is_regular = inode->mode >> 12 == DISK_REGULAR;
     if (!is_regular)
-        fprintf(out, "it is %s", kind_of(inode->mode));
+        fprintf(out, "it is a %s", kind_of(inode->mode));
     show_marks(out, inode, false, is_regular ? "" : "; ");
 }
 
@@ -108,7 +108,7 @@ static void show_root_kind(FILE *out, const struct disk_inode *inode)
 {
     fputs("the root directory isn't read: ", out);
     if (inode->mode >> 12 != DISK_DIRECTORY)
-        fprintf(out, "it is %s", kind_of(inode->mode));
+        fprintf(out, "it is a %s", kind_of(inode->mode));
     else if ((inode->inline_flags & DISK_KINDS_NOT_READ) != 0)
         show_marks(out, inode, true, "");
     else if (inode->depth > DISK_MOST_DEPTH)

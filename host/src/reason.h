@@ -9,7 +9,7 @@
 /* Prints why; nothing if there is nothing to add to the answer. */
 void show_stop(FILE *out, const struct stop *stop, const struct card *card);
 
-/* What a file's mode says that it is: 'a directory', 'a symbolic link'. */
+/* What a file's mode says that it is: 'directory', 'symbolic link'. */
 const char *kind_of(uint16_t mode);
 
 #endif

@@ -75,6 +75,15 @@ void show_number(FILE *out, uint64_t number)
     fprintf(out, ",%03" PRIu64, number % 1000);
 }
 
+void show_padded(FILE *out, uint64_t number, int width)
+{
+    int len = 1;
+    for (uint64_t rest = number, digits = 1; rest >= 10; rest /= 10, digits++)
+        len += digits % 3 == 0 ? 2 : 1;
+    fprintf(out, "%*s", len < width ? width - len : 0, "");
+    show_number(out, number);
+}
+
 void show_count(FILE *out, uint64_t count, const char *thing)
 {
     show_number(out, count);

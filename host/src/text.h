@@ -28,6 +28,9 @@ int show_bytes(FILE *out, const char *text, size_t len);
  */
 void show_number(FILE *out, uint64_t number);
 
+/* The same with spaces before it, if it has fewer characters than `width`. */
+void show_padded(FILE *out, uint64_t number, int width);
+
 /* Prints a number of things: '1 block', '4,096 blocks'. */
 void show_count(FILE *out, uint64_t count, const char *thing);
 

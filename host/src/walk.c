@@ -78,11 +78,15 @@ struct step step_of(const struct harptimber_place *place, uint32_t i)
     return way[i];
 }
 
+uint32_t addresses_of(const uint8_t *inode)
+{
+    return (disk_inode_of(inode).inline_flags & DISK_INLINE_XATTR) != 0 ? 873 : 923;
+}
+
 /* A block of the file with this inode; null if it is a hole, or where the walk stops. */
 static const uint8_t *file_block(struct walk *walk, uint32_t number, const uint8_t *inode, uint32_t index)
 {
-    uint32_t addresses = (disk_inode_of(inode).inline_flags & DISK_INLINE_XATTR) != 0 ? 873 : 923;
-    struct harptimber_place place = harptimber_file_place(addresses, index);
+    struct harptimber_place place = harptimber_file_place(addresses_of(inode), index);
     const uint8_t *node = inode, *slots = inode + (place.steps == 1 ? DISK_ADDRESSES : DISK_NODES);
     if (place.answer != HARPTIMBER_DATA)
         return NULL;
@@ -128,6 +132,18 @@ bool dentry_from(const struct dentries *dentries, uint32_t slot, struct dentry *
     return true;
 }
 
+struct stop malformed_at(const struct dentry *dentry, uint32_t address, uint32_t index)
+{
+    return (struct stop){
+        .answer = HARPTIMBER_MALFORMED_SLOT,
+        .in_root = true,
+        .index = index,
+        .address = address,
+        .slot = dentry->slot,
+        .len = dentry->len,
+    };
+}
+
 /* What is sought in the root directory. */
 struct sought {
     const uint8_t *name;
@@ -142,10 +158,7 @@ static bool seek_in_block(struct walk *walk, const struct sought *sought, const 
     struct dentry dentry;
     for (uint32_t slot = 0; dentry_from(&dentries, slot, &dentry); slot = dentry.slot + slots_of(dentry.len)) {
         if (dentry.name == NULL) {
-            walk->stop = (struct stop){.answer = HARPTIMBER_MALFORMED_SLOT, .in_root = true, .index = index};
-            walk->stop.address = (uint32_t)((size_t)(block - walk->card->bytes) / BLOCK_SIZE);
-            walk->stop.slot = dentry.slot;
-            walk->stop.len = dentry.len;
+            walk->stop = malformed_at(&dentry, (uint32_t)((size_t)(block - walk->card->bytes) / BLOCK_SIZE), index);
             return true;
         }
         *inode = dentry.inode;

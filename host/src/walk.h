@@ -37,6 +37,9 @@ const uint8_t *walk_address(struct walk *walk, uint32_t address, uint32_t index)
 /* Walks as a pull does, to its end or to where it stops. */
 struct stop walk_pull(const struct card *card, const uint8_t *name, size_t len, uint32_t index);
 
+/* How many addresses an inode holds. */
+uint32_t addresses_of(const uint8_t *inode);
+
 /* A node on the way to a block's address. */
 struct step {
     uint32_t place, slot;
@@ -64,5 +67,8 @@ bool dentry_from(const struct dentries *dentries, uint32_t slot, struct dentry *
 
 /* How many slots a name needs. */
 uint32_t slots_of(uint32_t len);
+
+/* A stop at a malformed entry, in this block of the card, which is this one of the root directory. */
+struct stop malformed_at(const struct dentry *dentry, uint32_t address, uint32_t index);
 
 #endif
