@@ -75,20 +75,21 @@ static void show_foreign(FILE *out, const struct stop *stop, const struct card *
         }
 }
 
-/* What an inode has that keeps it from being read, whatever kind it is. */
-static void show_marks(FILE *out, const struct disk_inode *inode, bool is_root, const char *between)
+/* What an inode of the right kind has that keeps it from being read. */
+static void show_marks(FILE *out, const struct disk_inode *inode, bool is_root)
 {
     const struct {
         bool is_set;
         const char *words;
     } marks[] = {
-        {(inode->inline_flags & DISK_INLINE_DENTRY) != 0, "its entries are inline"},
+        {(inode->inline_flags & DISK_INLINE_DENTRY) != 0, is_root ? "its entries are inline" : "it is marked as an inline directory"},
         {(inode->inline_flags & DISK_INLINE_DATA) != 0,
-         is_root ? "its bytes are inline" : "its bytes are inline; small and empty files usually are inline"},
+         is_root ? "it is marked as an inline file" : "its bytes are inline; small and empty files usually are inline"},
         {(inode->inline_flags & DISK_EXTRA_ATTR) != 0, "its inode has extra attributes"},
         {(inode->advise & DISK_ADVISE_ENCRYPT) != 0, "it is encrypted"},
         {(inode->flags & DISK_FLAG_COMPRESSED) != 0, "it is compressed"},
     };
+    const char *between = "";
     for (size_t i = 0; i < sizeof marks / sizeof *marks; i++)
         if (marks[i].is_set) {
             fprintf(out, "%s%s", between, marks[i].words);
@@ -98,10 +99,10 @@ static void show_marks(FILE *out, const struct disk_inode *inode, bool is_root, 
 
 static void show_file_kind(FILE *out, const struct disk_inode *inode)
 {
-    bool is_regular = inode->mode >> 12 == DISK_REGULAR;
-    if (!is_regular)
+    if (inode->mode >> 12 != DISK_REGULAR)
         fprintf(out, "it is a %s", kind_of(inode->mode));
-    show_marks(out, inode, false, is_regular ? "" : "; ");
+    else
+        show_marks(out, inode, false);
 }
 
 static void show_root_kind(FILE *out, const struct disk_inode *inode)
@@ -110,7 +111,7 @@ static void show_root_kind(FILE *out, const struct disk_inode *inode)
     if (inode->mode >> 12 != DISK_DIRECTORY)
         fprintf(out, "it is a %s", kind_of(inode->mode));
     else if ((inode->inline_flags & DISK_KINDS_NOT_READ) != 0)
-        show_marks(out, inode, true, "");
+        show_marks(out, inode, true);
     else if (inode->depth > DISK_MOST_DEPTH)
         fprintf(out, "its depth is %" PRIu32 ", over %d", inode->depth, DISK_MOST_DEPTH);
     else
