@@ -93,7 +93,7 @@ static void show_json(const struct cat *cat)
     FILE *out = output_is_standard(cat->request->output) ? stderr : stdout;
     struct asked asked = pull_of(&cat->card, cat->name, cat->blocks);
     struct json json = json_begin(out, "cat", answer, meaning_of(answer));
-    json_reason(&json, answer, &asked);
+    json_asked(&json, answer, &asked);
     json_string(&json, "image", cat->card.path);
     json_name(&json, cat->name);
     json_string(&json, "output", cat->request->output);
@@ -126,9 +126,10 @@ enum status run_cat(const struct request *request)
     static struct cat cat; /* large, so not on the stack */
     cat.request = request;
     cat.name = request->words[1];
-    if (!card_open(&cat.card, request->words[0]))
-        return REFUSED;
-    enum status status = cat_and_tell(&cat);
+    enum status status = card_open(&cat.card, request, request->words[0]);
+    if (status != DONE)
+        return status;
+    status = cat_and_tell(&cat);
     card_close(&cat.card);
     return status;
 }

@@ -11,10 +11,9 @@
 /* Begins an object for a call with this card and this name, which are null if it takes none. */
 static struct json begin(const char *command, uint32_t answer, const struct card *card, const char *name)
 {
-    struct asked asked = {.card = card, .name = name, .len = name == NULL ? 0 : strlen(name)};
     bool has_hash = name != NULL && answer == HARPTIMBER_DATA;
     struct json json = json_begin(stdout, command, answer, has_hash ? "hash" : lookup_meaning_of(answer));
-    json_reason(&json, answer, &asked);
+    json_reason(&json, answer, card, name);
     return json;
 }
 
@@ -52,10 +51,11 @@ enum status run_node(const struct request *request)
     uint32_t number;
     if (!read_number(request->words[1], "NUMBER", &number))
         return MISUSED;
-    if (!card_open(&card, request->words[0]))
-        return REFUSED;
+    enum status status = card_open(&card, request, request->words[0]);
+    if (status != DONE)
+        return status;
     struct harptimber_entry entry = harptimber_node_lookup(card.bytes, card.len, number);
-    enum status status = REFUSED;
+    status = REFUSED;
     if (card_is_settled(&card)) {
         (request->json ? node_json : node_words)(&card, number, entry);
         status = status_of(entry.answer);

@@ -69,7 +69,7 @@ static void json_listed(struct json *json, struct listing *listing, const struct
         json_number(json, "size", disk_inode_of(told.inode).size);
     }
     json_answer(json, told.answer, meaning_of(told.answer));
-    json_reason(json, told.answer, &told.asked);
+    json_asked(json, told.answer, &told.asked);
     json_close(json, '}');
 }
 
@@ -92,17 +92,16 @@ static void show_json(struct listing *listing)
 /* A card that doesn't open. */
 static void show_refusal(const struct request *request, const struct card *card, uint32_t answer)
 {
-    struct asked asked = {.card = card};
     if (request->json) {
         struct json json = json_begin(stdout, "ls", answer, meaning_of(answer));
-        json_reason(&json, answer, &asked);
+        json_reason(&json, answer, card, NULL);
         json_string(&json, "image", card->path);
         json_end(&json);
         return;
     }
     show(stdout, card->path);
     printf(": ");
-    show_asked(stdout, answer, meaning_of(answer), &asked);
+    show_answer(stdout, answer, meaning_of(answer), card, NULL);
     printf("\n");
 }
 
@@ -125,9 +124,10 @@ static enum status list_and_tell(const struct request *request, const struct car
 enum status run_ls(const struct request *request)
 {
     struct card card;
-    if (!card_open(&card, request->words[0]))
-        return REFUSED;
-    enum status status = list_and_tell(request, &card);
+    enum status status = card_open(&card, request, request->words[0]);
+    if (status != DONE)
+        return status;
+    status = list_and_tell(request, &card);
     card_close(&card);
     return status;
 }

@@ -82,7 +82,8 @@ static void show_marks(FILE *out, const struct disk_inode *inode, bool is_root)
         bool is_set;
         const char *words;
     } marks[] = {
-        {(inode->inline_flags & DISK_INLINE_DENTRY) != 0, is_root ? "its entries are inline" : "it is marked as an inline directory"},
+        {(inode->inline_flags & DISK_INLINE_DENTRY) != 0,
+         is_root ? "its entries are inline" : "it is marked as an inline directory"},
         {(inode->inline_flags & DISK_INLINE_DATA) != 0,
          is_root ? "it is marked as an inline file" : "its bytes are inline; small and empty files usually are inline"},
         {(inode->inline_flags & DISK_EXTRA_ATTR) != 0, "its inode has extra attributes"},

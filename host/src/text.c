@@ -92,19 +92,20 @@ void show_count(FILE *out, uint64_t count, const char *thing)
 
 void show_size(FILE *out, uint64_t bytes)
 {
-    static const char *const units[] = {"KiB", "MiB", "GiB", "TiB", "PiB", "EiB"};
+    static const char *const units[] = {"KiB", "MiB", "GiB", "TiB"};
     int power = 0;
-    while (power < 6 && bytes >> 10 * (power + 1) != 0)
+    while (power < 4 && bytes >> 10 * (power + 1) != 0)
         power++;
-    uint64_t unit = (uint64_t)1 << 10 * power;
-    if (power != 0 && bytes % unit == 0) {
-        show_number(out, bytes / unit);
-        fprintf(out, " %s", units[power - 1]);
+    if (power == 0) {
+        show_count(out, bytes, "byte");
         return;
     }
-    show_count(out, bytes, "byte");
-    if (power != 0)
-        fprintf(out, " (%.1f %s)", (double)bytes / (double)unit, units[power - 1]);
+    uint64_t whole = bytes >> 10 * power, rest = bytes & (((uint64_t)1 << 10 * power) - 1);
+    uint64_t tenths = rest * 10 >> 10 * power;
+    show_number(out, whole);
+    if (tenths != 0)
+        fprintf(out, ".%" PRIu64, tenths);
+    fprintf(out, " %s", units[power - 1]);
 }
 
 void show_subject(FILE *out, const char *subject)

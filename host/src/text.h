@@ -34,7 +34,7 @@ void show_padded(FILE *out, uint64_t number, int width);
 /* Prints a number of things: '1 block', '4,096 blocks'. */
 void show_count(FILE *out, uint64_t count, const char *thing);
 
-/* Prints how many bytes something has: '2 GiB', or '3,965,190,144 bytes (3.7 GiB)' where it isn't a round number. */
+/* Prints a number of bytes in the greatest unit of which there is one: '64 MiB', '1.4 GiB', '1 byte'. */
 void show_size(FILE *out, uint64_t bytes);
 
 /* Prints 'harptimber: SUBJECT: ', with which each message begins. */

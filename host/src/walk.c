@@ -2,27 +2,24 @@
 
 #include <string.h>
 
-enum {
-    SUPERBLOCK_AT = 1024, BLOCK_COUNT_AT = 36, MAIN_SEGMENTS_AT = 68, MAIN_AT = 92, SEGMENT_BLOCKS = 512,
-    LEVELS = 29, /* the levels from 29 on lie past a file's last block */
-    SLOT_BYTES = 8, ENTRY_BYTES = 11, MOST_NAME_BYTES = 255
-};
+/* The levels from 29 on lie past a file's last block. */
+enum { LEVELS = 29 };
 
-/* The main area by the first copy of the superblock that may be the one in use. */
+enum { SLOT_BYTES = 8, ENTRY_BYTES = 11, MOST_NAME_BYTES = 255 };
+
+/* The main area by the first copy of the superblock that may be the one in use; on a card that opens there is one. */
 struct walk walk_begin(const struct card *card)
 {
     struct walk walk = {.card = card, .stop.in_root = true};
     for (uint32_t copy = 0; copy < 2 && walk.main_end == 0; copy++) {
-        const uint8_t *block = disk_block(card, copy);
-        const uint8_t *superblock = block == NULL ? NULL : block + SUPERBLOCK_AT;
-        if (block == NULL || disk32(superblock) != 0xF2F52010)
+        const uint8_t *superblock = disk_superblock(card, copy);
+        if (superblock == NULL || disk32(superblock) != DISK_MARK)
             continue;
-        uint64_t first = disk32(superblock + MAIN_AT);
-        uint64_t end = first + (uint64_t)SEGMENT_BLOCKS * disk32(superblock + MAIN_SEGMENTS_AT);
-        if (end <= disk64(superblock + BLOCK_COUNT_AT) && end <= card->len / BLOCK_SIZE) {
-            walk.main_first = first;
-            walk.main_end = end;
-        }
+        uint64_t end = disk_area_end(superblock, DISK_MAIN);
+        if (end > disk64(superblock + DISK_BLOCK_COUNT_AT) || end > card->len / BLOCK_SIZE)
+            continue;
+        walk.main_first = disk_area_first(superblock, DISK_MAIN);
+        walk.main_end = end;
     }
     return walk;
 }

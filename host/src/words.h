@@ -26,17 +26,18 @@ struct asked {
 /* A pull of a file's block. */
 struct asked pull_of(const struct card *card, const char *name, uint32_t index);
 
-/* Why the library answered so, in plain text; null if there is nothing to add. It has to be freed. */
-char *reason_of(uint32_t answer, const struct asked *asked);
-
 /* Prints 'MEANING (answer N)' and, where there is one, ': ' and the reason. */
 void show_asked(FILE *out, uint32_t answer, const char *meaning, const struct asked *asked);
 
 /* The same for a call with this card and this name, which are null if it takes none, that is no pull. */
 void show_answer(FILE *out, uint32_t answer, const char *meaning, const struct card *card, const char *name);
 
-/* The reason in an object, where there is one. */
-void json_reason(struct json *json, uint32_t answer, const struct asked *asked);
+/* Why such a call was answered so, in plain text; null if there is nothing to add. The caller frees it. */
+char *reason_of(uint32_t answer, const struct card *card, const char *name);
+
+/* The reason as a member of a JSON object. */
+void json_asked(struct json *json, uint32_t answer, const struct asked *asked);
+void json_reason(struct json *json, uint32_t answer, const struct card *card, const char *name);
 
 /* Prints what the node address table says of a number. */
 void show_entry(FILE *out, struct harptimber_entry entry);
