@@ -7,7 +7,8 @@ use harptimber_tests::program::{host, ran, run, Word, Words};
 use harptimber_tests::program_page::{expect_keys_on_page, meaning};
 
 /// Each command with as many words as it needs. The files aren't there: usage comes first.
-const COMMANDS: [(&str, &[&str]); 6] = [
+const COMMANDS: [(&str, &[&str]); 7] = [
+    ("ls", &["card.img"]),
     ("pull", &["card.img", "road.bin", "0"]),
     ("cat", &["card.img", "road.bin"]),
     ("compare", &["kept.img", "new.img", "road.bin"]),
@@ -73,10 +74,10 @@ fn unknown_commands_and_options() {
 /// An option of another command.
 #[test]
 fn options_elsewhere() {
-    for command in ["cat", "compare", "node", "place", "hash"] {
+    for command in ["ls", "cat", "compare", "node", "place", "hash"] {
         expect_usage_with(&line_of(command), &["--lists"]);
     }
-    for command in ["compare", "node", "place", "hash"] {
+    for command in ["ls", "compare", "node", "place", "hash"] {
         expect_usage_with(&line_of(command), &["-o", "file"]);
         expect_usage_with(&line_of(command), &["--output=file"]);
     }
@@ -182,7 +183,8 @@ fn help() {
 }
 
 /// The options of each command's own page, beside --help.
-const PAGES: [(&str, &[&str]); 6] = [
+const PAGES: [(&str, &[&str]); 7] = [
+    ("ls", &["--json"]),
     ("pull", &["-o", "--lists", "--json"]),
     ("cat", &["-o", "--json"]),
     ("compare", &["--json"]),
