@@ -25,12 +25,13 @@ static void read_info(struct info *info, const struct card *card)
     info->card = card;
     opening_read(&info->opening, card);
     const struct opening *opening = &info->opening;
-    info->reason = reason_of(opening->answer, card, "");
+    info->reason = reason_of(opening->answer, card, NULL);
     bool used = opening->agrees && opening->copy_in_use != NONE_IN_USE;
     info->superblock = used ? disk_superblock(card, (uint32_t)opening->copy_in_use) : NULL;
     if (info->superblock != NULL)
         disk_label(info->superblock, info->label);
-    partitions_read(&info->partitions, card->map, card->file_len);
+    if (opening->answer != HARPTIMBER_DATA)
+        partitions_read(&info->partitions, card->map, card->file_len);
 }
 
 static const char *meaning(uint32_t answer)
@@ -114,8 +115,8 @@ static void info_words(const struct info *info)
 {
     const struct opening *opening = &info->opening;
     show(stdout, info->card->path);
-    printf(": ");
-    show_answer(stdout, opening->answer, meaning(opening->answer), info->card, "");
+    printf(opening->answer == HARPTIMBER_DATA ? ": " : ": can't be read: ");
+    show_answer(stdout, opening->answer, meaning(opening->answer), info->card, NULL);
     printf("\n");
     if (info->superblock != NULL)
         words_volume(info);

@@ -75,7 +75,7 @@ static void json_listed(struct json *json, struct listing *listing, const struct
 
 static void show_json(struct listing *listing)
 {
-    struct json json = json_begin(stdout, "ls", HARPTIMBER_DATA, "listed");
+    struct json json = json_begin(stdout, "ls", HARPTIMBER_DATA, "can be read");
     json_string(&json, "image", listing->walk.card->path);
     json_flag(&json, "complete", listing_is_complete(listing));
     json_open(&json, "names", '[');

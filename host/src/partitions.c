@@ -205,21 +205,32 @@ const struct partition *partitions_find(const struct partitions *partitions, uin
     return NULL;
 }
 
+const struct partition *partitions_only_marked(const struct partitions *partitions)
+{
+    const struct partition *only = NULL;
+    for (uint32_t i = 0; i < partitions->count; i++)
+        if (partitions->list[i].marked) {
+            if (only != NULL)
+                return NULL;
+            only = &partitions->list[i];
+        }
+    return only;
+}
+
 void show_partitions(FILE *out, const struct partitions *partitions)
 {
     if (partitions->table == NULL) {
-        fputs("no partition table is there", out);
+        fputs("the file has no partition table", out);
         return;
     }
-    if (partitions->damaged || partitions->count == 0) {
-        fprintf(out, "a disk with a partition table (%s) that %s", partitions->table,
-                partitions->damaged ? "is damaged" : "has no partition");
-        return;
-    }
-    fprintf(out, "a disk with partitions (%s):", partitions->table);
+    fprintf(out, "the file is a disk with partitions (%s)", partitions->table);
+    if (partitions->damaged)
+        fputs(", but the table is damaged", out);
+    else if (partitions->count == 0)
+        fputs(", but the table is empty", out);
     for (uint32_t i = 0; i < partitions->count; i++) {
         const struct partition *partition = &partitions->list[i];
-        fprintf(out, "%s %" PRIu32 " at byte %" PRIu64 "%s", i == 0 ? "" : ",", partition->number, partition->first,
+        fprintf(out, "%s %" PRIu32 " at byte %" PRIu64 "%s", i == 0 ? ":" : ",", partition->number, partition->first,
                 partition->marked ? " with an F2FS mark" : "");
     }
 }

@@ -28,7 +28,10 @@ void partitions_read(struct partitions *partitions, const uint8_t *disk, size_t 
 /* The partition of that number, or null. */
 const struct partition *partitions_find(const struct partitions *partitions, uint32_t number);
 
-/* Prints which partitions a disk has, in plain text on one line. */
+/* The partition with an F2FS mark, if there is just one; else null. */
+const struct partition *partitions_only_marked(const struct partitions *partitions);
+
+/* Prints which partitions a file has, in plain text on one line. */
 void show_partitions(FILE *out, const struct partitions *partitions);
 
 #endif

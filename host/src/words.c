@@ -74,16 +74,19 @@ static void show_bad_length(FILE *out, const struct card *card)
     }
 }
 
-/* What the file is if it is a disk. Returns whether that was said. */
+/* What the file is if it is a disk, and what to do then. Returns whether that was said. */
 static bool show_disk(FILE *out, const struct card *card)
 {
     struct partitions partitions;
     partitions_read(&partitions, card->map, card->file_len);
     if (partitions.table == NULL)
         return false;
-    fputs("; the file is ", out);
+    fputs("; ", out);
     show_partitions(out, &partitions);
-    if (partitions.count != 0)
+    const struct partition *marked = partitions_only_marked(&partitions);
+    if (marked != NULL)
+        fprintf(out, "; --partition %" PRIu32 " takes that one", marked->number);
+    else if (partitions.count != 0)
         fputs("; --partition N takes one", out);
     return true;
 }
@@ -95,7 +98,7 @@ static void show_out_of_shape(FILE *out, const struct asked *asked)
         show_bad_length(out, asked->card);
         show_disk(out, asked->card);
     } else if (asked->name == NULL) {
-        fputs("A has to be 873 or 923", out);
+        fputs(asked->card == NULL ? "A has to be 873 or 923" : "", out);
     } else if (asked->len == 0) {
         fputs("the name is empty", out);
     } else if (asked->len > MOST_NAME_BYTES) {

@@ -9,7 +9,23 @@ use crate::program::host;
 const HEAD: [&str; 4] = ["command", "answer", "meaning", "reason"];
 
 /// The keys that each command's JSON may have beside them.
-const KEYS: [(&str, &[&str]); 7] = [
+const KEYS: [(&str, &[&str]); 8] = [
+    (
+        "info",
+        &[
+            "image",
+            "offset",
+            "bytes",
+            "label",
+            "blocks",
+            "features",
+            "areas",
+            "copies",
+            "packs",
+            "table",
+            "partitions",
+        ],
+    ),
     ("ls", &["image", "complete", "problems", "names"]),
     (
         "pull",
@@ -41,7 +57,14 @@ const KEYS: [(&str, &[&str]); 7] = [
 ];
 
 /// Those of the objects inside, by the key under which they stand.
-const INNER_KEYS: [(&str, &[&str]); 4] = [
+const INNER_KEYS: [(&str, &[&str]); 8] = [
+    ("areas", &["area", "first", "segments"]),
+    ("copies", &["passes", "in_use", "reason"]),
+    (
+        "packs",
+        &["passes", "in_use", "reason", "version", "flags", "clean"],
+    ),
+    ("partitions", &["number", "first", "bytes", "marked"]),
     (
         "names",
         &[
