@@ -26,6 +26,13 @@ const struct command commands[] = {
      "  0  the card can be read\n"
      "  2  it can't\n",
      run_info},
+    {"ls", "IMAGE", 1, 1, A_PART | TAKES(JSON),
+     "the names in the root directory, and what a pull of each answers",
+     "List the names in the root directory of the card IMAGE: each file's size in bytes, its name, and what a\n"
+     "pull of its block 0 answers, which is 3 for an empty file. '.' and '..' are left out.\n",
+     "  0  all names\n"
+     "  2  names may be missing, since the directory is damaged, or the card can't be read\n",
+     run_ls},
     {"pull", "IMAGE NAME INDEX", 3, 3, TAKES(OUTPUT) | TAKES(LISTS) | A_PART | TAKES(JSON),
      "one block of a file in the root directory",
      "Pull block INDEX of the file NAME from the card IMAGE. Blocks have 4,096 bytes, and a file's\n"

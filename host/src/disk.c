@@ -38,6 +38,9 @@ struct disk_inode disk_inode_of(const uint8_t *block)
         .inline_flags = block[3],
         .links = disk32(block + 12),
         .size = disk64(block + 16),
+        .depth = disk32(block + 72),
+        .flags = disk32(block + 80),
+        .dir_level = block[347],
     };
 }
 

@@ -29,6 +29,8 @@ struct disk_inode {
     uint8_t advise, inline_flags;
     uint32_t links;
     uint64_t size;
+    uint32_t depth, flags;
+    uint8_t dir_level;
 };
 
 enum {
@@ -36,8 +38,19 @@ enum {
     DISK_INLINE_DATA = 0x02,
     DISK_INLINE_DENTRY = 0x04,
     DISK_EXTRA_ATTR = 0x20,
-    DISK_ADVISE_ENCRYPT = 0x04
+    DISK_ADVISE_ENCRYPT = 0x04,
+    DISK_FLAG_COMPRESSED = 0x04,
+    DISK_KINDS_NOT_READ = DISK_INLINE_DATA | DISK_INLINE_DENTRY | DISK_EXTRA_ATTR
 };
+
+/* The kinds that are read, by a mode's top four bits, and the most depth of a directory that is. */
+enum { DISK_DIRECTORY = 4, DISK_REGULAR = 8, DISK_MOST_DEPTH = 63 };
+
+/* Where an inode has its addresses and its five node numbers. */
+enum { DISK_ADDRESSES = 360, DISK_NODES = 4052 };
+
+/* Where every node block has its number, its inode's and, eight times, its place. */
+enum { DISK_FOOTER_NUMBER = 4072, DISK_FOOTER_INODE = 4076, DISK_FOOTER_FLAG = 4080 };
 
 struct disk_inode disk_inode_of(const uint8_t *block);
 

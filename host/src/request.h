@@ -18,6 +18,7 @@ struct request {
 };
 
 /* Each runs a command and says what to end with. */
+enum status run_ls(const struct request *request);
 enum status run_pull(const struct request *request);
 enum status run_cat(const struct request *request);
 enum status run_compare(const struct request *request);

@@ -6,9 +6,10 @@
 
 #include "opening.h"
 #include "partitions.h"
+#include "reason.h"
 #include "text.h"
 
-enum { MOST_NAME_BYTES = 255 };
+enum { MOST_NAME_BYTES = 255, GIB = 1 << 30 };
 
 const char *meaning_of(uint32_t answer)
 {
@@ -25,7 +26,7 @@ const char *meaning_of(uint32_t answer)
         [HARPTIMBER_NO_NODE] = "a node number out of range or not in use",
         [HARPTIMBER_NODE_OUTSIDE] = "a node's address lies outside the main area",
         [HARPTIMBER_FOREIGN_NODE] = "a node block belongs elsewhere",
-        [HARPTIMBER_KIND_NOT_READ] = "an inode of a kind that isn't read: no regular file, or inline",
+        [HARPTIMBER_KIND_NOT_READ] = "an inode of a kind that isn't read",
         [HARPTIMBER_DATA_OUTSIDE] = "a data address lies outside the main area",
         [HARPTIMBER_MALFORMED_SLOT] = "a directory entry doesn't fit its block",
         [HARPTIMBER_SAME] = "same",
@@ -56,14 +57,20 @@ bool length_is_in_shape(const struct card *card)
 
 static void show_bad_length(FILE *out, const struct card *card)
 {
-    size_t blocks = card->len / BLOCK_SIZE;
     fputs("the image has ", out);
     if (card->len % BLOCK_SIZE != 0) {
         show_count(out, card->len, "byte");
         fputs(", which isn't a whole number of 4,096-byte blocks", out);
+    } else if (card->len / BLOCK_SIZE < FEWEST_CARD_BLOCKS) {
+        fputs("1 block of 4,096 bytes; a card has at least 2", out);
     } else {
-        show_count(out, blocks, "block");
-        fputs(blocks < FEWEST_CARD_BLOCKS ? "; a card has at least 2" : "; at most 262,144 are read", out);
+        show_size(out, card->len);
+        if (card->len % GIB != 0) {
+            fputs(" (", out);
+            show_count(out, card->len, "byte");
+            fputs(")", out);
+        }
+        fputs("; at most 1 GiB is read", out);
     }
 }
 
@@ -85,19 +92,24 @@ static bool show_disk(FILE *out, const struct card *card)
 }
 
 /* Why a call is out of shape. With neither card nor name it is place's, which has nothing else to refuse. */
-static void show_out_of_shape(FILE *out, const struct card *card, const char *name)
+static void show_out_of_shape(FILE *out, const struct asked *asked)
 {
-    if (card != NULL && !length_is_in_shape(card)) {
-        show_bad_length(out, card);
-        show_disk(out, card);
-    } else if (name == NULL)
-        fputs(card == NULL ? "A has to be 873 or 923" : "", out);
-    else if (*name == '\0')
+    if (asked->card != NULL && !length_is_in_shape(asked->card)) {
+        show_bad_length(out, asked->card);
+        show_disk(out, asked->card);
+    } else if (asked->name == NULL) {
+        fputs(asked->card == NULL ? "A has to be 873 or 923" : "", out);
+    } else if (asked->len == 0) {
         fputs("the name is empty", out);
-    else if (strlen(name) > MOST_NAME_BYTES)
-        fprintf(out, "the name has %zu bytes; at most 255 are possible", strlen(name));
-    else
-        fprintf(out, "the name has a slash%s", card == NULL ? "" : "; only the root directory is read");
+    } else if (asked->len > MOST_NAME_BYTES) {
+        fputs("the name has ", out);
+        show_count(out, asked->len, "byte");
+        fputs("; at most 255 are possible", out);
+    } else if (memchr(asked->name, '/', asked->len) == NULL) {
+        fputs("the name has a zero byte", out);
+    } else {
+        fprintf(out, "the name has a slash%s", asked->card == NULL ? "" : "; only the root directory is read");
+    }
 }
 
 /* Why a card doesn't open. */
@@ -108,50 +120,86 @@ static void show_unopened(FILE *out, const struct card *card, uint32_t answer)
     fputs(opening.answer == answer ? opening.why : "", out);
     bool marked = opening.copies[0].marked || opening.copies[1].marked;
     if (answer == HARPTIMBER_NO_SUPERBLOCK && !show_disk(out, card) && !marked)
-        fputs("; is it another file system?", out);
+        fputs("; perhaps it is another file system", out);
 }
 
-static void show_reason(FILE *out, uint32_t answer, const struct card *card, const char *name)
+/* A walk that stops elsewhere than the library found no reason. */
+static void show_pull_reason(FILE *out, uint32_t answer, const struct asked *asked)
+{
+    struct stop stop = walk_pull(asked->card, (const uint8_t *)asked->name, asked->len, asked->index);
+    if (stop.answer == answer)
+        show_stop(out, &stop, asked->card);
+}
+
+static void show_reason(FILE *out, uint32_t answer, const struct asked *asked)
 {
     if (answer == HARPTIMBER_OUT_OF_SHAPE)
-        show_out_of_shape(out, card, name);
+        show_out_of_shape(out, asked);
     else if (answer >= HARPTIMBER_NO_SUPERBLOCK && answer <= HARPTIMBER_UNREADABLE)
-        show_unopened(out, card, answer);
-    else if (answer == HARPTIMBER_KIND_NOT_READ)
-        fputs("small and empty files usually are", out);
+        show_unopened(out, asked->card, answer);
+    else if (asked->is_pull && (answer == HARPTIMBER_PAST_END || answer > HARPTIMBER_UNREADABLE))
+        show_pull_reason(out, answer, asked);
 }
 
-char *reason_of(uint32_t answer, const struct card *card, const char *name)
+struct asked pull_of(const struct card *card, const char *name, uint32_t index)
+{
+    return (struct asked){.card = card, .name = name, .len = strlen(name), .is_pull = true, .index = index};
+}
+
+/* A call that is no pull. */
+static struct asked call_of(const struct card *card, const char *name)
+{
+    return (struct asked){.card = card, .name = name, .len = name == NULL ? 0 : strlen(name)};
+}
+
+static char *reason_of_asked(uint32_t answer, const struct asked *asked)
 {
     char *reason = NULL;
     size_t len = 0;
     FILE *out = open_memstream(&reason, &len);
     if (out == NULL)
         return NULL;
-    show_reason(out, answer, card, name);
+    show_reason(out, answer, asked);
     if (fclose(out) == 0 && len != 0)
         return reason;
     free(reason);
     return NULL;
 }
 
+char *reason_of(uint32_t answer, const struct card *card, const char *name)
+{
+    struct asked asked = call_of(card, name);
+    return reason_of_asked(answer, &asked);
+}
+
+/* What is out of shape is told by the reason, instead of all that could be. */
+void show_asked(FILE *out, uint32_t answer, const char *meaning, const struct asked *asked)
+{
+    char *reason = reason_of_asked(answer, asked);
+    fprintf(out, "%s (answer %" PRIu32 ")", answer == HARPTIMBER_OUT_OF_SHAPE ? "out of shape" : meaning, answer);
+    if (reason != NULL)
+        fprintf(out, ": %s", reason);
+    free(reason);
+}
+
 void show_answer(FILE *out, uint32_t answer, const char *meaning, const struct card *card, const char *name)
 {
-    char *reason = reason_of(answer, card, name);
-    if (answer == HARPTIMBER_OUT_OF_SHAPE)
-        fprintf(out, "out of shape (answer %" PRIu32 ")%s", answer, reason == NULL ? "" : ": ");
-    else
-        fprintf(out, "%s (answer %" PRIu32 ")%s", meaning, answer, reason == NULL ? "" : "; ");
-    fputs(reason == NULL ? "" : reason, out);
+    struct asked asked = call_of(card, name);
+    show_asked(out, answer, meaning, &asked);
+}
+
+void json_asked(struct json *json, uint32_t answer, const struct asked *asked)
+{
+    char *reason = reason_of_asked(answer, asked);
+    if (reason != NULL)
+        json_string(json, "reason", reason);
     free(reason);
 }
 
 void json_reason(struct json *json, uint32_t answer, const struct card *card, const char *name)
 {
-    char *reason = reason_of(answer, card, name);
-    if (reason != NULL)
-        json_string(json, "reason", reason);
-    free(reason);
+    struct asked asked = call_of(card, name);
+    json_asked(json, answer, &asked);
 }
 
 void show_entry(FILE *out, struct harptimber_entry entry)

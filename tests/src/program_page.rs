@@ -9,7 +9,7 @@ use crate::program::host;
 const HEAD: [&str; 4] = ["command", "answer", "meaning", "reason"];
 
 /// The keys that each command's JSON may have beside them.
-const KEYS: [(&str, &[&str]); 7] = [
+const KEYS: [(&str, &[&str]); 8] = [
     (
         "info",
         &[
@@ -26,6 +26,7 @@ const KEYS: [(&str, &[&str]); 7] = [
             "partitions",
         ],
     ),
+    ("ls", &["image", "complete", "problems", "names"]),
     (
         "pull",
         &[
@@ -56,7 +57,7 @@ const KEYS: [(&str, &[&str]); 7] = [
 ];
 
 /// Those of the objects inside, by the key under which they stand.
-const INNER_KEYS: [(&str, &[&str]); 7] = [
+const INNER_KEYS: [(&str, &[&str]); 8] = [
     ("areas", &["area", "first", "segments"]),
     ("copies", &["passes", "in_use", "reason"]),
     (
@@ -64,6 +65,12 @@ const INNER_KEYS: [(&str, &[&str]); 7] = [
         &["passes", "in_use", "reason", "version", "flags", "clean"],
     ),
     ("partitions", &["number", "first", "bytes", "marked"]),
+    (
+        "names",
+        &[
+            "name", "name_hex", "inode", "kind", "size", "answer", "meaning", "reason",
+        ],
+    ),
     (
         "runs",
         &[
@@ -208,6 +215,15 @@ pub fn shown(name: &[u8]) -> String {
         [chunk.valid(), &wrong].concat()
     };
     name.utf8_chunks().map(each).collect()
+}
+
+/// So many things, as words have it: "1 block", "4,096 blocks".
+pub fn counted(count: usize, thing: &str) -> String {
+    let digits = count.to_string();
+    let groups = digits.as_bytes().rchunks(3).rev();
+    let groups = groups.map(|group| std::str::from_utf8(group).expect("digits"));
+    let plural = if count == 1 { "" } else { "s" };
+    format!("{} {thing}{plural}", groups.collect::<Vec<_>>().join(","))
 }
 
 /// Data, holes and what was found are read; everything else is refused.

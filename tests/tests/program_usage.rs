@@ -7,8 +7,9 @@ use harptimber_tests::program::{host, ran, run, Word, Words};
 use harptimber_tests::program_page::{expect_keys_on_page, meaning};
 
 /// Each command with as many words as it needs. The files aren't there: usage comes first.
-const COMMANDS: [(&str, &[&str]); 7] = [
+const COMMANDS: [(&str, &[&str]); 8] = [
     ("info", &["card.img"]),
+    ("ls", &["card.img"]),
     ("pull", &["card.img", "road.bin", "0"]),
     ("cat", &["card.img", "road.bin"]),
     ("compare", &["kept.img", "new.img", "road.bin"]),
@@ -74,14 +75,14 @@ fn unknown_commands_and_options() {
 /// An option of another command.
 #[test]
 fn options_elsewhere() {
-    for command in ["info", "cat", "compare", "node", "place", "hash"] {
+    for command in ["info", "ls", "cat", "compare", "node", "place", "hash"] {
         expect_usage_with(&line_of(command), &["--lists"]);
     }
     for command in ["place", "hash"] {
         expect_usage_with(&line_of(command), &["--offset", "0"]);
         expect_usage_with(&line_of(command), &["--partition=1"]);
     }
-    for command in ["info", "compare", "node", "place", "hash"] {
+    for command in ["info", "ls", "compare", "node", "place", "hash"] {
         expect_usage_with(&line_of(command), &["-o", "file"]);
         expect_usage_with(&line_of(command), &["--output=file"]);
     }
@@ -142,7 +143,10 @@ fn no_numbers() {
 fn no_numbers_of_parts() {
     let wide = ["4294967296", "4294967297"];
     let too_wide = "9223372036854775808";
-    for (command, _) in COMMANDS.iter().filter(|(of, _)| *of != "place" && *of != "hash") {
+    for (command, _) in COMMANDS
+        .iter()
+        .filter(|(of, _)| *of != "place" && *of != "hash")
+    {
         let offsets = NO_NUMBERS.iter().filter(|wrong| !wide.contains(wrong));
         for wrong in offsets.chain([&too_wide]) {
             expect_usage(&[&line_of(command)[..], &["--offset", wrong]].concat());
@@ -201,16 +205,27 @@ fn help() {
             let named = ran.words().split_whitespace().any(is_word);
             assert!(named, "no {command} in {ran:?}");
         }
-        for option in ["--json", "--lists", "-o", "--offset", "--partition", "--version"] {
+        for option in [
+            "--json",
+            "--lists",
+            "-o",
+            "--offset",
+            "--partition",
+            "--version",
+        ] {
             assert!(ran.words().contains(option), "no {option} in {ran:?}");
         }
     }
 }
 
 /// The options of each command's own page, beside --help.
-const PAGES: [(&str, &[&str]); 7] = [
+const PAGES: [(&str, &[&str]); 8] = [
     ("info", &["--offset", "--partition", "--json"]),
-    ("pull", &["-o", "--lists", "--offset", "--partition", "--json"]),
+    ("ls", &["--offset", "--partition", "--json"]),
+    (
+        "pull",
+        &["-o", "--lists", "--offset", "--partition", "--json"],
+    ),
     ("cat", &["-o", "--offset", "--partition", "--json"]),
     ("compare", &["--offset", "--partition", "--json"]),
     ("node", &["--offset", "--partition", "--json"]),
