@@ -49,11 +49,13 @@ static void words_area(const uint8_t *superblock, int area)
 {
     uint32_t first = disk_area_first(superblock, area), segments = disk_area_segments(superblock, area);
     printf("%s area: ", disk_areas[area].name);
-    if (segments == 0)
+    if (segments == 0) {
         printf("none\n");
-    else
-        printf("blocks %" PRIu32 " to %" PRIu64 " (%" PRIu32 " segment%s)\n", first, disk_area_end(superblock, area) - 1, segments,
-               segments == 1 ? "" : "s");
+        return;
+    }
+    printf("blocks %" PRIu32 " to %" PRIu64 " (", first, disk_area_end(superblock, area) - 1);
+    show_count(stdout, segments, "segment");
+    printf(")\n");
 }
 
 static void words_volume(const struct info *info)
@@ -66,8 +68,9 @@ static void words_volume(const struct info *info)
     uint64_t blocks = disk64(superblock + DISK_BLOCK_COUNT_AT);
     printf("\nsize: ");
     show_size(stdout, blocks * BLOCK_SIZE);
-    printf(", %" PRIu64 " blocks of 4096 bytes\n", blocks);
-    printf("features: %s\n", *features == '\0' ? "none" : features);
+    printf(", ");
+    show_count(stdout, blocks, "block");
+    printf(" of 4,096 bytes\nfeatures: %s\n", *features == '\0' ? "none" : features);
     for (int area = 0; area < DISK_AREAS; area++)
         words_area(superblock, area);
 }

@@ -62,7 +62,8 @@ static void show_bad_length(FILE *out, const struct card *card)
         show_count(out, card->len, "byte");
         fputs(", which isn't a whole number of 4,096-byte blocks", out);
     } else if (card->len / BLOCK_SIZE < FEWEST_CARD_BLOCKS) {
-        fputs("1 block of 4,096 bytes; a card has at least 2", out);
+        show_count(out, card->len / BLOCK_SIZE, "block");
+        fputs(" of 4,096 bytes; a card has at least 2", out);
     } else {
         show_size(out, card->len);
         if (card->len % GIB != 0) {

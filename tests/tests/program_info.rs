@@ -146,13 +146,11 @@ fn words() {
     let disk = OnDisk::new(image);
     let path = disk.path();
     let path = path.to_str().unwrap();
-    let blocks = knobs.areas().block_count;
     let first = format!("{path}: {} (answer 0)", meaning("info", 0));
-    let size = format!("size: 14 MiB, {blocks} blocks of 4096 bytes");
     let lines = [
         first.as_str(),
         "label: Bremse",
-        &size,
+        "size: 14 MiB, 3,586 blocks of 4,096 bytes",
         "features: none",
         "checkpoint area: blocks 2 to 1025 (2 segments)",
         "SIT area: blocks 1026 to 2049 (2 segments)",
@@ -358,7 +356,7 @@ const COPY_RULES: [(Field, u64, &str); 24] = [
     (
         BLOCK_COUNT,
         6326,
-        "it counts 6326 blocks, the image has 6325",
+        "it counts 6,326 blocks, the image has 6,325",
     ),
 ];
 
@@ -553,7 +551,7 @@ fn expect_reason(image: Image, answer: u32, reason: &str) {
     assert_eq!(json["reason"].text(), reason);
     let pull: Words = &[&"pull", &"--json", &disk.path(), &"name", &"0"];
     assert_eq!(run(pull).expect(2).json()["reason"].text(), reason);
-    let said = format!("{} (answer {answer}); {reason}\n", meaning("pull", answer));
+    let said = format!("{} (answer {answer}): {reason}\n", meaning("pull", answer));
     let lines: [Words; 2] = [&[&"info", &disk.path()], &[&"node", &disk.path(), &"3"]];
     for line in lines {
         let ran = run(line).expect(2);

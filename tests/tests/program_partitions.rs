@@ -14,7 +14,7 @@ use harptimber_tests::layout::superblock::MAGIC;
 use harptimber_tests::layout::BLOCK_SIZE;
 use harptimber_tests::program::{run, Ran, Word, Words};
 use harptimber_tests::program_card::{shared_card, LONG, ROAD};
-use harptimber_tests::program_page::expect_head;
+use harptimber_tests::program_page::{expect_head, with_commas};
 use harptimber_tests::random_card::pick;
 use harptimber_tests::special_build::SpecialBuild;
 use harptimber_tests::trial::Random;
@@ -393,7 +393,7 @@ fn no_tables() {
         expect_hint(
             &disk,
             5,
-            "both copies: no F2FS mark; is it another file system?",
+            "both copies: no F2FS mark; perhaps it is another file system",
         );
         let json = info_of(&disk, 5);
         assert!(json.get("table").is_none() && json.get("partitions").is_none());
@@ -409,7 +409,7 @@ fn no_tables() {
 #[test]
 fn cut_disks() {
     let (disk, _) = disk_with(EXTENDED[0]);
-    let blocks = card().bytes().len() / BLOCK_SIZE;
+    let blocks = with_commas(card().bytes().len() / BLOCK_SIZE);
     disk.set_len(start() + 100 * BLOCK_SIZE as u64 + 5);
     let info: Words = &[&"info", &"--json", &"--partition", &"2", &disk.path()];
     let json = run(info).expect(2).json();
@@ -451,7 +451,7 @@ fn offsets() {
         let ran = run(info).expect(2);
         let said = match blocks {
             "2 blocks" => "no F2FS mark".to_string(),
-            _ => format!("the image has {blocks}; a card has at least 2"),
+            _ => format!("the image has {blocks} of 4,096 bytes; a card has at least 2"),
         };
         assert!(ran.words().contains(&said), "no '{said}' in {ran:?}");
     }

@@ -15,7 +15,7 @@ use harptimber_tests::layout::superblock::{
 use harptimber_tests::layout::{Field, BLOCK_SIZE};
 use harptimber_tests::on_disk::{OnDisk, Shared};
 use harptimber_tests::program::{run, Words};
-use harptimber_tests::program_page::{counted, expect_head, expect_name, meaning};
+use harptimber_tests::program_page::{counted, expect_head, expect_name, meaning, with_commas};
 use harptimber_tests::published::{formatted, Scratch};
 
 const NAME: &[u8] = b"road.bin";
@@ -95,7 +95,11 @@ impl Images {
             );
         }
         let [count, left] = [whole, whole - block].map(|len| len / block);
-        let why = format!("; both copies: it counts {count} blocks, the image has {left}");
+        let counts = [count, left].map(|blocks| with_commas(blocks as usize));
+        let why = format!(
+            ": both copies: it counts {} blocks, the image has {}",
+            counts[0], counts[1]
+        );
         self.add_length(whole - block, 5, &why);
     }
 
@@ -110,39 +114,43 @@ impl Images {
     fn add_damaged(&mut self) {
         let pack = sound().first_block(0);
         let flags = sound().get(pack, CKPT_FLAGS) | u64::from(CP_LARGE_NAT_BITMAP_FLAG);
-        let why = "; features: encrypt";
+        let why = ": features: encrypt";
         self.add_changed("a feature", 6, why, &[(0, FEATURE, 1)]);
-        let why = "; cp_payload is 1";
+        let why = ": cp_payload is 1";
         self.add_changed("a payload", 6, why, &[(0, CP_PAYLOAD, 1)]);
         let sum = sound().get(pack, CHECKSUM);
         let why = format!(
-            "; pack 1: the checksum of its first block is 00000001, its bytes make {sum:08x}; \
+            ": pack 1: the checksum of its first block is 00000001, its bytes make {sum:08x}; \
              pack 2: its first block is all zeros"
         );
         self.add_changed("no checksum", 7, &why, &[(pack, CHECKSUM, 1)]);
-        let why = "; the NAT journal counts 39 entries, at most 38 fit";
+        let why = ": the NAT journal counts 39 entries, at most 38 fit";
         self.add_changed("39 in the journal", 8, why, &[(pack + 1, N_NATS, 39)]);
         let mut image = sound();
         image.set_sealed(pack, CKPT_FLAGS, flags);
-        let why = "; large_nat_bitmap is set, which isn't read";
+        let why = ": large_nat_bitmap is set, which isn't read";
         self.add("a large map", 8, why, &image);
     }
 
     /// With and without a mark, and with more blocks than there are in the one copy or the other.
     fn add_without_superblock(&mut self) {
-        let no_mark = "; both copies: no F2FS mark; is it another file system?";
+        let no_mark = ": both copies: no F2FS mark; perhaps it is another file system";
         let fields = [(0, MAGIC, 0), (1, MAGIC, 0)];
         self.add_changed("no mark", 5, no_mark, &fields);
         let fields = [(0, LOG_BLOCKSIZE, 13), (1, LOG_BLOCKSIZE, 13)];
-        let why = "; both copies: log_blocksize is 13, not 12";
+        let why = ": both copies: log_blocksize is 13, not 12";
         self.add_changed("larger blocks", 5, why, &fields);
         let blocks = sound().bytes().len() / BLOCK_SIZE;
         let count = (1 << 33) + 9;
         for (copy, other) in [(0, 1), (1, 0)] {
-            let counts = format!("it counts {count} blocks, the image has {blocks}");
+            let counts = [count, blocks as u64].map(|blocks| with_commas(blocks as usize));
+            let counts = format!(
+                "it counts {} blocks, the image has {}",
+                counts[0], counts[1]
+            );
             let mut whys = ["no F2FS mark"; 2];
             whys[copy as usize] = &counts;
-            let why = format!("; copy 1: {}; copy 2: {}", whys[0], whys[1]);
+            let why = format!(": copy 1: {}; copy 2: {}", whys[0], whys[1]);
             let name = format!("many blocks by copy {copy}");
             let fields = [(copy, BLOCK_COUNT, count), (other, MAGIC, 0)];
             self.add_changed(&name, 5, &why, &fields);
@@ -156,7 +164,12 @@ impl Images {
             ("-O extra_attr", 6, "features: extra_attr"),
             ("-i", 7, large),
         ] {
-            self.add(options, answer, &format!("; {why}"), &formatted(64, options));
+            self.add(
+                options,
+                answer,
+                &format!(": {why}"),
+                &formatted(64, options),
+            );
         }
     }
 
