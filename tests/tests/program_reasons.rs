@@ -1,27 +1,29 @@
 //! Why a pull was refused, in words and in JSON, for each thing that can be wrong on the way.
 
-use std::path::PathBuf;
+use std::fs::File;
+use std::os::unix::fs::FileExt;
+use std::path::{Path, PathBuf};
 
 use reference::hash::raw_hash;
 
 use harptimber_tests::card::{Card, ROOT};
+use harptimber_tests::damage::Damage;
 use harptimber_tests::directory::{bucket_index, in_slot, Dentry};
 use harptimber_tests::layout::dentry::{FILE_TYPE, INO, NAME_LEN};
 use harptimber_tests::layout::footer;
 use harptimber_tests::layout::inode::*;
 use harptimber_tests::layout::{Field, BLOCK_SIZE};
 use harptimber_tests::lent::Lent;
-use harptimber_tests::on_disk::OnDisk;
-use harptimber_tests::program::{run, Words};
+use harptimber_tests::program::{run, Ran, Words};
 use harptimber_tests::program_page::{expect_head, meaning};
 use harptimber_tests::published::Scratch;
 use harptimber_tests::pulls::{reference_pull, Call, Outcome};
-use harptimber_tests::random_card::pick;
+use harptimber_tests::random_files::{any_target, random_files, RandomFiles};
 use harptimber_tests::scene::{Scene, Setting, NAME};
 use harptimber_tests::special_build::SpecialBuild;
-use harptimber_tests::trial::Random;
 use harptimber_tests::tree;
-use harptimber_tests::walk_damage::strike_block;
+use harptimber_tests::trial::Random;
+use harptimber_tests::walk_damage::strike_either;
 
 const BLOCKS: u32 = 2000;
 
@@ -74,7 +76,9 @@ impl Stage {
         let meaning = meaning("pull", answer);
         let line = format!("{name}, block {index}: {meaning} (answer {answer}): {reason}\n");
         assert!(ran.words().starts_with(&line), "no '{line}' in {ran:?}");
-        let json = run(&[&"pull", &"--json", &path, &NAME, &index]).expect(2).json();
+        let json = run(&[&"pull", &"--json", &path, &NAME, &index])
+            .expect(2)
+            .json();
         expect_head(&json, "pull", answer);
         assert_eq!(json["reason"].text(), reason, "in {json:?}");
         self.scene.card.image.undo(mark);
@@ -82,12 +86,18 @@ impl Stage {
 
     /// The same with fields of an inode.
     fn expect_fields(&mut self, block: u32, answer: u32, reason: &str, fields: &[(Field, u64)]) {
-        self.expect(0, answer, reason, |scene| scene.card.image.set_all(block, fields));
+        self.expect(0, answer, reason, |scene| {
+            scene.card.image.set_all(block, fields)
+        });
     }
 
     fn main_area(&self) -> String {
         let areas = &self.scene.card.image.areas;
-        format!("the main area is blocks {} to {}", areas.main, areas.main_end - 1)
+        format!(
+            "the main area is blocks {} to {}",
+            areas.main,
+            areas.main_end - 1
+        )
     }
 }
 
@@ -105,7 +115,9 @@ fn no_node() {
     stage.expect(0, 9, &unused, |scene| scene.card.set_entry(ino, ino, 0));
     let below = stage.card().node(ino, 1).nid;
     let unused = format!("node {below} (place 1 of the file) isn't in use");
-    stage.expect(ADDRESSES, 9, &unused, |scene| scene.card.set_entry(below, ino, 0));
+    stage.expect(ADDRESSES, 9, &unused, |scene| {
+        scene.card.set_entry(below, ino, 0)
+    });
     let root = "node 3 (the root directory's inode) isn't in use";
     stage.expect(0, 9, root, |scene| scene.card.set_entry(ROOT, ROOT, 0));
 }
@@ -125,7 +137,8 @@ fn no_node_of_the_root() {
         let card = &mut scene.card;
         card.image.set(root, I_CURRENT_DEPTH, u64::from(level) + 1);
         // Otherwise it is found before.
-        card.image.set_slot_bits(linked.block, linked.slot, 1, false);
+        card.image
+            .set_slot_bits(linked.block, linked.slot, 1, false);
         card.set_entry(node, ROOT, 0);
     });
 }
@@ -135,21 +148,32 @@ fn no_node_of_the_root() {
 fn outside() {
     let mut stage = Stage::new();
     let ino = stage.scene.ino;
-    let [first, end] = [stage.card().image.areas.main, stage.card().image.areas.main_end];
+    let [first, end] = [
+        stage.card().image.areas.main,
+        stage.card().image.areas.main_end,
+    ];
     let main_area = stage.main_area();
     for address in [first - 1, end, u32::MAX - 1] {
         let reason = |whose: &str| format!("{whose} has address {address}; {main_area}");
         let inode = reason(&format!("node {ino} (the file's inode)"));
-        stage.expect(0, 10, &inode, |scene| scene.card.set_entry(ino, ino, address));
+        stage.expect(0, 10, &inode, |scene| {
+            scene.card.set_entry(ino, ino, address)
+        });
         let below = stage.card().node(ino, 1).nid;
         let node = reason(&format!("node {below} (place 1 of the file)"));
-        stage.expect(ADDRESSES, 10, &node, |scene| scene.card.set_entry(below, ino, address));
+        stage.expect(ADDRESSES, 10, &node, |scene| {
+            scene.card.set_entry(below, ino, address)
+        });
         for index in [0, ADDRESSES] {
             let data = reason(&format!("block {index} of the file"));
-            stage.expect(index, 13, &data, |scene| scene.card.set_address(ino, index, address));
+            stage.expect(index, 13, &data, |scene| {
+                scene.card.set_address(ino, index, address)
+            });
         }
         let entries = reason("block 0 of the root directory");
-        stage.expect(0, 13, &entries, |scene| scene.card.set_address(ROOT, 0, address));
+        stage.expect(0, 13, &entries, |scene| {
+            scene.card.set_address(ROOT, 0, address)
+        });
     }
 }
 
@@ -160,8 +184,14 @@ fn foreign() {
     let ino = stage.scene.ino;
     let node = stage.card().node(ino, 1);
     let inode = stage.card().node(ino, 0);
-    let of_node = format!("node {} (place 1 of the file) should be in block {}", node.nid, node.block);
-    let of_inode = format!("node {ino} (the file's inode) should be in block {}", inode.block);
+    let of_node = format!(
+        "node {} (place 1 of the file) should be in block {}",
+        node.nid, node.block
+    );
+    let of_inode = format!(
+        "node {ino} (the file's inode) should be in block {}",
+        inode.block
+    );
     let other = u64::from(ino ^ 1);
     let place = |place: u64| (footer::FLAG, place << footer::OFFSET_BIT_SHIFT | 5);
     let number = format!("the block's number is 77, not {}", node.nid);
@@ -181,7 +211,9 @@ fn foreign() {
         });
     }
     let why = format!("{of_node}, but the table's inode is {other}, not {ino}");
-    stage.expect(ADDRESSES, 11, &why, |scene| scene.card.set_entry(node.nid, other as u32, node.block));
+    stage.expect(ADDRESSES, 11, &why, |scene| {
+        scene.card.set_entry(node.nid, other as u32, node.block)
+    });
     let why = format!("{of_inode}, but the block's place is 1, not 0");
     stage.expect_fields(inode.block, 11, &why, &[place(1)]);
 }
@@ -211,7 +243,10 @@ fn kinds_of_files() {
             &[(I_INLINE, INLINE_DATA)],
             "its bytes are inline; small and empty files usually are inline".to_string(),
         ),
-        (&[(I_INLINE, INLINE_DENTRY)], "it is marked as an inline directory".to_string()),
+        (
+            &[(I_INLINE, INLINE_DENTRY)],
+            "it is marked as an inline directory".to_string(),
+        ),
         (&[(I_INLINE, EXTRA_ATTR)], extra.to_string()),
         (
             &[(I_INLINE, EXTRA_ATTR), (I_ADVISE, ADVISE_ENCRYPT)],
@@ -238,7 +273,10 @@ fn kinds_of_roots() {
         (&[(I_INLINE, INLINE_DATA)], "it is marked as an inline file"),
         (&[(I_INLINE, EXTRA_ATTR)], "its inode has extra attributes"),
         (&[(I_CURRENT_DEPTH, 64)], "its depth is 64, over 63"),
-        (&[(I_CURRENT_DEPTH, u32::MAX as u64)], "its depth is 4294967295, over 63"),
+        (
+            &[(I_CURRENT_DEPTH, u32::MAX as u64)],
+            "its depth is 4294967295, over 63",
+        ),
         (&[(I_DIR_LEVEL, 2)], "its directory level is 2, not 0"),
     ];
     for (fields, why) in cases {
@@ -254,7 +292,8 @@ fn malformed() {
     let block = stage.scene.linked.block;
     let slot = stage.scene.linked.slot;
     for (len, bytes) in [(0, "0 bytes"), (256, "256 bytes"), (65_535, "65,535 bytes")] {
-        let place = format!("slot {slot} of the card's block {block} (block 0 of the root directory)");
+        let place =
+            format!("slot {slot} of the card's block {block} (block 0 of the root directory)");
         let reason = format!("{place} has a name of {bytes}");
         stage.expect_fields(block, 14, &reason, &[(in_slot(NAME_LEN, slot), len)]);
     }
@@ -280,7 +319,9 @@ fn past_the_end() {
     let sizes = [(1, "1 byte"), (4096, "4,096 bytes")];
     for (size, bytes) in sizes {
         let reason = format!("it has {bytes}, so that its last block is 0");
-        stage.expect(1, 3, &reason, |scene| scene.card.image.set(inode, I_SIZE, size));
+        stage.expect(1, 3, &reason, |scene| {
+            scene.card.image.set(inode, I_SIZE, size)
+        });
     }
 }
 
@@ -293,7 +334,10 @@ fn in_cat() {
     stage.card().set_address(ino, 1, end);
     let path = stage.save();
     let output = stage.scratch.path("output");
-    let reason = format!("block 1 of the file has address {end}; {}", stage.main_area());
+    let reason = format!(
+        "block 1 of the file has address {end}; {}",
+        stage.main_area()
+    );
     let line = format!(" (answer 13): {reason}; 4,096 bytes were written\n");
     let ran = run(&[&"cat", &path, &NAME]).expect(2);
     assert!(ran.err.ends_with(&line), "no '{line}' in {ran:?}");
@@ -318,45 +362,73 @@ fn no_reason() {
     }
 }
 
-/// Whatever the damage is, the program's walk stops where the library's does, so that there is a reason; and it keeps to
-/// the image's bytes.
-#[test]
-fn damaged() {
-    const ROUNDS: usize = 150;
-    let build = SpecialBuild::sanitized();
-    let stage = Stage::new();
-    let mut disk = OnDisk::new(stage.scene.card.image.clone());
-    let mut random = Random::new(22);
-    let mut reasons = [0; 15];
-    for _ in 0..ROUNDS {
-        let index = pick(&mut random, &[0, 1, 922, 923, 924, 1999]);
-        let mut lists = pulled(&disk, index);
-        lists.sort();
-        let mut struck = Vec::new();
-        for _ in 0..1 + random.below(3) {
-            let block = pick(&mut random, &lists);
-            strike_block(&mut disk.image, block, &mut random);
-            struck.push(block);
-        }
-        disk.write_blocks(&struck);
-        let call = Call::new(&disk.image, NAME, index);
-        let answer = Outcome::of(reference_pull, &call, Lent::least()).pulled.answer;
-        let ran = build.run(&[&"pull", &"--json", &disk.path(), &NAME, &index]);
-        let json = ran.json();
-        expect_head(&json, "pull", answer);
-        let explained = matches!(answer, 3 | 9..=14);
-        assert_eq!(json.get("reason").is_some(), explained, "in {json:?} of {:?}", disk.image);
-        reasons[answer as usize] += u32::from(explained);
-        disk.image.undo(0);
-        disk.write_blocks(&struck);
-    }
-    for answer in [9, 11, 12, 13, 14] {
-        assert!(reasons[answer] > 0, "no answer {answer} in {reasons:?}");
+/// Writes these bytes of a card's image to its file.
+fn write_places(path: &Path, card: &Card, places: &[(usize, usize)]) {
+    let file = File::options().write(true).open(path).expect("the image");
+    for &(at, len) in places {
+        let bytes = &card.image.bytes()[at..at + len];
+        file.write_all_at(bytes, at as u64).expect("its bytes");
     }
 }
 
-/// The blocks that a pull reads.
-fn pulled(disk: &OnDisk, index: u32) -> Vec<u32> {
-    let call = Call::new(&disk.image, NAME, index);
-    Outcome::of(reference_pull, &call, Lent::least()).blocks()
+/// Whatever the damage is, the program's walk stops where the library's does, so that there is a reason.
+fn damage_cards(seed: u64, cards: u32, damages: u32, run: impl Fn(Words) -> Ran) -> [u32; 15] {
+    let mut random = Random::new(seed);
+    let scratch = Scratch::new();
+    let path = scratch.path("card.img");
+    let mut answers = [0; 15];
+    for _ in 0..cards {
+        let RandomFiles { mut card, targets } = random_files(&mut random);
+        card.image.save(&path);
+        let opening = Damage::of(&card.image);
+        for _ in 0..damages {
+            let target = any_target(&targets, &mut random);
+            for _ in 0..1 + random.below(2) {
+                strike_either(&mut card, (&opening, 12), target, &mut random);
+            }
+            let places = card.image.written().map(|(at, bytes)| (at, bytes.len()));
+            let places: Vec<(usize, usize)> = places.collect();
+            write_places(&path, &card, &places);
+            let (name, index) = target.any_call(&mut random);
+            // A command line has no zero bytes.
+            let name = if name.contains(&0) {
+                target.name.clone()
+            } else {
+                name
+            };
+            let call = Call::new(&card.image, &name, index);
+            let answer = Outcome::of(reference_pull, &call, Lent::least())
+                .pulled
+                .answer;
+            let json = run(&[&"pull", &"--json", &"--", &path, &name, &index]).json();
+            expect_head(&json, "pull", answer);
+            let explained = json.get("reason").is_some();
+            assert_eq!(
+                explained,
+                matches!(answer, 3..=14),
+                "in {json:?} of {:?}",
+                card.image
+            );
+            answers[answer as usize] += 1;
+            card.image.undo(0);
+            write_places(&path, &card, &places);
+        }
+    }
+    answers
+}
+
+#[test]
+fn damaged() {
+    let answers = damage_cards(22, 10, 100, run);
+    let missing = (0..15).find(|&answer| answers[answer] == 0);
+    assert_eq!(missing, None, "an answer that didn't come, in {answers:?}");
+}
+
+/// It keeps to the image's bytes.
+#[test]
+fn damaged_under_sanitizers() {
+    let build = SpecialBuild::sanitized();
+    let answers = damage_cards(23, 3, 30, |words| build.run(words));
+    let stopped: u32 = answers[9..].iter().sum();
+    assert!(stopped >= 20, "walks that stopped, in {answers:?}");
 }
