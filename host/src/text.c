@@ -65,14 +65,11 @@ int show(FILE *out, const char *text)
     return show_bytes(out, text, strlen(text));
 }
 
-void show_number(FILE *out, uint64_t number)
+int show_number(FILE *out, uint64_t number)
 {
-    if (number < 1000) {
-        fprintf(out, "%" PRIu64, number);
-        return;
-    }
-    show_number(out, number / 1000);
-    fprintf(out, ",%03" PRIu64, number % 1000);
+    if (number < 1000)
+        return fprintf(out, "%" PRIu64, number);
+    return show_number(out, number / 1000) + fprintf(out, ",%03" PRIu64, number % 1000);
 }
 
 void show_padded(FILE *out, uint64_t number, int width)
