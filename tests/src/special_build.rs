@@ -22,7 +22,10 @@ impl SpecialBuild {
             let archive = host().join("../target/staticlib/libharptimber.a");
             SpecialBuild::of("in_heap.c", Some(archive), |compiler| {
                 compiler.args(["-g", "-O1", "-fsanitize=address,undefined"]);
-                compiler.args(["-fno-sanitize-recover=all", "-Wl,--wrap=mmap64,--wrap=munmap"]);
+                compiler.args([
+                    "-fno-sanitize-recover=all",
+                    "-Wl,--wrap=mmap64,--wrap=munmap",
+                ]);
             })
         })
     }
@@ -33,10 +36,18 @@ impl SpecialBuild {
         BUILT.get(|| SpecialBuild::of("any_answer.c", None, |_| ()))
     }
 
-    fn of(part: &str, archive: Option<PathBuf>, options: impl FnOnce(&mut Command)) -> SpecialBuild {
+    fn of(
+        part: &str,
+        archive: Option<PathBuf>,
+        options: impl FnOnce(&mut Command),
+    ) -> SpecialBuild {
         let built = SpecialBuild(Scratch::new());
         let mut compiler = Command::new("cc");
-        options(compiler.args(["-std=gnu11", "-D_FILE_OFFSET_BITS=64", "-DHARPTIMBER_VERSION=\"0\""]));
+        options(compiler.args([
+            "-std=gnu11",
+            "-D_FILE_OFFSET_BITS=64",
+            "-DHARPTIMBER_VERSION=\"0\"",
+        ]));
         compiler.arg("-I").arg(host().join("include"));
         compiler.arg("-o").arg(built.program()).args(sources());
         compiler.arg(Path::new(env!("CARGO_MANIFEST_DIR")).join("src").join(part));
@@ -61,7 +72,10 @@ impl SpecialBuild {
     pub fn run(&self, words: Words) -> Ran {
         let ran = ran(&mut self.command(words), Stdio::piped());
         let said = ["Sanitizer", "runtime error"].map(|word| ran.err.contains(word));
-        assert!(said == [false; 2] && ran.status != REPORTED, "seen in {ran:?}");
+        assert!(
+            said == [false; 2] && ran.status != REPORTED,
+            "seen in {ran:?}"
+        );
         ran
     }
 }
@@ -70,7 +84,9 @@ impl SpecialBuild {
 fn sources() -> Vec<PathBuf> {
     let folder = fs::read_dir(host().join("src")).expect("host/src");
     let paths = folder.map(|entry| entry.expect("a file of host/src").path());
-    let sources: Vec<PathBuf> = paths.filter(|path| path.extension() == Some("c".as_ref())).collect();
+    let sources: Vec<PathBuf> = paths
+        .filter(|path| path.extension() == Some("c".as_ref()))
+        .collect();
     assert!(!sources.is_empty(), "no source in host/src");
     sources
 }

@@ -15,7 +15,9 @@ use harptimber_tests::layout::BLOCK_SIZE;
 use harptimber_tests::program::{run, Ran, Word, Words};
 use harptimber_tests::program_card::{shared_card, LONG, ROAD};
 use harptimber_tests::program_page::expect_head;
+use harptimber_tests::random_card::pick;
 use harptimber_tests::special_build::SpecialBuild;
+use harptimber_tests::trial::Random;
 
 const MIB: u64 = 1 << 20;
 
@@ -42,7 +44,12 @@ fn puts_of(json: &Json) -> Vec<Put> {
     let put = |json: &Json| {
         let number = json["number"].number() as u32;
         let marked = json["marked"] == Json::Bool(true);
-        (number, json["first"].number(), json["bytes"].number(), marked)
+        (
+            number,
+            json["first"].number(),
+            json["bytes"].number(),
+            marked,
+        )
     };
     json["partitions"].list().iter().map(put).collect()
 }
@@ -89,7 +96,10 @@ fn expect_hint(disk: &Disk, answer: u32, hint: &str) {
         let ran = run(line).expect(2);
         let text = format!("{}{}", ran.words(), ran.err);
         let ends = ["\n", "; 0 bytes were written\n"].map(|end| format!("{hint}{end}"));
-        assert!(ends.iter().any(|end| text.contains(end)), "no '{hint}' in {ran:?}");
+        assert!(
+            ends.iter().any(|end| text.contains(end)),
+            "no '{hint}' in {ran:?}"
+        );
     }
     let output = disk.scratch.path("output");
     let lines: [Words; 4] = [
@@ -101,7 +111,10 @@ fn expect_hint(disk: &Disk, answer: u32, hint: &str) {
     for line in lines {
         let json = run(line).expect(2).json();
         assert_eq!(json["answer"].number(), u64::from(answer));
-        assert!(json["reason"].text().ends_with(hint), "no '{hint}' in {json:?}");
+        assert!(
+            json["reason"].text().ends_with(hint),
+            "no '{hint}' in {json:?}"
+        );
     }
 }
 
@@ -130,7 +143,9 @@ fn expect_card(disk: &Disk, part: &[&str]) {
     let nodes = [(&alone, &[][..]), (&path, &words[..])]
         .map(|(path, part)| run(&[part, &[&"node", path, &ino]].concat()).expect(0).out);
     assert_eq!(nodes[0], nodes[1]);
-    let info = run(&[&words[..], &[&"info", &"--json", &path]].concat()).expect(0).json();
+    let info = run(&[&words[..], &[&"info", &"--json", &path]].concat())
+        .expect(0)
+        .json();
     assert_eq!(info["offset"].number(), start());
 }
 
@@ -189,7 +204,8 @@ fn cards_of_an_mbr() {
     expect_card(&disk, &["--partition=5"]);
     for number in ["1", "2", "4", "6"] {
         let part = ["--partition", number];
-        let hint = format!("no partition {number}; the file is a disk with partitions (MBR): 5 at byte ");
+        let hint =
+            format!("no partition {number}; the file is a disk with partitions (MBR): 5 at byte ");
         refuse(&disk, &part, &hint);
     }
 }
@@ -231,6 +247,14 @@ fn compare() {
     }
 }
 
+fn gpt_entry(number: u32, first: u64, sectors: u64) -> GptEntry {
+    GptEntry {
+        number,
+        first,
+        last: first + sectors - 1,
+    }
+}
+
 #[test]
 fn gpt() {
     let large = GptForm {
@@ -242,43 +266,30 @@ fn gpt() {
         entries: 9,
         ..GptForm::USUAL
     };
+    let road = shared_card().file(ROAD).bytes(&card());
     for form in [GptForm::USUAL, large, other] {
         let disk = Disk::new(96 * MIB);
-        let first = 3 * MIB / form.sector;
-        let len = card().bytes().len() as u64;
-        let gpt = |number, first, sectors: u64| GptEntry {
-            number,
-            first,
-            last: first + sectors - 1,
-        };
-        let entries = [
-            gpt(2, 40 * MIB / form.sector, 1),
-            gpt(3, first, len.div_ceil(form.sector)),
-            gpt(9, 60 * MIB / form.sector, 8),
-        ];
-        disk.put_gpt(form, &entries);
-        disk.put_card(3 * MIB, &card());
         let puts = [
             (2, 40 * MIB, form.sector, false),
-            (3, 3 * MIB, len, true),
+            (3, 3 * MIB, card().bytes().len() as u64, true),
             (9, 60 * MIB, 8 * form.sector, false),
         ];
+        let entry =
+            |(number, first, len, _)| gpt_entry(number, first / form.sector, len / form.sector);
+        disk.put_gpt(form, &puts.map(entry));
+        disk.put_card(3 * MIB, &card());
         expect_table(&disk, "GPT", 5, &puts);
         let cat: Words = &[&"cat", &"--partition", &"3", &disk.path(), &ROAD];
-        let road = shared_card().file(ROAD).bytes(&card());
         assert!(run(cat).expect(0).out == road, "bytes of {form:?}");
-        refuse(&disk, &["--partition", "1"], "no partition 1; the file is a disk with partitions (GPT): 2 at byte ");
+        let message = "no partition 1; the file is a disk with partitions (GPT): 2 at byte ";
+        refuse(&disk, &["--partition", "1"], message);
     }
 }
 
 #[test]
 fn gpt_checksums() {
     assert_eq!(crc32(b"123456789"), 0xCBF4_3926);
-    let whole = GptEntry {
-        number: 1,
-        first: START.into(),
-        last: u64::from(START + sectors()) - 1,
-    };
+    let whole = gpt_entry(1, START.into(), sectors().into());
     let put = (1, start(), card().bytes().len() as u64, true);
     // The mark, a reserved byte, where the table is, and the table's first and last byte.
     let header = [0, 7, 9, 12, 16, 20, 24, 72, 80, 84, 88, 91].map(|at| SECTOR + at);
@@ -295,7 +306,11 @@ fn gpt_checksums() {
         expect_hint(&disk, 5, hint);
         let json = info_of(&disk, 5);
         assert_eq!(puts_of(&json), []);
-        refuse(&disk, &["--partition", "1"], &format!("no partition 1{hint}\n"));
+        refuse(
+            &disk,
+            &["--partition", "1"],
+            &format!("no partition 1{hint}\n"),
+        );
     }
 }
 
@@ -338,12 +353,20 @@ fn gpt_of_great_numbers() {
 fn odd_tables() {
     let disk = Disk::new(4 * MIB);
     disk.put_gpt(GptForm::USUAL, &[]);
-    expect_hint(&disk, 5, "; the file is a disk with partitions (GPT), but the table is empty");
+    expect_hint(
+        &disk,
+        5,
+        "; the file is a disk with partitions (GPT), but the table is empty",
+    );
     let round = Disk::new(4 * MIB);
     round.put_mbr(0, &[entry(5, 10, 100)]);
     round.put_mbr(10, &[EMPTY, entry(5, 20, 100)]);
     round.put_mbr(30, &[EMPTY, entry(5, 20, 100)]);
-    expect_hint(&round, 5, "; the file is a disk with partitions (MBR), but the table is empty");
+    expect_hint(
+        &round,
+        5,
+        "; the file is a disk with partitions (MBR), but the table is empty",
+    );
     round.put_mbr(30, &[entry(LINUX, 1, 1), entry(5, 20, 100)]);
     let json = info_of(&round, 5);
     let numbers: Vec<u32> = puts_of(&json).iter().map(|put| put.0).collect();
@@ -367,10 +390,18 @@ fn no_tables() {
             let at = if at < ENTRY_SIZE { ENTRIES + at } else { at };
             disk.put(at, &[byte]);
         }
-        expect_hint(&disk, 5, "both copies: no F2FS mark; is it another file system?");
+        expect_hint(
+            &disk,
+            5,
+            "both copies: no F2FS mark; is it another file system?",
+        );
         let json = info_of(&disk, 5);
         assert!(json.get("table").is_none() && json.get("partitions").is_none());
-        refuse(&disk, &["--partition", "1"], "no partition 1; the file has no partition table\n");
+        refuse(
+            &disk,
+            &["--partition", "1"],
+            "no partition 1; the file has no partition table\n",
+        );
     }
 }
 
@@ -386,10 +417,17 @@ fn cut_disks() {
     let counts = format!("both copies: it counts {blocks} blocks, the image has 100");
     assert!(json["reason"].text().starts_with(&counts), "in {json:?}");
     disk.set_len(start());
-    let message = format!("partition 2 starts at byte {}, behind the end of the file\n", start());
+    let message = format!(
+        "partition 2 starts at byte {}, behind the end of the file\n",
+        start()
+    );
     refuse(&disk, &["--partition", "2"], &message);
     refuse(&disk, &["--offset", &start().to_string()], "has no byte ");
-    refuse(&disk, &["--offset", "9223372036854775807"], "has no byte 9223372036854775807: it has ");
+    refuse(
+        &disk,
+        &["--offset", "9223372036854775807"],
+        "has no byte 9223372036854775807: it has ",
+    );
 }
 
 /// A card in a file that goes on behind it: odd bytes, or more than a card may have.
@@ -461,8 +499,13 @@ fn while_it_is_read() {
     let block = 300 + card.file(ROAD).blocks[&5];
     let hold = Hold { image: 0, block };
     let changes: [(&str, fn(&Disk)); 2] = [
-        ("was changed while it was read\n", |disk| disk.put(0, b"new")),
-        ("can't be read any more: it was cut short, or its medium fails\n", |disk| disk.set_len(0)),
+        ("was changed while it was read\n", |disk| {
+            disk.put(0, b"new")
+        }),
+        (
+            "can't be read any more: it was cut short, or its medium fails\n",
+            |disk| disk.set_len(0),
+        ),
     ];
     for (message, change) in changes {
         let disk = Disk::new(96 * MIB);
@@ -486,33 +529,52 @@ fn output_over_the_disk() {
     assert_eq!(fs::metadata(&path).unwrap().modified().unwrap(), before);
 }
 
-/// Tables and disks with random bytes changed, under the compiler's sanitizers.
+/// A small disk with a random table, of which some bytes are changed.
+fn random_disk(random: &mut Random) -> Disk {
+    let disk = Disk::new(64 * 1024 + random.below(5000));
+    let near = random.below(140) as u32;
+    if random.below(3) == 0 {
+        let form = GptForm {
+            sector: pick(random, &[512, 4096]),
+            ..GptForm::USUAL
+        };
+        let last = pick(random, &[7, 100, u64::MAX]);
+        let entry = GptEntry {
+            number: 1,
+            first: near.into(),
+            last,
+        };
+        disk.put_gpt(form, &[entry]);
+    } else {
+        let kind = pick(random, &[LINUX, 0x05, 0x0F, 0xEE]);
+        let primary = [entry(kind, near, u32::MAX), entry(LINUX, u32::MAX, near)];
+        disk.put_mbr(0, &primary);
+        disk.put_mbr(near.into(), &[entry(LINUX, near, 1), entry(0x05, near, 1)]);
+    }
+    for _ in 0..random.below(3) {
+        let at = pick(random, &[446, 510, 512, 1024]) + random.below(100);
+        disk.put(at, &random.bytes(1));
+    }
+    disk
+}
+
+/// Under the compiler's sanitizers.
 #[test]
 fn sanitized() {
     let build = SpecialBuild::sanitized();
-    let mut random = harptimber_tests::trial::Random::new(5);
+    let random = &mut Random::new(5);
     for _ in 0..40 {
-        let disk = Disk::new(64 * 1024 + random.below(5000));
-        let form = GptForm {
-            sector: [512, 4096][random.below(2) as usize],
-            ..GptForm::USUAL
-        };
-        match random.below(3) {
-            0 => disk.put_gpt(form, &[GptEntry { number: 1, first: 6, last: random.number() }]),
-            _ => {
-                let kind = [LINUX, 5, 0x0F, 0xEE][random.below(4) as usize];
-                let near = random.below(140) as u32;
-                disk.put_mbr(0, &[entry(kind, near, u32::MAX), entry(LINUX, u32::MAX, near)]);
-                disk.put_mbr(near.into(), &[entry(LINUX, near, 1), entry(5, near, 1)]);
-            }
-        }
-        for _ in 0..random.below(3) {
-            let at = [446, 510, 512, 1024][random.below(4) as usize] + random.below(100);
-            disk.put(at, &random.bytes(1));
-        }
-        for part in [&[][..], &["--partition=1"], &["--partition=2"], &["--partition=5"], &["--offset=65000"]] {
-            let part: Vec<&dyn Word> = part.iter().map(|word| word as &dyn Word).collect();
-            let info = build.run(&[&[&"info" as _, &"--json" as _], &part[..], &[&disk.path()]].concat());
+        let disk = random_disk(random);
+        let parts = [
+            "--partition=1",
+            "--partition=2",
+            "--partition=5",
+            "--offset=65000",
+        ];
+        let info = build.run(&[&"info", &disk.path()]);
+        assert_eq!(info.status, 2, "of {info:?}");
+        for part in parts {
+            let info = build.run(&[&"info", &"--json", &part, &disk.path()]);
             assert!([2, 3].contains(&info.status), "of {info:?}");
         }
     }
