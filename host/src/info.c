@@ -75,11 +75,17 @@ static void words_volume(const struct info *info)
         words_area(superblock, area);
 }
 
+/* A card that is out of shape isn't read by any copy. */
+static bool copy_is_used(const struct opening *opening, int i)
+{
+    return i == opening->copy_in_use && opening->answer != HARPTIMBER_OUT_OF_SHAPE;
+}
+
 static void words_copies(const struct opening *opening)
 {
     for (int i = 0; i < 2; i++) {
         const struct opening_copy *copy = &opening->copies[i];
-        const char *good = i == opening->copy_in_use ? "in use" : "passes";
+        const char *good = copy_is_used(opening, i) ? "in use" : "passes";
         printf("superblock copy %d: %s%s\n", i + 1, copy->passes ? good : "doesn't pass: ", copy->why);
     }
 }
@@ -119,7 +125,7 @@ static void info_words(const struct info *info)
     const struct opening *opening = &info->opening;
     show(stdout, info->card->path);
     printf(opening->answer == HARPTIMBER_DATA ? ": " : ": can't be read: ");
-    show_answer(stdout, opening->answer, meaning(opening->answer), info->card, NULL);
+    show_with_reason(stdout, opening->answer, meaning(opening->answer), info->reason);
     printf("\n");
     if (info->superblock != NULL)
         words_volume(info);
@@ -172,7 +178,7 @@ static void json_copies(struct json *json, const struct opening *opening)
 {
     json_open(json, "copies", '[');
     for (int i = 0; i < 2; i++) {
-        json_judged(json, opening->copies[i].passes, i == opening->copy_in_use, opening->copies[i].why);
+        json_judged(json, opening->copies[i].passes, copy_is_used(opening, i), opening->copies[i].why);
         json_close(json, '}');
     }
     json_close(json, ']');

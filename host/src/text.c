@@ -77,10 +77,10 @@ const char *number_text(char room[NUMBER_ROOM], uint64_t number)
     return at;
 }
 
-void show_number(FILE *out, uint64_t number)
+int show_number(FILE *out, uint64_t number)
 {
     char room[NUMBER_ROOM];
-    fputs(number_text(room, number), out);
+    return fprintf(out, "%s", number_text(room, number));
 }
 
 void show_padded(FILE *out, uint64_t number, int width)

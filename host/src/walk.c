@@ -2,6 +2,9 @@
 
 #include <string.h>
 
+/* What the library never answers. */
+static const uint32_t NO_ANSWER = UINT32_MAX;
+
 /* The levels from 29 on lie past a file's last block. */
 enum { LEVELS = 29 };
 
@@ -41,9 +44,9 @@ const uint8_t *walk_node(struct walk *walk, uint32_t number, uint32_t inode, uin
     struct stop at = {.in_root = walk->stop.in_root, .node = number, .inode = inode, .place = place};
     at.address = entry.address;
     const uint8_t *node = disk_block(walk->card, entry.address);
-    if (entry.answer != HARPTIMBER_DATA)
-        at.answer = entry.answer;
-    else if (entry.address == 0)
+    if (entry.answer != HARPTIMBER_DATA && entry.answer != HARPTIMBER_NO_NODE)
+        at.answer = NO_ANSWER; /* not on a card that opens */
+    else if (entry.answer == HARPTIMBER_NO_NODE || entry.address == 0)
         at.answer = HARPTIMBER_NO_NODE;
     else if (node == NULL || !is_main(walk, entry.address))
         at.answer = HARPTIMBER_NODE_OUTSIDE;

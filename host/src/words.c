@@ -174,12 +174,17 @@ char *reason_of(uint32_t answer, const struct card *card, const char *name)
 }
 
 /* What is out of shape is told by the reason, instead of all that could be. */
-void show_asked(FILE *out, uint32_t answer, const char *meaning, const struct asked *asked)
+void show_with_reason(FILE *out, uint32_t answer, const char *meaning, const char *reason)
 {
-    char *reason = reason_of_asked(answer, asked);
     fprintf(out, "%s (answer %" PRIu32 ")", answer == HARPTIMBER_OUT_OF_SHAPE ? "out of shape" : meaning, answer);
     if (reason != NULL)
         fprintf(out, ": %s", reason);
+}
+
+void show_asked(FILE *out, uint32_t answer, const char *meaning, const struct asked *asked)
+{
+    char *reason = reason_of_asked(answer, asked);
+    show_with_reason(out, answer, meaning, reason);
     free(reason);
 }
 

@@ -733,6 +733,27 @@ fn library_against_words() {
     }
 }
 
+/// A card that is too long: what it is, is told all the same.
+#[test]
+fn long_card() {
+    let disk = OnDisk::new(Image::new(&Knobs::sound()));
+    let file = std::fs::File::options().write(true).open(disk.path());
+    file.unwrap().set_len((1 << 30) + 4096).unwrap();
+    let json = run(&[&"info", &"--json", &disk.path()]).expect(2).json();
+    expect_head(&json, "info", 4);
+    expect_areas(&json, &Knobs::sound());
+    for copy in json["copies"].list() {
+        let flags = ["passes", "in_use"].map(|key| flag(&copy[key]));
+        assert_eq!(flags, [true, false]);
+    }
+    assert!(json.get("packs").is_none(), "in {json:?}");
+    let ran = run(&[&"info", &disk.path()]).expect(2);
+    assert!(
+        ran.words().contains("\nsuperblock copy 1: passes\n"),
+        "of {ran:?}"
+    );
+}
+
 /// The path as it is, whatever bytes it has.
 #[test]
 fn path() {
