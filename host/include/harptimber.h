@@ -96,7 +96,7 @@ static inline const char *harptimber_answer_words(uint32_t answer)
         /*  9 */ "a node number out of range or not in use",
         /* 10 */ "a node's address lies outside the main area",
         /* 11 */ "a node block belongs elsewhere",
-        /* 12 */ "an inode of a kind that isn't read: no regular file, or inline",
+        /* 12 */ "an inode of a kind that isn't read",
         /* 13 */ "a data address lies outside the main area",
         /* 14 */ "a directory entry doesn't fit its block",
         /* 15 */ "same",

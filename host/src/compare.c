@@ -139,10 +139,11 @@ enum status run_compare(const struct request *request)
     uint32_t index = 0;
     if (!c.whole && !read_number(request->words[3], "INDEX", &index))
         return MISUSED;
-    if (!card_open(&c.kept, request->words[0]))
-        return REFUSED;
-    enum status status = REFUSED;
-    if (card_open(&c.new, request->words[1])) {
+    enum status status = card_open(&c.kept, request, request->words[0]);
+    if (status != DONE)
+        return status;
+    status = card_open(&c.new, request, request->words[1]);
+    if (status == DONE) {
         status = compare_and_tell(request, &c, index);
         card_close(&c.new);
     }

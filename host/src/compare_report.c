@@ -201,6 +201,8 @@ void compare_json(const struct comparison *c)
 {
     uint32_t answer = compare_answer(c);
     struct json json = json_begin(stdout, "compare", answer, meaning_of(answer));
+    if (answer != HARPTIMBER_SAME && answer != HARPTIMBER_CHANGED)
+        json_reason(&json, answer, c->side == HARPTIMBER_FRESH ? &c->new : &c->kept, c->name);
     json_string(&json, "kept", c->kept.path);
     json_string(&json, "new", c->new.path);
     json_name(&json, c->name);
