@@ -1,0 +1,238 @@
+#include "difference.h"
+
+#include <inttypes.h>
+#include <stdbool.h>
+#include <string.h>
+
+#include "disk.h"
+#include "text.h"
+
+/* How a field's values are shown. */
+enum style { NAMED_ONLY, DECIMAL, OCTAL, HEXADECIMAL };
+
+/* Some fields have a second part, like the nanoseconds of a date. */
+struct field {
+    const char *name;
+    enum style style;
+    uint16_t at, len, more_at, more_len;
+};
+
+static const struct field inode_fields[] = {
+    {"mode", OCTAL, 0, 2, 0, 0},
+    {"hints", HEXADECIMAL, 2, 1, 0, 0},
+    {"inline flags", HEXADECIMAL, 3, 1, 0, 0},
+    {"owner", DECIMAL, 4, 4, 0, 0},
+    {"group", DECIMAL, 8, 4, 0, 0},
+    {"link count", DECIMAL, 12, 4, 0, 0},
+    {"size", DECIMAL, 16, 8, 0, 0},
+    {"block count", DECIMAL, 24, 8, 0, 0},
+    {"access time", NAMED_ONLY, 32, 8, 56, 4},
+    {"change time", NAMED_ONLY, 40, 8, 60, 4},
+    {"modification time", NAMED_ONLY, 48, 8, 64, 4},
+    {"generation", DECIMAL, 68, 4, 0, 0},
+    {"depth", DECIMAL, 72, 4, 0, 0},
+    {"attribute node", DECIMAL, 76, 4, 0, 0},
+    {"flags", HEXADECIMAL, 80, 4, 0, 0},
+    {"parent's inode", DECIMAL, 84, 4, 0, 0},
+    {"noted name", NAMED_ONLY, 88, 259, 0, 0},
+    {"directory level", DECIMAL, 347, 1, 0, 0},
+    {"cached extent", NAMED_ONLY, 348, 12, 0, 0},
+    {NULL, NAMED_ONLY, 0, 0, 0, 0},
+};
+
+/* Where the addresses otherwise start, if the inode has extra attributes. */
+static const struct field extra_fields[] = {
+    {"extra size", DECIMAL, 360, 2, 0, 0},
+    {"attribute size", DECIMAL, 362, 2, 0, 0},
+    {"project", DECIMAL, 364, 4, 0, 0},
+    {"checksum", HEXADECIMAL, 368, 4, 0, 0},
+    {"creation time", NAMED_ONLY, 372, 8, 380, 4},
+    {"compression", NAMED_ONLY, 384, 12, 0, 0},
+    {NULL, NAMED_ONLY, 0, 0, 0, 0},
+};
+
+static const struct field footer_fields[] = {
+    {"node number", DECIMAL, DISK_FOOTER_NODE, 4, 0, 0},
+    {"inode number", DECIMAL, DISK_FOOTER_INODE, 4, 0, 0},
+    {"place and marks", HEXADECIMAL, DISK_FOOTER_FLAG, 4, 0, 0},
+    {"checkpoint version", HEXADECIMAL, 4084, 8, 0, 0},
+    {"next node's address", DECIMAL, 4092, 4, 0, 0},
+    {NULL, NAMED_ONLY, 0, 0, 0, 0},
+};
+
+enum { ADDRESSES = 360, NODE_NUMBERS = 4052, SLOT = 4, INLINE_XATTR_BYTES = 200 };
+
+/* Two versions of a block, and what of it was shown. */
+struct versions {
+    FILE *out;
+    const uint8_t *before, *now;
+    bool follows; /* something was shown: a comma is due */
+};
+
+static bool differs(const struct versions *v, size_t at, size_t len)
+{
+    return memcmp(v->before + at, v->now + at, len) != 0;
+}
+
+static void show_name(struct versions *v, const char *name)
+{
+    fprintf(v->out, "%s%s", v->follows ? ", " : "", name);
+    v->follows = true;
+}
+
+static uint64_t value_at(const uint8_t *bytes, size_t len)
+{
+    uint64_t value = 0;
+    while (len-- > 0)
+        value = value << 8 | bytes[len];
+    return value;
+}
+
+static void show_value(FILE *out, const struct field *field, const uint8_t *block)
+{
+    uint64_t value = value_at(block + field->at, field->len);
+    if (field->style == DECIMAL)
+        fprintf(out, "%" PRIu64, value);
+    else if (field->style == OCTAL)
+        fprintf(out, "%06" PRIo64, value);
+    else
+        fprintf(out, "0x%" PRIx64, value);
+}
+
+static void show_fields(struct versions *v, const struct field *field)
+{
+    for (; field->name != NULL; field++) {
+        if (!differs(v, field->at, field->len) && !differs(v, field->more_at, field->more_len))
+            continue;
+        show_name(v, field->name);
+        if (field->style == NAMED_ONLY)
+            continue;
+        fputs(" (", v->out);
+        show_value(v->out, field, v->before);
+        fputs(" before, ", v->out);
+        show_value(v->out, field, v->now);
+        fputs(" now)", v->out);
+    }
+}
+
+/* Slots of four bytes from one place to another: the first that differs, and how many others do. */
+static void show_slots(struct versions *v, size_t from, size_t to, const char *what)
+{
+    uint32_t count = 0;
+    size_t first = 0;
+    for (size_t at = to; at > from; at -= SLOT)
+        if (differs(v, at - SLOT, SLOT)) {
+            first = at - SLOT;
+            count++;
+        }
+    if (count == 0)
+        return;
+    show_name(v, what);
+    fprintf(v->out, " %zu (%" PRIu32 " before, %" PRIu32 " now)", (first - from) / SLOT, disk32(v->before + first),
+            disk32(v->now + first));
+    if (count > 1)
+        fprintf(v->out, " and %" PRIu32 " more", count - 1);
+}
+
+/* What stands where an inode has its addresses; that is said only if it is of one kind in both. */
+static void show_addresses(struct versions *v, uint8_t flags)
+{
+    size_t from = ADDRESSES, to = NODE_NUMBERS;
+    if ((flags & DISK_EXTRA_ATTR) != 0) {
+        show_fields(v, extra_fields);
+        from += disk16(v->before + ADDRESSES);
+        from = from % SLOT == 0 && from < to ? from : to;
+    }
+    if ((flags & DISK_INLINE_XATTR) != 0) {
+        to = from < to - INLINE_XATTR_BYTES ? to - INLINE_XATTR_BYTES : from;
+        if (differs(v, to, NODE_NUMBERS - to))
+            show_name(v, "inline attributes");
+    }
+    if ((flags & (DISK_INLINE_DATA | DISK_INLINE_DENTRY)) == 0)
+        show_slots(v, from, to, "address of block");
+    else if (differs(v, from, to - from))
+        show_name(v, "inline contents");
+}
+
+/* Whether a node that is no inode holds node numbers; others hold addresses. */
+static bool is_indirect(uint32_t place)
+{
+    return place == 3 || place == 1022 || place == 2041 || (place > 2041 && (place - 2042) % 1019 == 0);
+}
+
+void show_node_fields(FILE *out, const uint8_t *before, const uint8_t *now)
+{
+    struct versions v = {.out = out, .before = before, .now = now};
+    uint8_t flags = disk_inode_of(before).inline_flags;
+    if (disk_place(before) != 0) {
+        const char *what = is_indirect(disk_place(before)) ? "node number in slot" : "address in slot";
+        show_slots(&v, 0, DISK_FOOTER_NODE, what);
+    } else {
+        show_fields(&v, inode_fields);
+        if (flags == disk_inode_of(now).inline_flags)
+            show_addresses(&v, flags);
+        show_slots(&v, NODE_NUMBERS, DISK_FOOTER_NODE, "node number in slot");
+    }
+    show_fields(&v, footer_fields);
+    if (!v.follows)
+        show_name(&v, "other bytes");
+}
+
+enum { SLOTS = 214, ENTRIES = 30, ENTRY_BYTES = 11, NAMES = 2384, NAME_BYTES = 8, MOST_NAME = 255 };
+
+static bool is_used(const uint8_t *block, size_t slot)
+{
+    return (block[slot / 8] >> slot % 8 & 1) != 0;
+}
+
+/* The name of a slot's entry, as far as it lies in the block; one of no bytes shows as ''. */
+static void show_entry_name(FILE *out, const uint8_t *block, size_t slot)
+{
+    char name[MOST_NAME + 1];
+    size_t at = NAMES + NAME_BYTES * slot, len = disk16(block + ENTRIES + ENTRY_BYTES * slot + 8);
+    len = len < MOST_NAME ? len : MOST_NAME;
+    len = len < BLOCK_SIZE - at ? len : BLOCK_SIZE - at;
+    memcpy(name, block + at, len);
+    name[len] = '\0';
+    show(out, name);
+}
+
+/* What of an entry changed that is in both versions: where it leads, or its name. */
+static void show_entry_change(FILE *out, const uint8_t *before, const uint8_t *now, size_t slot)
+{
+    uint32_t was = disk32(before + ENTRIES + ENTRY_BYTES * slot + 4), is = disk32(now + ENTRIES + ENTRY_BYTES * slot + 4);
+    show_entry_name(out, before, slot);
+    if (was != is) {
+        fprintf(out, ": inode %" PRIu32 " before, %" PRIu32 " now", was, is);
+    } else {
+        fputs(" before, ", out);
+        show_entry_name(out, now, slot);
+        fputs(" now", out);
+    }
+}
+
+static void show_entry_fate(FILE *out, const uint8_t *before, const uint8_t *now, size_t slot)
+{
+    bool was = is_used(before, slot), is = is_used(now, slot);
+    fprintf(out, "an entry %s (", was && is ? "changed" : is ? "is new" : "is gone");
+    if (was && is)
+        show_entry_change(out, before, now, slot);
+    else
+        show_entry_name(out, is ? now : before, slot);
+    fputc(')', out);
+}
+
+void show_directory_entry(FILE *out, const uint8_t *before, const uint8_t *now)
+{
+    struct versions v = {.before = before, .now = now};
+    for (size_t slot = 0; slot < SLOTS; slot++) {
+        bool was = is_used(before, slot), is = is_used(now, slot);
+        bool alike = !differs(&v, ENTRIES + ENTRY_BYTES * slot, ENTRY_BYTES) &&
+                     !differs(&v, NAMES + NAME_BYTES * slot, NAME_BYTES);
+        if (was != is || (is && !alike)) {
+            show_entry_fate(out, before, now, slot);
+            return;
+        }
+    }
+    fputs("bytes of no entry changed", out);
+}
