@@ -160,7 +160,9 @@ static void words_details(const struct comparison *c)
     bool told = c->run_count != 0 && c->last_answer == HARPTIMBER_PAST_END;
     if (!is_changed(&c->end) || told)
         return;
-    printf("  block %" PRIu32 ": ", c->end.first);
+    printf("  ");
+    if (c->run_count != 0)
+        printf("block %" PRIu32 ": ", c->end.first);
     show_ground(stdout, c, &c->end);
     printf("\n");
 }
@@ -224,19 +226,23 @@ static void words_counts(const struct comparison *c)
     }
 }
 
+static void words_answer(const struct comparison *c, const struct card *card, uint32_t answer)
+{
+    printf("on the %s card: ", card == c->kept ? "kept" : "new");
+    show_answer(stdout, answer, meaning_of(answer), card, c->name);
+}
+
 /* What the kept card has no block for, and whether the new one has. */
 static void words_end(const struct comparison *c)
 {
-    show_answer(stdout, c->last_answer, meaning_of(c->last_answer), c->kept, c->name);
-    printf(" on the kept card; ");
-    if (!is_changed(&c->end)) {
-        printf("the same on the new one");
-    } else if (c->end.answer == c->last_answer) {
-        printf("on the new one too, but that rests on something that changed");
-    } else if (is_block(c->end.answer) || c->has.answer == HARPTIMBER_PAST_END) {
-        printf("on the new one ");
-        show_answer(stdout, c->end.answer, meaning_of(c->end.answer), c->new, c->name);
-    }
+    words_answer(c, c->kept, c->last_answer);
+    printf("; ");
+    if (!is_changed(&c->end))
+        printf("the same on the new card");
+    else if (c->end.answer == c->last_answer)
+        printf("on the new card too, but that rests on something that changed");
+    else
+        words_answer(c, c->new, c->end.answer);
 }
 
 static uint64_t size_of(const struct holding *holding)
@@ -264,34 +270,29 @@ static void words_both(const struct comparison *c)
     words_end(c);
 }
 
-/* What a card has, of a file that isn't read on both. */
-static void words_held(const struct comparison *c, const struct holding *holding, const struct card *card)
+/* Of a file that can be read on one card alone. */
+static void words_one(const struct comparison *c, const char *what, const struct holding *there, uint32_t answer)
 {
-    if (holding->answer == HARPTIMBER_PAST_END)
-        show_count(stdout, size_of(holding), "byte");
-    else
-        show_answer(stdout, holding->answer, meaning_of(holding->answer), card, c->name);
-    printf(" on the %s card", card == c->kept ? "kept" : "new");
+    bool kept = there == &c->had;
+    printf("%s: ", what);
+    show_count(stdout, size_of(there), "byte");
+    printf(" on the %s card; ", kept ? "kept" : "new");
+    words_answer(c, kept ? c->new : c->kept, answer);
 }
 
 static void words_not_both(const struct comparison *c)
 {
-    bool was = c->had.answer == HARPTIMBER_PAST_END, is = c->has.answer == HARPTIMBER_PAST_END;
+    uint32_t had = c->had.answer, has = c->has.answer;
     if (is_on_neither(c)) {
         printf("on neither card: ");
-        show_answer(stdout, c->had.answer, meaning_of(c->had.answer), c->kept, c->name);
-        return;
+        show_answer(stdout, had, meaning_of(had), c->kept, c->name);
+    } else if (had == HARPTIMBER_PAST_END) {
+        words_one(c, has == HARPTIMBER_NO_NAME ? "gone" : "no longer readable", &c->had, has);
+    } else if (has == HARPTIMBER_PAST_END) {
+        words_one(c, had == HARPTIMBER_NO_NAME ? "new" : "readable now", &c->has, had);
+    } else {
+        words_end(c);
     }
-    if (was)
-        printf(c->has.answer == HARPTIMBER_NO_NAME ? "gone: " : "no longer readable: ");
-    else if (is)
-        printf(c->had.answer == HARPTIMBER_NO_NAME ? "new: " : "readable now: ");
-    words_held(c, was ? &c->has : &c->had, was ? c->new : c->kept);
-    printf("; ");
-    if (!was && !is_changed(&c->end))
-        printf("the same on the new card");
-    else
-        words_held(c, was ? &c->had : &c->has, was ? c->kept : c->new);
 }
 
 /* A card that doesn't open, or a bad name. */
