@@ -123,8 +123,11 @@ static const struct run *words_blocks(const struct comparison *c, is_told *told,
             printf(" to %" PRIu32, range[1]);
         shown += (uint64_t)range[1] - range[0] + 1;
     }
-    if (shown < blocks)
-        printf(" and %" PRIu64 " more", blocks - shown);
+    if (shown < blocks) {
+        printf(" and ");
+        show_number(stdout, blocks - shown);
+        printf(" more");
+    }
     printf(": ");
     return first;
 }
@@ -167,17 +170,22 @@ static void words_details(const struct comparison *c)
     printf("\n");
 }
 
-/* Of all blocks, or of the one that was asked for: 'all 6 blocks', '1 of 6 blocks', 'the first block'. */
+/* How many of the blocks: 'all 6 blocks', '1 of 6 blocks', 'the first block'. */
 static void words_part(const struct comparison *c, uint32_t part)
 {
     uint32_t total = compared_blocks(c);
-    const char *first = c->last_answer == HARPTIMBER_PAST_END ? "" : "the first ";
-    if (part < total)
-        printf("%" PRIu32 " of %s%" PRIu32 " blocks ", part, first, total);
-    else if (total == 1)
-        printf("the %s block ", *first == '\0' ? "only" : "first");
-    else
-        printf("%s%" PRIu32 " blocks ", *first == '\0' ? "all " : first, total);
+    bool all = c->last_answer == HARPTIMBER_PAST_END;
+    if (part == total && total == 1) {
+        printf("the %s block ", all ? "only" : "first");
+        return;
+    }
+    if (part < total) {
+        show_number(stdout, part);
+        printf(" of ");
+    }
+    printf(!all ? "the first " : part == total ? "all " : "");
+    show_count(stdout, total, "block");
+    printf(" ");
 }
 
 static void words_byte(int byte, const char *when)
@@ -215,10 +223,13 @@ static void words_counts(const struct comparison *c)
         uint32_t count = c->counts[fate];
         if (count == 0)
             continue;
-        if (follows)
-            printf("; %" PRIu32 " ", count);
-        else if (c->whole)
+        if (follows) {
+            printf("; ");
+            show_number(stdout, count);
+            printf(" ");
+        } else if (c->whole) {
             words_part(c, count);
+        }
         printf("%s", verbs[fate][count == 1]);
         if (fate == DIFFERENT)
             words_first_byte(c);
@@ -256,7 +267,9 @@ static void words_both(const struct comparison *c)
     uint64_t before = size_of(&c->had), now = size_of(&c->has);
     bool empty = c->whole && compared_blocks(c) == 0 && c->last_answer == HARPTIMBER_PAST_END;
     if (before != now) {
-        printf("%s from %" PRIu64 " to ", now > before ? "grown" : "shrunk", before);
+        printf(now > before ? "grown from " : "shrunk from ");
+        show_number(stdout, before);
+        printf(" to ");
         show_count(stdout, now, "byte");
         printf(empty ? "" : ": ");
     } else if (empty) {

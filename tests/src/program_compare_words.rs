@@ -55,7 +55,7 @@ impl Expected<'_> {
         let mut parts = Vec::new();
         if before != now {
             let word = if now > before { "grown" } else { "shrunk" };
-            parts.push(format!("{word} from {before} to {}", bytes(now)));
+            parts.push(format!("{word} from {} to {}", grouped(before), bytes(now)));
         } else if self.whole() && before == 0 {
             parts.push("an empty file on both cards".to_string());
         }
@@ -236,7 +236,19 @@ impl Expected<'_> {
 }
 
 fn bytes(count: u64) -> String {
-    format!("{count} byte{}", if count == 1 { "" } else { "s" })
+    format!(
+        "{} byte{}",
+        grouped(count),
+        if count == 1 { "" } else { "s" }
+    )
+}
+
+/// A quantity as people write it: 4,096.
+pub fn grouped(number: u64) -> String {
+    match number {
+        0..1000 => number.to_string(),
+        _ => format!("{},{:03}", grouped(number / 1000), number % 1000),
+    }
 }
 
 /// Each part has to stand behind the one before.
