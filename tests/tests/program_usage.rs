@@ -49,11 +49,10 @@ fn missing_words() {
 #[test]
 fn words_too_many() {
     for (command, words) in COMMANDS {
-        let more: &[&str] = match command {
-            "compare" => &["0", "0"],
-            _ => &["0"],
-        };
-        expect_usage(&[&[command], words, more].concat());
+        // Of names there may be any number.
+        if command != "compare" {
+            expect_usage(&[&[command], words, &["0"]].concat());
+        }
     }
     expect_usage(&["--help=now"]);
 }
@@ -124,10 +123,15 @@ fn no_numbers() {
         for options in [&[][..], &["--json"], &["--"]] {
             let expect = |words: &[&str]| expect_usage(&[options, words].concat());
             expect(&["pull", "card.img", "road.bin", wrong]);
-            expect(&["compare", "kept.img", "new.img", "road.bin", wrong]);
             expect(&["node", "card.img", wrong]);
             expect(&["place", wrong, "0"]);
             expect(&["place", "923", wrong]);
+        }
+        for json in [&[][..], &["--json"]] {
+            let index = [
+                "compare", "--index", wrong, "kept.img", "new.img", "road.bin",
+            ];
+            expect_usage(&[json, &index].concat());
         }
     }
 }
