@@ -8,13 +8,17 @@
 #include <sys/stat.h>
 
 #include "harptimber.h"
+#include "request.h"
 
 enum { BLOCK_SIZE = HARPTIMBER_BLOCK_BYTES };
 
+/* `bytes` are the card: all of the mapped file, or the part of it that options choose. */
 struct card {
     const char *path;
     const uint8_t *bytes;
     size_t len;
+    const uint8_t *map; /* the whole file */
+    size_t file_len;
     int file;         /* stays open, for card_is_settled */
     struct stat info; /* as it was when the card was mapped */
     char *lost;       /* what to say if its bytes can't be read any more */
@@ -26,8 +30,14 @@ struct lists {
     uint8_t blocks[HARPTIMBER_BLOCKS_BYTES];
 };
 
-/* Maps a regular file or a block device. If that fails, says why and returns false. */
-bool card_open(struct card *card, const char *path);
+/* How many blocks a card may have. */
+enum { FEWEST_CARD_BLOCKS = 2, MOST_CARD_BLOCKS = 262144 };
+
+/*
+ * Maps a regular file or a block device, and takes the part of it that the request's options choose. If that fails, says why
+ * and returns what to end with; else DONE.
+ */
+enum status card_open(struct card *card, const struct request *request, const char *path);
 
 void card_close(struct card *card);
 

@@ -79,8 +79,11 @@ static void show_words(const struct cat *cat)
     show_subject(stderr, cat->card.path);
     show(stderr, cat->name);
     fprintf(stderr, ", block %" PRIu32 ": ", cat->blocks);
-    show_answer(stderr, cat->answer, meaning_of(cat->answer), &cat->card, cat->name);
-    fprintf(stderr, "; %" PRIu64 " bytes were written\n", cat->bytes);
+    struct asked asked = pull_of(&cat->card, cat->name, cat->blocks);
+    show_asked(stderr, cat->answer, meaning_of(cat->answer), &asked);
+    fputs("; ", stderr);
+    show_count(stderr, cat->bytes, "byte");
+    fprintf(stderr, " %s written\n", cat->bytes == 1 ? "was" : "were");
 }
 
 static void show_json(const struct cat *cat)
@@ -88,7 +91,9 @@ static void show_json(const struct cat *cat)
     bool whole = cat->answer == HARPTIMBER_PAST_END;
     uint32_t answer = whole ? HARPTIMBER_DATA : cat->answer;
     FILE *out = output_is_standard(cat->request->output) ? stderr : stdout;
+    struct asked asked = pull_of(&cat->card, cat->name, cat->blocks);
     struct json json = json_begin(out, "cat", answer, meaning_of(answer));
+    json_asked(&json, answer, &asked);
     json_string(&json, "image", cat->card.path);
     json_name(&json, cat->name);
     json_string(&json, "output", cat->request->output);
@@ -121,9 +126,10 @@ enum status run_cat(const struct request *request)
     static struct cat cat; /* large, so not on the stack */
     cat.request = request;
     cat.name = request->words[1];
-    if (!card_open(&cat.card, request->words[0]))
-        return REFUSED;
-    enum status status = cat_and_tell(&cat);
+    enum status status = card_open(&cat.card, request, request->words[0]);
+    if (status != DONE)
+        return status;
+    status = cat_and_tell(&cat);
     card_close(&cat.card);
     return status;
 }

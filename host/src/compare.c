@@ -277,10 +277,11 @@ enum status run_compare(const struct request *request)
         complain("compare", "-q takes neither --json nor -v with it");
         return misused();
     }
-    if (!card_open(&kept, request->words[0]))
-        return REFUSED;
-    enum status status = REFUSED;
-    if (card_open(&new, request->words[1])) {
+    enum status status = card_open(&kept, request, request->words[0]);
+    if (status != DONE)
+        return status;
+    status = card_open(&new, request, request->words[1]);
+    if (status == DONE) {
         status = are_two(&kept, &new) ? compare_cards(request, &kept, &new, index) : MISUSED;
         card_close(&new);
     }

@@ -41,6 +41,15 @@ static void json_difference(struct json *json, const struct comparison *c, const
     free(text);
 }
 
+/* Why a card answers a pull so, if that gives no block. Of the file's end the sizes tell. */
+static void json_why(struct json *json, const char *key, const struct card *card, const char *name, const struct run *run,
+                     uint32_t answer)
+{
+    struct asked asked = pull_of(card, name, run->first);
+    if (!is_block(answer) && answer != HARPTIMBER_PAST_END)
+        json_asked_as(json, key, answer, &asked);
+}
+
 static void json_verdict(struct json *json, const struct comparison *c, const struct run *run)
 {
     json_answer(json, run->verdict.answer, meaning_of(run->verdict.answer));
@@ -50,6 +59,7 @@ static void json_verdict(struct json *json, const struct comparison *c, const st
     json_number(json, "number", run->verdict.number);
     json_difference(json, c, run);
     json_number(json, "new_answer", run->answer);
+    json_why(json, "new_reason", c->new, c->name, run, run->answer);
 }
 
 /* A byte that differs; null behind the file's end. */
@@ -86,6 +96,9 @@ static void json_size(struct json *json, const char *key, const struct holding *
 /* What the object has for each name. */
 static void json_file(struct json *json, const struct comparison *c)
 {
+    struct asked asked = pull_of(c->side == HARPTIMBER_FRESH ? c->new : c->kept, c->name, c->end.first);
+    if (compare_status(c) == REFUSED)
+        json_asked(json, compare_answer(c), &asked);
     json_name(json, c->name);
     json_number(json, "status", compare_status(c));
     json_string(json, "verdict", verdict_of(c));
@@ -105,6 +118,7 @@ static void json_file(struct json *json, const struct comparison *c)
         json_open(json, "end", '{');
         json_number(json, "index", c->end.first);
         json_number(json, "kept", c->last_answer);
+        json_why(json, "kept_reason", c->kept, c->name, &c->end, c->last_answer);
         json_verdict(json, c, &c->end);
         json_close(json, '}');
     }

@@ -61,6 +61,14 @@ void show_ground(FILE *out, const struct comparison *c, const struct run *run)
         show_block_difference(out, c, ground);
 }
 
+/* What a pull on a card answers that gives no block. */
+static void words_answer(const struct comparison *c, const struct card *card, uint32_t index, uint32_t answer)
+{
+    struct asked asked = pull_of(card, c->name, index);
+    printf("on the %s card: ", card == c->kept ? "kept" : "new");
+    show_asked(stdout, answer, meaning_of(answer), &asked);
+}
+
 /* So much of a list is shown. */
 enum { MOST_SHOWN = 10 };
 
@@ -153,12 +161,14 @@ static void words_details(const struct comparison *c)
         return;
     if (words_blocks(c, has_other_bytes, 0) != NULL)
         printf("other bytes\n");
-    for (uint32_t answer = HARPTIMBER_PAST_END; answer <= HARPTIMBER_MALFORMED_SLOT; answer++)
-        if (c->has.answer == HARPTIMBER_PAST_END && words_blocks(c, has_no_block, answer) != NULL) {
-            printf("on the new card ");
-            show_answer(stdout, answer, meaning_of(answer), c->new, c->name);
+    bool is_there = c->has.answer == HARPTIMBER_PAST_END; /* otherwise that was told */
+    for (uint32_t answer = HARPTIMBER_PAST_END; answer <= HARPTIMBER_MALFORMED_SLOT && is_there; answer++) {
+        const struct run *run = words_blocks(c, has_no_block, answer);
+        if (run != NULL) {
+            words_answer(c, c->new, run->first, answer);
             printf("\n");
         }
+    }
     words_grounds(c);
     bool told = c->run_count != 0 && c->last_answer == HARPTIMBER_PAST_END;
     if (!is_changed(&c->end) || told)
@@ -237,23 +247,17 @@ static void words_counts(const struct comparison *c)
     }
 }
 
-static void words_answer(const struct comparison *c, const struct card *card, uint32_t answer)
-{
-    printf("on the %s card: ", card == c->kept ? "kept" : "new");
-    show_answer(stdout, answer, meaning_of(answer), card, c->name);
-}
-
 /* What the kept card has no block for, and whether the new one has. */
 static void words_end(const struct comparison *c)
 {
-    words_answer(c, c->kept, c->last_answer);
+    words_answer(c, c->kept, c->end.first, c->last_answer);
     printf("; ");
     if (!is_changed(&c->end))
         printf("the same on the new card");
     else if (c->end.answer == c->last_answer)
         printf("on the new card too, but that rests on something that changed");
     else
-        words_answer(c, c->new, c->end.answer);
+        words_answer(c, c->new, c->end.first, c->end.answer);
 }
 
 static uint64_t size_of(const struct holding *holding)
@@ -290,7 +294,7 @@ static void words_one(const struct comparison *c, const char *what, const struct
     printf("%s: ", what);
     show_count(stdout, size_of(there), "byte");
     printf(" on the %s card; ", kept ? "kept" : "new");
-    words_answer(c, kept ? c->new : c->kept, answer);
+    words_answer(c, kept ? c->new : c->kept, UINT32_MAX, answer);
 }
 
 static void words_not_both(const struct comparison *c)

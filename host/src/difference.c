@@ -4,8 +4,8 @@
 #include <stdbool.h>
 #include <string.h>
 
-#include "disk.h"
 #include "text.h"
+#include "walk.h"
 
 /* How a field's values are shown. */
 enum style { NAMED_ONLY, DECIMAL, OCTAL, HEXADECIMAL };
@@ -42,7 +42,7 @@ static const struct field inode_fields[] = {
 
 /* Where the addresses otherwise start, if the inode has extra attributes. */
 static const struct field extra_fields[] = {
-    {"extra size", DECIMAL, 360, 2, 0, 0},
+    {"extra size", DECIMAL, DISK_ADDRESSES, 2, 0, 0},
     {"attribute size", DECIMAL, 362, 2, 0, 0},
     {"project", DECIMAL, 364, 4, 0, 0},
     {"checksum", HEXADECIMAL, 368, 4, 0, 0},
@@ -52,7 +52,7 @@ static const struct field extra_fields[] = {
 };
 
 static const struct field footer_fields[] = {
-    {"node number", DECIMAL, DISK_FOOTER_NODE, 4, 0, 0},
+    {"node number", DECIMAL, DISK_FOOTER_NUMBER, 4, 0, 0},
     {"inode number", DECIMAL, DISK_FOOTER_INODE, 4, 0, 0},
     {"place and marks", HEXADECIMAL, DISK_FOOTER_FLAG, 4, 0, 0},
     {"checkpoint version", HEXADECIMAL, 4084, 8, 0, 0},
@@ -60,7 +60,7 @@ static const struct field footer_fields[] = {
     {NULL, NAMED_ONLY, 0, 0, 0, 0},
 };
 
-enum { ADDRESSES = 360, NODE_NUMBERS = 4052, SLOT = 4, INLINE_XATTR_BYTES = 200 };
+enum { SLOT = 4, INLINE_XATTR_BYTES = 200 };
 
 /* Two versions of a block, and what of it was shown. */
 struct versions {
@@ -137,15 +137,15 @@ static void show_slots(struct versions *v, size_t from, size_t to, const char *w
 /* What stands where an inode has its addresses; that is said only if it is of one kind in both. */
 static void show_addresses(struct versions *v, uint8_t flags)
 {
-    size_t from = ADDRESSES, to = NODE_NUMBERS;
+    size_t from = DISK_ADDRESSES, to = DISK_NODES;
     if ((flags & DISK_EXTRA_ATTR) != 0) {
         show_fields(v, extra_fields);
-        from += disk16(v->before + ADDRESSES);
+        from += disk16(v->before + DISK_ADDRESSES);
         from = from % SLOT == 0 && from < to ? from : to;
     }
     if ((flags & DISK_INLINE_XATTR) != 0) {
         to = from < to - INLINE_XATTR_BYTES ? to - INLINE_XATTR_BYTES : from;
-        if (differs(v, to, NODE_NUMBERS - to))
+        if (differs(v, to, DISK_NODES - to))
             show_name(v, "inline attributes");
     }
     if ((flags & (DISK_INLINE_DATA | DISK_INLINE_DENTRY)) == 0)
@@ -166,73 +166,70 @@ void show_node_fields(FILE *out, const uint8_t *before, const uint8_t *now)
     uint8_t flags = disk_inode_of(before).inline_flags;
     if (disk_place(before) != 0) {
         const char *what = is_indirect(disk_place(before)) ? "node number in slot" : "address in slot";
-        show_slots(&v, 0, DISK_FOOTER_NODE, what);
+        show_slots(&v, 0, DISK_FOOTER_NUMBER, what);
     } else {
         show_fields(&v, inode_fields);
         if (flags == disk_inode_of(now).inline_flags)
             show_addresses(&v, flags);
-        show_slots(&v, NODE_NUMBERS, DISK_FOOTER_NODE, "node number in slot");
+        show_slots(&v, DISK_NODES, DISK_FOOTER_NUMBER, "node number in slot");
     }
     show_fields(&v, footer_fields);
     if (!v.follows)
         show_name(&v, "other bytes");
 }
 
-enum { SLOTS = 214, ENTRIES = 30, ENTRY_BYTES = 11, NAMES = 2384, NAME_BYTES = 8, MOST_NAME = 255 };
+enum { MOST_NAME_BYTES = 255 };
 
-static bool is_used(const uint8_t *block, size_t slot)
+static void show_entry_name(FILE *out, const struct dentry *entry)
 {
-    return (block[slot / 8] >> slot % 8 & 1) != 0;
+    char name[MOST_NAME_BYTES + 1] = "";
+    if (entry->name == NULL) {
+        fprintf(out, "a malformed one in slot %" PRIu32, entry->slot);
+        return;
+    }
+    memcpy(name, entry->name, entry->len);
+    show_bytes(out, name, entry->len);
 }
 
-/* The name of a slot's entry, as far as it lies in the block; one of no bytes shows as ''. */
-static void show_entry_name(FILE *out, const uint8_t *block, size_t slot)
+/* An entry that is in both versions: where it leads, or its name. */
+static void show_entry_change(FILE *out, const struct dentry *before, const struct dentry *now)
 {
-    char name[MOST_NAME + 1];
-    size_t at = NAMES + NAME_BYTES * slot, len = disk16(block + ENTRIES + ENTRY_BYTES * slot + 8);
-    len = len < MOST_NAME ? len : MOST_NAME;
-    len = len < BLOCK_SIZE - at ? len : BLOCK_SIZE - at;
-    memcpy(name, block + at, len);
-    name[len] = '\0';
-    show(out, name);
-}
-
-/* What of an entry changed that is in both versions: where it leads, or its name. */
-static void show_entry_change(FILE *out, const uint8_t *before, const uint8_t *now, size_t slot)
-{
-    uint32_t was = disk32(before + ENTRIES + ENTRY_BYTES * slot + 4), is = disk32(now + ENTRIES + ENTRY_BYTES * slot + 4);
-    show_entry_name(out, before, slot);
-    if (was != is) {
-        fprintf(out, ": inode %" PRIu32 " before, %" PRIu32 " now", was, is);
+    show_entry_name(out, before);
+    if (before->inode != now->inode) {
+        fprintf(out, ": inode %" PRIu32 " before, %" PRIu32 " now", before->inode, now->inode);
     } else {
         fputs(" before, ", out);
-        show_entry_name(out, now, slot);
+        show_entry_name(out, now);
         fputs(" now", out);
     }
 }
 
-static void show_entry_fate(FILE *out, const uint8_t *before, const uint8_t *now, size_t slot)
+static bool are_alike(const struct dentry *one, const struct dentry *other)
 {
-    bool was = is_used(before, slot), is = is_used(now, slot);
-    fprintf(out, "an entry %s (", was && is ? "changed" : is ? "is new" : "is gone");
-    if (was && is)
-        show_entry_change(out, before, now, slot);
-    else
-        show_entry_name(out, is ? now : before, slot);
-    fputc(')', out);
+    return one->hash == other->hash && one->inode == other->inode && one->len == other->len &&
+           (one->name == NULL || memcmp(one->name, other->name, one->len) == 0);
 }
 
 void show_directory_entry(FILE *out, const uint8_t *before, const uint8_t *now)
 {
-    struct versions v = {.before = before, .now = now};
-    for (size_t slot = 0; slot < SLOTS; slot++) {
-        bool was = is_used(before, slot), is = is_used(now, slot);
-        bool alike = !differs(&v, ENTRIES + ENTRY_BYTES * slot, ENTRY_BYTES) &&
-                     !differs(&v, NAMES + NAME_BYTES * slot, NAME_BYTES);
-        if (was != is || (is && !alike)) {
-            show_entry_fate(out, before, now, slot);
+    struct dentries old = dentries_of_block(before), new = dentries_of_block(now);
+    struct dentry was, is;
+    for (uint32_t slot = 0;; slot = was.slot + (was.name == NULL ? 1 : slots_of(was.len))) {
+        bool any_was = dentry_from(&old, slot, &was), any_is = dentry_from(&new, slot, &is);
+        bool both = any_was && any_is && was.slot == is.slot;
+        if (!any_was && !any_is) {
+            fputs("bytes of no entry changed", out);
             return;
         }
+        if (both && are_alike(&was, &is))
+            continue;
+        bool gone = any_was && (!any_is || was.slot < is.slot);
+        fprintf(out, "an entry %s (", both ? "changed" : gone ? "is gone" : "is new");
+        if (both)
+            show_entry_change(out, &was, &is);
+        else
+            show_entry_name(out, gone ? &was : &is);
+        fputc(')', out);
+        return;
     }
-    fputs("bytes of no entry changed", out);
 }

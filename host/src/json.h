@@ -32,4 +32,7 @@ void json_answer(struct json *json, uint32_t answer, const char *meaning);
 /* A file's name: as text, and its exact bytes in hexadecimal. */
 void json_name(struct json *json, const char *name);
 
+/* The same for a name that may have zero bytes, and has one more behind its end. */
+void json_name_bytes(struct json *json, const char *name, size_t len);
+
 #endif

@@ -308,11 +308,18 @@ impl Expected<'_> {
             assert_eq!(json[key].number(), u64::from(number), "{key} in {json:?}");
         }
         assert_eq!(json["meaning"].text(), meaning("compare", compared.answer));
-        let of_bytes = ["same_bytes", "byte", "before", "now"];
+        let elsewhere = [
+            "same_bytes",
+            "byte",
+            "before",
+            "now",
+            "kept_reason",
+            "new_reason",
+        ];
         let others = json
             .keys()
             .iter()
-            .filter(|key| !of_bytes.contains(key))
+            .filter(|key| !elsewhere.contains(key))
             .count();
         assert_eq!(
             others,

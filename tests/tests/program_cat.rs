@@ -115,7 +115,7 @@ fn refused_on_the_way() {
         "block 2:",
         "(answer 13)",
         &meaning("cat", 13),
-        " 8192 bytes",
+        " 8,192 bytes",
     ] {
         assert!(ran.err.contains(part), "no '{part}' in {ran:?}");
     }

@@ -31,7 +31,9 @@ impl Cards {
         let ran = run(words).expect(1);
         let json = run(&[words, &[&"--json"]].concat()).expect(1).json();
         let mut runs = json["runs"].list().iter();
-        let difference = runs.find_map(|run| run.get("difference")).expect("a change");
+        let difference = runs
+            .find_map(|run| run.get("difference"))
+            .expect("a change");
         let difference = difference.text().to_string();
         self.new.image.undo(0);
         self.new.write_blocks(&[block]);

@@ -15,7 +15,7 @@ use harptimber_tests::layout::superblock::{
 use harptimber_tests::layout::{Field, BLOCK_SIZE};
 use harptimber_tests::on_disk::{OnDisk, Shared};
 use harptimber_tests::program::{run, Words};
-use harptimber_tests::program_page::{expect_head, expect_name, meaning};
+use harptimber_tests::program_page::{counted, expect_head, expect_name, meaning};
 use harptimber_tests::published::{formatted, Scratch};
 
 const NAME: &[u8] = b"road.bin";
@@ -76,18 +76,24 @@ impl Images {
         let whole = sound().bytes().len() as u64;
         let most = u64::from(MOST_BLOCKS) * block;
         for len in [1, 2 * block - 1, whole - 1, whole + 1, most + 1] {
-            let bytes = if len == 1 { "byte" } else { "bytes" };
+            let bytes = counted(len as usize, "byte");
             let not_whole = "which isn't a whole number of 4,096-byte blocks";
+            self.add_length(len, 4, &format!(": the image has {bytes}, {not_whole}"));
+        }
+        let few = ": the image has 1 block of 4,096 bytes; a card has at least 2";
+        self.add_length(block, 4, few);
+        let larger = [
+            (most + block, "1 GiB (1,073,745,920 bytes)"),
+            (2 * most, "2 GiB"),
+            (5 * most / 2, "2.5 GiB (2,684,354,560 bytes)"),
+        ];
+        for (len, size) in larger {
             self.add_length(
                 len,
                 4,
-                &format!(": the image has {len} {bytes}, {not_whole}"),
+                &format!(": the image has {size}; at most 1 GiB is read"),
             );
         }
-        let (few, many) = ("a card has at least 2", "at most 262,144 are read");
-        self.add_length(block, 4, &format!(": the image has 1 block; {few}"));
-        let why = format!(": the image has 262145 blocks; {many}");
-        self.add_length(most + block, 4, &why);
         let [count, left] = [whole, whole - block].map(|len| len / block);
         let why = format!("; the superblock counts {count} blocks, the image has {left}");
         self.add_length(whole - block, 5, &why);

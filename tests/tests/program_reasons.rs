@@ -1,0 +1,411 @@
+//! Why a pull was refused, in words and in JSON, for each thing that can be wrong on the way.
+
+use std::path::PathBuf;
+
+use reference::hash::raw_hash;
+
+use harptimber_tests::card::{Card, ROOT};
+use harptimber_tests::directory::{bucket_index, in_slot, Dentry};
+use harptimber_tests::layout::dentry::{FILE_TYPE, INO, NAME_LEN};
+use harptimber_tests::layout::footer;
+use harptimber_tests::layout::inode::*;
+use harptimber_tests::layout::{Field, BLOCK_SIZE};
+use harptimber_tests::lent::Lent;
+use harptimber_tests::on_disk::OnDisk;
+use harptimber_tests::program::{run, Words};
+use harptimber_tests::program_page::{expect_head, meaning};
+use harptimber_tests::published::Scratch;
+use harptimber_tests::pulls::{reference_pull, Call, Outcome};
+use harptimber_tests::random_card::pick;
+use harptimber_tests::scene::{Scene, Setting, NAME};
+use harptimber_tests::special_build::SpecialBuild;
+use harptimber_tests::tree;
+use harptimber_tests::trial::Random;
+use harptimber_tests::walk_damage::strike_block;
+
+const BLOCKS: u32 = 2000;
+
+/// A card whose file has data in its inode and in a node at place 1.
+struct Stage {
+    scene: Scene,
+    scratch: Scratch,
+}
+
+impl Stage {
+    fn new() -> Stage {
+        let setting = Setting {
+            root_inline: 0,
+            file_inline: 0,
+            size: u64::from(BLOCKS) * BLOCK_SIZE as u64,
+        };
+        let mut scene = Scene::new(&mut Random::new(21), setting);
+        for index in [0, ADDRESSES] {
+            scene.card.add_block(scene.ino, index);
+        }
+        // What only words speak of is junk else.
+        for block in [scene.file_block(), scene.root_block()] {
+            let image = &mut scene.card.image;
+            image.set_all(block, &[(I_ADVISE, 0), (I_FLAGS, 0)]);
+        }
+        scene.card.image.settle("a file with a node");
+        Stage {
+            scene,
+            scratch: Scratch::new(),
+        }
+    }
+
+    fn card(&mut self) -> &mut Card {
+        &mut self.scene.card
+    }
+
+    fn save(&self) -> PathBuf {
+        let path = self.scratch.path("card.img");
+        self.scene.card.image.save(&path);
+        path
+    }
+
+    /// Changes the card, and says that a pull of a block then has this answer and this reason.
+    fn expect(&mut self, index: u32, answer: u32, reason: &str, change: impl FnOnce(&mut Scene)) {
+        let mark = self.scene.card.image.mark();
+        change(&mut self.scene);
+        let path = self.save();
+        let ran = run(&[&"pull", &path, &NAME, &index]).expect(2);
+        let name = String::from_utf8_lossy(NAME);
+        let meaning = meaning("pull", answer);
+        let line = format!("{name}, block {index}: {meaning} (answer {answer}): {reason}\n");
+        assert!(ran.words().starts_with(&line), "no '{line}' in {ran:?}");
+        let json = run(&[&"pull", &"--json", &path, &NAME, &index])
+            .expect(2)
+            .json();
+        expect_head(&json, "pull", answer);
+        assert_eq!(json["reason"].text(), reason, "in {json:?}");
+        self.scene.card.image.undo(mark);
+    }
+
+    /// The same with fields of an inode.
+    fn expect_fields(&mut self, block: u32, answer: u32, reason: &str, fields: &[(Field, u64)]) {
+        self.expect(0, answer, reason, |scene| {
+            scene.card.image.set_all(block, fields)
+        });
+    }
+
+    fn main_area(&self) -> String {
+        let areas = &self.scene.card.image.areas;
+        format!(
+            "the main area is blocks {} to {}",
+            areas.main,
+            areas.main_end - 1
+        )
+    }
+}
+
+/// 9: a number that is out of range, or not in use.
+#[test]
+fn no_node() {
+    let mut stage = Stage::new();
+    let (ino, linked) = (stage.scene.ino, stage.scene.linked);
+    let entry = in_slot(INO, linked.slot);
+    for number in [0, stage.card().node_numbers] {
+        let reason = format!("node {number} (the file's inode) is out of range");
+        stage.expect_fields(linked.block, 9, &reason, &[(entry, u64::from(number))]);
+    }
+    let unused = format!("node {ino} (the file's inode) isn't in use");
+    stage.expect(0, 9, &unused, |scene| scene.card.set_entry(ino, ino, 0));
+    let below = stage.card().node(ino, 1).nid;
+    let unused = format!("node {below} (place 1 of the file) isn't in use");
+    stage.expect(ADDRESSES, 9, &unused, |scene| {
+        scene.card.set_entry(below, ino, 0)
+    });
+    let root = "node 3 (the root directory's inode) isn't in use";
+    stage.expect(0, 9, root, |scene| scene.card.set_entry(ROOT, ROOT, 0));
+}
+
+/// 9 on the way to a block of the root directory, which needs a directory of many levels.
+#[test]
+fn no_node_of_the_root() {
+    let mut stage = Stage::new();
+    let level = 9;
+    let index = bucket_index(level, raw_hash(NAME), 0);
+    let place = tree::way(ADDRESSES, index)[1].place;
+    let (root, linked) = (stage.scene.root_block(), stage.scene.linked);
+    stage.card().way(ROOT, index);
+    let node = stage.card().node(ROOT, place).nid;
+    let reason = format!("node {node} (place {place} of the root directory) isn't in use");
+    stage.expect(0, 9, &reason, |scene| {
+        let card = &mut scene.card;
+        card.image.set(root, I_CURRENT_DEPTH, u64::from(level) + 1);
+        // Otherwise it is found before.
+        card.image
+            .set_slot_bits(linked.block, linked.slot, 1, false);
+        card.set_entry(node, ROOT, 0);
+    });
+}
+
+/// 10 and 13: an address outside the main area.
+#[test]
+fn outside() {
+    let mut stage = Stage::new();
+    let ino = stage.scene.ino;
+    let [first, end] = [
+        stage.card().image.areas.main,
+        stage.card().image.areas.main_end,
+    ];
+    let main_area = stage.main_area();
+    for address in [first - 1, end, u32::MAX - 1] {
+        let reason = |whose: &str| format!("{whose} has address {address}; {main_area}");
+        let inode = reason(&format!("node {ino} (the file's inode)"));
+        stage.expect(0, 10, &inode, |scene| {
+            scene.card.set_entry(ino, ino, address)
+        });
+        let below = stage.card().node(ino, 1).nid;
+        let node = reason(&format!("node {below} (place 1 of the file)"));
+        stage.expect(ADDRESSES, 10, &node, |scene| {
+            scene.card.set_entry(below, ino, address)
+        });
+        for index in [0, ADDRESSES] {
+            let data = reason(&format!("block {index} of the file"));
+            stage.expect(index, 13, &data, |scene| {
+                scene.card.set_address(ino, index, address)
+            });
+        }
+        let entries = reason("block 0 of the root directory");
+        stage.expect(0, 13, &entries, |scene| {
+            scene.card.set_address(ROOT, 0, address)
+        });
+    }
+}
+
+/// 11: which number of the block, or of the table, is another.
+#[test]
+fn foreign() {
+    let mut stage = Stage::new();
+    let ino = stage.scene.ino;
+    let node = stage.card().node(ino, 1);
+    let inode = stage.card().node(ino, 0);
+    let of_node = format!(
+        "node {} (place 1 of the file) should be in block {}",
+        node.nid, node.block
+    );
+    let of_inode = format!(
+        "node {ino} (the file's inode) should be in block {}",
+        inode.block
+    );
+    let other = u64::from(ino ^ 1);
+    let place = |place: u64| (footer::FLAG, place << footer::OFFSET_BIT_SHIFT | 5);
+    let number = format!("the block's number is 77, not {}", node.nid);
+    let owner = format!("the block's inode is {other}, not {ino}");
+    let cases: [(&[(Field, u64)], String); 4] = [
+        (&[(footer::NID, 77)], number.clone()),
+        (&[(footer::INO, other)], owner.clone()),
+        (&[place(9)], "the block's place is 9, not 1".to_string()),
+        (
+            &[(footer::NID, 77), (footer::INO, other), place(0)],
+            format!("{number}; {owner}; the block's place is 0, not 1"),
+        ),
+    ];
+    for (fields, why) in cases {
+        stage.expect(ADDRESSES, 11, &format!("{of_node}, but {why}"), |scene| {
+            scene.card.image.set_all(node.block, fields)
+        });
+    }
+    let why = format!("{of_node}, but the table's inode is {other}, not {ino}");
+    stage.expect(ADDRESSES, 11, &why, |scene| {
+        scene.card.set_entry(node.nid, other as u32, node.block)
+    });
+    let why = format!("{of_inode}, but the block's place is 1, not 0");
+    stage.expect_fields(inode.block, 11, &why, &[place(1)]);
+}
+
+/// 12 of a file.
+#[test]
+fn kinds_of_files() {
+    let mut stage = Stage::new();
+    let inode = stage.scene.file_block();
+    let kinds = [
+        (0x1000, "a FIFO"),
+        (0x2000, "a character device"),
+        (S_IFDIR, "a directory"),
+        (0x6000, "a block device"),
+        (0xA000, "a symbolic link"),
+        (0xC000, "a socket"),
+        (0x0000, "a file of no known kind"),
+        (0x9000, "a file of no known kind"),
+    ];
+    for (mode, kind) in kinds {
+        let fields = [(I_MODE, mode | 0o644), (I_INLINE, INLINE_DATA)];
+        stage.expect_fields(inode, 12, &format!("it is {kind}"), &fields);
+    }
+    let extra = "its inode has extra attributes";
+    let cases: [(&[(Field, u64)], String); 5] = [
+        (
+            &[(I_INLINE, INLINE_DATA)],
+            "its bytes are inline; small and empty files usually are inline".to_string(),
+        ),
+        (
+            &[(I_INLINE, INLINE_DENTRY)],
+            "it is marked as an inline directory".to_string(),
+        ),
+        (&[(I_INLINE, EXTRA_ATTR)], extra.to_string()),
+        (
+            &[(I_INLINE, EXTRA_ATTR), (I_ADVISE, ADVISE_ENCRYPT)],
+            format!("{extra}; it is encrypted"),
+        ),
+        (
+            &[(I_INLINE, EXTRA_ATTR), (I_FLAGS, FLAG_COMPRESSED)],
+            format!("{extra}; it is compressed"),
+        ),
+    ];
+    for (fields, why) in cases {
+        stage.expect_fields(inode, 12, &why, fields);
+    }
+}
+
+/// 12 of the root directory, whatever name is sought.
+#[test]
+fn kinds_of_roots() {
+    let mut stage = Stage::new();
+    let root = stage.scene.root_block();
+    let cases: [(&[(Field, u64)], &str); 7] = [
+        (&[(I_MODE, S_IFREG | 0o644)], "it is a regular file"),
+        (&[(I_INLINE, INLINE_DENTRY)], "its entries are inline"),
+        (&[(I_INLINE, INLINE_DATA)], "it is marked as an inline file"),
+        (&[(I_INLINE, EXTRA_ATTR)], "its inode has extra attributes"),
+        (&[(I_CURRENT_DEPTH, 64)], "its depth is 64, over 63"),
+        (
+            &[(I_CURRENT_DEPTH, u32::MAX as u64)],
+            "its depth is 4294967295, over 63",
+        ),
+        (&[(I_DIR_LEVEL, 2)], "its directory level is 2, not 0"),
+    ];
+    for (fields, why) in cases {
+        let reason = format!("the root directory isn't read: {why}");
+        stage.expect_fields(root, 12, &reason, fields);
+    }
+}
+
+/// 14: where the entry is, and how long its name.
+#[test]
+fn malformed() {
+    let mut stage = Stage::new();
+    let block = stage.scene.linked.block;
+    let slot = stage.scene.linked.slot;
+    for (len, bytes) in [(0, "0 bytes"), (256, "256 bytes"), (65_535, "65,535 bytes")] {
+        let place =
+            format!("slot {slot} of the card's block {block} (block 0 of the root directory)");
+        let reason = format!("{place} has a name of {bytes}");
+        stage.expect_fields(block, 14, &reason, &[(in_slot(NAME_LEN, slot), len)]);
+    }
+    let place = format!("slot 213 of the card's block {block} (block 0 of the root directory)");
+    stage.expect(0, 14, &format!("{place} has a name of 9 bytes"), |scene| {
+        let image = &mut scene.card.image;
+        image.set_slot_bits(block, slot, 1, false);
+        image.put_dentry(block, 213, &Dentry::new(b"123456789", 5));
+        image.set(block, in_slot(FILE_TYPE, 213), 1);
+    });
+}
+
+/// 3: how long the file is.
+#[test]
+fn past_the_end() {
+    let mut stage = Stage::new();
+    let inode = stage.scene.file_block();
+    let whole = "it has 8,192,000 bytes, so that its last block is 1999";
+    for index in [BLOCKS, u32::MAX] {
+        stage.expect(index, 3, whole, |_| ());
+    }
+    stage.expect_fields(inode, 3, "it is empty", &[(I_SIZE, 0)]);
+    let sizes = [(1, "1 byte"), (4096, "4,096 bytes")];
+    for (size, bytes) in sizes {
+        let reason = format!("it has {bytes}, so that its last block is 0");
+        stage.expect(1, 3, &reason, |scene| {
+            scene.card.image.set(inode, I_SIZE, size)
+        });
+    }
+}
+
+/// `cat` has the reason too, and how much it wrote before.
+#[test]
+fn in_cat() {
+    let mut stage = Stage::new();
+    let ino = stage.scene.ino;
+    let end = stage.card().image.areas.main_end;
+    stage.card().set_address(ino, 1, end);
+    let path = stage.save();
+    let output = stage.scratch.path("output");
+    let reason = format!(
+        "block 1 of the file has address {end}; {}",
+        stage.main_area()
+    );
+    let line = format!(" (answer 13): {reason}; 4,096 bytes were written\n");
+    let ran = run(&[&"cat", &path, &NAME]).expect(2);
+    assert!(ran.err.ends_with(&line), "no '{line}' in {ran:?}");
+    let ran = run(&[&"cat", &"--json", &"-o", &output, &path, &NAME]).expect(2);
+    assert_eq!(ran.json()["reason"].text(), reason, "in {ran:?}");
+}
+
+/// Of a block or a hole there is nothing to explain, nor of a name that isn't there.
+#[test]
+fn no_reason() {
+    let stage = Stage::new();
+    let path = stage.save();
+    let lines: [(Words, i32); 4] = [
+        (&[&"pull", &"--json", &path, &NAME, &"0"], 0),
+        (&[&"pull", &"--json", &path, &NAME, &"1"], 0),
+        (&[&"pull", &"--json", &path, &"missing", &"0"], 2),
+        (&[&"node", &"--json", &path, &"3"], 0),
+    ];
+    for (line, status) in lines {
+        let json = run(line).expect(status).json();
+        assert!(json.get("reason").is_none(), "a reason in {json:?}");
+    }
+}
+
+/// Whatever the damage is, the program's walk stops where the library's does, so that there is a reason; and it keeps to
+/// the image's bytes.
+#[test]
+fn damaged() {
+    const ROUNDS: usize = 150;
+    let build = SpecialBuild::sanitized();
+    let stage = Stage::new();
+    let mut disk = OnDisk::new(stage.scene.card.image.clone());
+    let mut random = Random::new(22);
+    let mut reasons = [0; 15];
+    for _ in 0..ROUNDS {
+        let index = pick(&mut random, &[0, 1, 922, 923, 924, 1999]);
+        let mut lists = pulled(&disk, index);
+        lists.sort();
+        let mut struck = Vec::new();
+        for _ in 0..1 + random.below(3) {
+            let block = pick(&mut random, &lists);
+            strike_block(&mut disk.image, block, &mut random);
+            struck.push(block);
+        }
+        disk.write_blocks(&struck);
+        let call = Call::new(&disk.image, NAME, index);
+        let answer = Outcome::of(reference_pull, &call, Lent::least())
+            .pulled
+            .answer;
+        let ran = build.run(&[&"pull", &"--json", &disk.path(), &NAME, &index]);
+        let json = ran.json();
+        expect_head(&json, "pull", answer);
+        let explained = matches!(answer, 3 | 9..=14);
+        assert_eq!(
+            json.get("reason").is_some(),
+            explained,
+            "in {json:?} of {:?}",
+            disk.image
+        );
+        reasons[answer as usize] += u32::from(explained);
+        disk.image.undo(0);
+        disk.write_blocks(&struck);
+    }
+    for answer in [9, 11, 12, 13, 14] {
+        assert!(reasons[answer] > 0, "no answer {answer} in {reasons:?}");
+    }
+}
+
+/// The blocks that a pull reads.
+fn pulled(disk: &OnDisk, index: u32) -> Vec<u32> {
+    let call = Call::new(&disk.image, NAME, index);
+    Outcome::of(reference_pull, &call, Lent::least()).blocks()
+}
