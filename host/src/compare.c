@@ -255,7 +255,7 @@ static enum status compare_cards(const struct request *request, const struct car
 /* A card is always the same as itself: a script that gives it twice has a wrong variable. */
 static bool are_two(const struct card *kept, const struct card *new)
 {
-    if (!card_is(kept, &new->info) && !card_is(new, &kept->info))
+    if (!card_is_same(kept, new))
         return true;
     show_subject(stderr, "compare");
     fputs("KEPT and NEW are one and the same card, which is always the same as itself: ", stderr);

@@ -261,7 +261,9 @@ fn block_devices() {
     assert!(read.out == card.file(ROAD).bytes(&card.card.image));
     let other = OnDisk::new(card.disk.image.clone());
     run(&[&"compare", &other.path(), &device, &ROAD]).expect(0);
-    for [kept, new] in [[&image, &device], [&device, &image], [&device, &device]] {
+    let again = Loop::attach(&image).expect("a second loop device");
+    let same = [&image, &device, &again.path];
+    for [kept, new] in same.iter().flat_map(|kept| same.map(|new| [*kept, new])) {
         let ran = run(&[&"compare", kept, new, &ROAD]);
         ran.expect_message(3, &["one and the same card"]);
     }
