@@ -186,6 +186,24 @@ fn friction_table() {
     );
 }
 
+/// Of many blocks here and there the first are named.
+#[test]
+fn every_second_block() {
+    let mut random = Random::new(25);
+    let kept = file_list(&["table"], |_| contents(&mut random, 25 * BLOCK_SIZE));
+    let mut new = kept.clone();
+    for index in (0..25).step_by(2) {
+        new[0].1[index * BLOCK_SIZE + 17] ^= 0xFF;
+    }
+    let [before, now] = [&kept, &new].map(|files| files[0].1[17]);
+    let [kept, new] = [&kept, &new].map(|files| OnDisk::new(filled_on(64, DATE, files)));
+    let ran = run(&[&"compare", &kept.path(), &new.path(), &"table"]).expect(1);
+    let first = format!("first at byte 17 of the file (0x{before:02x} before, 0x{now:02x} now)");
+    let line = format!("table: 13 of 25 blocks differ, {first}; 12 are the same");
+    let blocks = "  blocks 0, 2, 4, 6, 8, 10, 12, 14, 16, 18 and 3 more: other bytes";
+    assert_eq!(ran.words(), format!("{line}\n{blocks}\n"));
+}
+
 /// Grown, shrunk, gone, new and no longer readable, each by itself: the line, then details.
 #[test]
 fn each_alone() {

@@ -278,3 +278,85 @@ fn behind_the_end() {
     let rest = "  block 5: the file's data changed, but only behind its end";
     assert_eq!(ran.words(), format!("{line}\n{rest}\n"));
 }
+
+/// What is told last if one byte is changed on a card that has these flags in a file's inode.
+fn told_with(name: &[u8], flags: u64, at: usize) -> String {
+    let card = ProgramCard::build();
+    let mut image = card.disk.image.clone();
+    let slot = slot_of(&image, card.card.directory[&0], name);
+    let ino = image.get(card.card.directory[&0], in_slot(dentry::INO, slot)) as u32;
+    let block = card.card.inode_block(ino);
+    image.set(block, I_INLINE, flags);
+    if flags & 0x20 != 0 {
+        image.put("size of extra attributes", block, 360, &[36, 0]);
+    }
+    let kept = OnDisk::new(image.clone());
+    let byte = image.block(block)[at] ^ 1;
+    image.put("byte", block, at, &[byte]);
+    let new = OnDisk::new(image);
+    let ran = run(&[&"compare", &kept.path(), &new.path(), &name]).expect(1);
+    let line = ran.words().lines().last().expect("a line");
+    let told = line.rsplit_once(" changed in the file's inode (node ");
+    let told = told.unwrap_or_else(|| panic!("of {ran:?}"));
+    told.0.trim_start().to_string()
+}
+
+/// What stands where an inode usually has its addresses: extra attributes, contents, or attributes.
+#[test]
+fn instead_of_addresses() {
+    let [xattr, data, extra] = [0x01, 0x02, 0x20];
+    let cases = [
+        (b"inline".as_slice(), extra, 364, "project"),
+        (b"inline", extra, 372, "creation time"),
+        (b"inline", extra, 383, "creation time"),
+        (b"inline", extra, 396, "address of block 0"),
+        (b"inline", extra | data, 396, "inline contents"),
+        (b"inline", data, 364, "inline contents"),
+        (b"inline", data | xattr, 3851, "inline contents"),
+        (b"inline", data | xattr, 3852, "inline attributes"),
+        (ROAD, xattr, 4051, "blocks 0 to 5: inline attributes"),
+        (ROAD, 0, 4051, "blocks 0 to 5: address of block 922"),
+    ];
+    for (name, flags, at, words) in cases {
+        let told = told_with(name, flags, at);
+        assert!(told.starts_with(words), "byte {at} with {flags:#x}: {told}");
+    }
+}
+
+/// Of many things that changed the first are told, and how many there are besides.
+#[test]
+fn many_changes() {
+    let mut card = ProgramCard::build().card;
+    let first = |node: u32| 923 + 1018 * node;
+    let ino = card.add_file(0, u64::from(first(12)) * 4096);
+    card.link(0, 0, &Dentry::new(b"many", ino));
+    let nodes: Vec<_> = (0..12)
+        .map(|node| {
+            card.add_block(ino, first(node));
+            card.way(ino, first(node)).last().unwrap().node
+        })
+        .collect();
+    let kept = OnDisk::new(card.image.clone());
+    for node in &nodes {
+        let version = card.image.block(node.block)[4084] ^ 1;
+        card.image.put("version", node.block, 4084, &[version]);
+    }
+    let new = OnDisk::new(card.image.clone());
+    let ran = run(&[&"compare", &kept.path(), &new.path(), &"many"]).expect(1);
+    let lines: Vec<&str> = ran.words().lines().collect();
+    let counts = "12,216 of 13,139 blocks have the same bytes but rest on something that changed";
+    assert_eq!(lines[0], format!("many: {counts}; 923 are the same"));
+    for (line, (n, node)) in lines[1..11].iter().zip((0..).zip(&nodes)) {
+        let blocks = format!(
+            "  blocks {} to {}: checkpoint version (",
+            first(n),
+            first(n + 1) - 1
+        );
+        assert!(line.starts_with(&blocks), "no '{blocks}' in '{line}'");
+        let place = format!(" (node {}, the card's block {})", node.nid, node.block);
+        assert!(line.ends_with(&place), "no '{place}' in '{line}'");
+    }
+    assert_eq!(lines[11..], ["  2 more changes; --json has them all"]);
+    let json = run(&[&"compare", &"--json", &kept.path(), &new.path(), &"many"]).expect(1);
+    assert_eq!(json.json()["runs"].list().len(), 13);
+}
