@@ -49,11 +49,13 @@ static void words_area(const uint8_t *superblock, int area)
 {
     uint32_t first = disk_area_first(superblock, area), segments = disk_area_segments(superblock, area);
     printf("%s area: ", disk_areas[area].name);
-    if (segments == 0)
+    if (segments == 0) {
         printf("none\n");
-    else
-        printf("blocks %" PRIu32 " to %" PRIu64 " (%" PRIu32 " segment%s)\n", first, disk_area_end(superblock, area) - 1, segments,
-               segments == 1 ? "" : "s");
+        return;
+    }
+    printf("blocks %" PRIu32 " to %" PRIu64 " (", first, disk_area_end(superblock, area) - 1);
+    show_count(stdout, segments, "segment");
+    printf(")\n");
 }
 
 static void words_volume(const struct info *info)
@@ -66,17 +68,24 @@ static void words_volume(const struct info *info)
     uint64_t blocks = disk64(superblock + DISK_BLOCK_COUNT_AT);
     printf("\nsize: ");
     show_size(stdout, blocks * BLOCK_SIZE);
-    printf(", %" PRIu64 " blocks of 4096 bytes\n", blocks);
-    printf("features: %s\n", *features == '\0' ? "none" : features);
+    printf(", ");
+    show_count(stdout, blocks, "block");
+    printf(" of 4,096 bytes\nfeatures: %s\n", *features == '\0' ? "none" : features);
     for (int area = 0; area < DISK_AREAS; area++)
         words_area(superblock, area);
+}
+
+/* A card that is out of shape isn't read by any copy. */
+static bool copy_is_used(const struct opening *opening, int i)
+{
+    return i == opening->copy_in_use && opening->answer != HARPTIMBER_OUT_OF_SHAPE;
 }
 
 static void words_copies(const struct opening *opening)
 {
     for (int i = 0; i < 2; i++) {
         const struct opening_copy *copy = &opening->copies[i];
-        const char *good = i == opening->copy_in_use ? "in use" : "passes";
+        const char *good = copy_is_used(opening, i) ? "in use" : "passes";
         printf("superblock copy %d: %s%s\n", i + 1, copy->passes ? good : "doesn't pass: ", copy->why);
     }
 }
@@ -116,7 +125,7 @@ static void info_words(const struct info *info)
     const struct opening *opening = &info->opening;
     show(stdout, info->card->path);
     printf(opening->answer == HARPTIMBER_DATA ? ": " : ": can't be read: ");
-    show_answer(stdout, opening->answer, meaning(opening->answer), info->card, NULL);
+    show_with_reason(stdout, opening->answer, meaning(opening->answer), info->reason);
     printf("\n");
     if (info->superblock != NULL)
         words_volume(info);
@@ -169,7 +178,7 @@ static void json_copies(struct json *json, const struct opening *opening)
 {
     json_open(json, "copies", '[');
     for (int i = 0; i < 2; i++) {
-        json_judged(json, opening->copies[i].passes, i == opening->copy_in_use, opening->copies[i].why);
+        json_judged(json, opening->copies[i].passes, copy_is_used(opening, i), opening->copies[i].why);
         json_close(json, '}');
     }
     json_close(json, ']');

@@ -6,6 +6,7 @@
 #include <string.h>
 
 #include "disk.h"
+#include "text.h"
 #include "words.h"
 
 static bool is_zeros(const uint8_t *block)
@@ -84,8 +85,10 @@ static bool ends_pass(const uint8_t *copy, uint64_t image_blocks, char *why)
         return because(why, "the main area ends at %" PRIu64 ", but segment_count at %" PRIu64, main_end, segments_end);
     if (segments_end > blocks)
         return because(why, "segment_count ends at %" PRIu64 ", but block_count is %" PRIu64, segments_end, blocks);
+    char counted[NUMBER_ROOM], there[NUMBER_ROOM];
     if (blocks > image_blocks)
-        return because(why, "it counts %" PRIu64 " blocks, the image has %" PRIu64, blocks, image_blocks);
+        return because(why, "it counts %s blocks, the image has %s", number_text(counted, blocks),
+                       number_text(there, image_blocks));
     return true;
 }
 

@@ -55,6 +55,7 @@ bool part_take(struct card *card, const struct part *part)
         return true;
     if (part->offset < card->file_len)
         return take(card, part->offset, (uint64_t)MOST_CARD_BLOCKS * BLOCK_SIZE);
-    complain(card->path, "has no byte %" PRIu64 ": it has %zu bytes", part->offset, card->file_len);
+    char there[NUMBER_ROOM];
+    complain(card->path, "has no byte %" PRIu64 ": it has %s bytes", part->offset, number_text(there, card->file_len));
     return false;
 }

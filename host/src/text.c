@@ -65,23 +65,28 @@ int show(FILE *out, const char *text)
     return show_bytes(out, text, strlen(text));
 }
 
-void show_number(FILE *out, uint64_t number)
+const char *number_text(char room[NUMBER_ROOM], uint64_t number)
 {
-    if (number < 1000) {
-        fprintf(out, "%" PRIu64, number);
-        return;
+    char *at = room + NUMBER_ROOM - 1;
+    *at = '\0';
+    for (int digits = 0; digits == 0 || number != 0; digits++, number /= 10) {
+        if (digits != 0 && digits % 3 == 0)
+            *--at = ',';
+        *--at = (char)('0' + number % 10);
     }
-    show_number(out, number / 1000);
-    fprintf(out, ",%03" PRIu64, number % 1000);
+    return at;
+}
+
+int show_number(FILE *out, uint64_t number)
+{
+    char room[NUMBER_ROOM];
+    return fprintf(out, "%s", number_text(room, number));
 }
 
 void show_padded(FILE *out, uint64_t number, int width)
 {
-    int len = 1;
-    for (uint64_t rest = number, digits = 1; rest >= 10; rest /= 10, digits++)
-        len += digits % 3 == 0 ? 2 : 1;
-    fprintf(out, "%*s", len < width ? width - len : 0, "");
-    show_number(out, number);
+    char room[NUMBER_ROOM];
+    fprintf(out, "%*s", width, number_text(room, number));
 }
 
 void show_count(FILE *out, uint64_t count, const char *thing)

@@ -24,9 +24,13 @@ int show_bytes(FILE *out, const char *text, size_t len);
 
 /*
  * Prints a quantity as people write it: 4,096. Numbers that name something, a block, a node or an answer,
- * are printed as the commands take them.
+ * are printed as the commands take them. Returns how many bytes were printed.
  */
-void show_number(FILE *out, uint64_t number);
+int show_number(FILE *out, uint64_t number);
+
+/* The same as a text, for which there is room. */
+enum { NUMBER_ROOM = 27 };
+const char *number_text(char room[NUMBER_ROOM], uint64_t number);
 
 /* The same with spaces before it, if it has fewer characters than `width`. */
 void show_padded(FILE *out, uint64_t number, int width);

@@ -62,7 +62,8 @@ static void show_bad_length(FILE *out, const struct card *card)
         show_count(out, card->len, "byte");
         fputs(", which isn't a whole number of 4,096-byte blocks", out);
     } else if (card->len / BLOCK_SIZE < FEWEST_CARD_BLOCKS) {
-        fputs("1 block of 4,096 bytes; a card has at least 2", out);
+        show_count(out, card->len / BLOCK_SIZE, "block");
+        fputs(" of 4,096 bytes; a card has at least 2", out);
     } else {
         show_size(out, card->len);
         if (card->len % GIB != 0) {
@@ -173,12 +174,17 @@ char *reason_of(uint32_t answer, const struct card *card, const char *name)
 }
 
 /* What is out of shape is told by the reason, instead of all that could be. */
-void show_asked(FILE *out, uint32_t answer, const char *meaning, const struct asked *asked)
+void show_with_reason(FILE *out, uint32_t answer, const char *meaning, const char *reason)
 {
-    char *reason = reason_of_asked(answer, asked);
     fprintf(out, "%s (answer %" PRIu32 ")", answer == HARPTIMBER_OUT_OF_SHAPE ? "out of shape" : meaning, answer);
     if (reason != NULL)
         fprintf(out, ": %s", reason);
+}
+
+void show_asked(FILE *out, uint32_t answer, const char *meaning, const struct asked *asked)
+{
+    char *reason = reason_of_asked(answer, asked);
+    show_with_reason(out, answer, meaning, reason);
     free(reason);
 }
 

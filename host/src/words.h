@@ -26,7 +26,10 @@ struct asked {
 /* A pull of a file's block. */
 struct asked pull_of(const struct card *card, const char *name, uint32_t index);
 
-/* Prints 'MEANING (answer N)' and, where there is one, ': ' and the reason. */
+/* Prints 'MEANING (answer N)' and, unless it is null, ': ' and the reason. */
+void show_with_reason(FILE *out, uint32_t answer, const char *meaning, const char *reason);
+
+/* The same with the reason that a call has. */
 void show_asked(FILE *out, uint32_t answer, const char *meaning, const struct asked *asked);
 
 /* The same for a call with this card and this name, which are null if it takes none, that is no pull. */

@@ -242,11 +242,15 @@ pub fn shown(name: &[u8]) -> String {
 
 /// So many things, as words have it: "1 block", "4,096 blocks".
 pub fn counted(count: usize, thing: &str) -> String {
+    let plural = if count == 1 { "" } else { "s" };
+    format!("{} {thing}{plural}", with_commas(count))
+}
+
+pub fn with_commas(count: usize) -> String {
     let digits = count.to_string();
     let groups = digits.as_bytes().rchunks(3).rev();
     let groups = groups.map(|group| std::str::from_utf8(group).expect("digits"));
-    let plural = if count == 1 { "" } else { "s" };
-    format!("{} {thing}{plural}", groups.collect::<Vec<_>>().join(","))
+    groups.collect::<Vec<_>>().join(",")
 }
 
 /// Data, holes and what was found are read; everything else is refused.

@@ -14,8 +14,10 @@ use harptimber_tests::layout::superblock::MAGIC;
 use harptimber_tests::layout::BLOCK_SIZE;
 use harptimber_tests::program::{run, Ran, Word, Words};
 use harptimber_tests::program_card::{shared_card, LONG, ROAD};
-use harptimber_tests::program_page::expect_head;
+use harptimber_tests::program_page::{expect_head, with_commas};
+use harptimber_tests::random_card::pick;
 use harptimber_tests::special_build::SpecialBuild;
+use harptimber_tests::trial::Random;
 
 const MIB: u64 = 1 << 20;
 
@@ -245,6 +247,14 @@ fn compare() {
     }
 }
 
+fn gpt_entry(number: u32, first: u64, sectors: u64) -> GptEntry {
+    GptEntry {
+        number,
+        first,
+        last: first + sectors - 1,
+    }
+}
+
 #[test]
 fn gpt() {
     let large = GptForm {
@@ -256,47 +266,30 @@ fn gpt() {
         entries: 9,
         ..GptForm::USUAL
     };
+    let road = shared_card().file(ROAD).bytes(&card());
     for form in [GptForm::USUAL, large, other] {
         let disk = Disk::new(96 * MIB);
-        let first = 3 * MIB / form.sector;
-        let len = card().bytes().len() as u64;
-        let gpt = |number, first, sectors: u64| GptEntry {
-            number,
-            first,
-            last: first + sectors - 1,
-        };
-        let entries = [
-            gpt(2, 40 * MIB / form.sector, 1),
-            gpt(3, first, len.div_ceil(form.sector)),
-            gpt(9, 60 * MIB / form.sector, 8),
-        ];
-        disk.put_gpt(form, &entries);
-        disk.put_card(3 * MIB, &card());
         let puts = [
             (2, 40 * MIB, form.sector, false),
-            (3, 3 * MIB, len, true),
+            (3, 3 * MIB, card().bytes().len() as u64, true),
             (9, 60 * MIB, 8 * form.sector, false),
         ];
+        let entry =
+            |(number, first, len, _)| gpt_entry(number, first / form.sector, len / form.sector);
+        disk.put_gpt(form, &puts.map(entry));
+        disk.put_card(3 * MIB, &card());
         expect_table(&disk, "GPT", 5, &puts);
         let cat: Words = &[&"cat", &"--partition", &"3", &disk.path(), &ROAD];
-        let road = shared_card().file(ROAD).bytes(&card());
         assert!(run(cat).expect(0).out == road, "bytes of {form:?}");
-        refuse(
-            &disk,
-            &["--partition", "1"],
-            "no partition 1; the file is a disk with partitions (GPT): 2 at byte ",
-        );
+        let message = "no partition 1; the file is a disk with partitions (GPT): 2 at byte ";
+        refuse(&disk, &["--partition", "1"], message);
     }
 }
 
 #[test]
 fn gpt_checksums() {
     assert_eq!(crc32(b"123456789"), 0xCBF4_3926);
-    let whole = GptEntry {
-        number: 1,
-        first: START.into(),
-        last: u64::from(START + sectors()) - 1,
-    };
+    let whole = gpt_entry(1, START.into(), sectors().into());
     let put = (1, start(), card().bytes().len() as u64, true);
     // The mark, a reserved byte, where the table is, and the table's first and last byte.
     let header = [0, 7, 9, 12, 16, 20, 24, 72, 80, 84, 88, 91].map(|at| SECTOR + at);
@@ -400,7 +393,7 @@ fn no_tables() {
         expect_hint(
             &disk,
             5,
-            "both copies: no F2FS mark; is it another file system?",
+            "both copies: no F2FS mark; perhaps it is another file system",
         );
         let json = info_of(&disk, 5);
         assert!(json.get("table").is_none() && json.get("partitions").is_none());
@@ -416,7 +409,7 @@ fn no_tables() {
 #[test]
 fn cut_disks() {
     let (disk, _) = disk_with(EXTENDED[0]);
-    let blocks = card().bytes().len() / BLOCK_SIZE;
+    let blocks = with_commas(card().bytes().len() / BLOCK_SIZE);
     disk.set_len(start() + 100 * BLOCK_SIZE as u64 + 5);
     let info: Words = &[&"info", &"--json", &"--partition", &"2", &disk.path()];
     let json = run(info).expect(2).json();
@@ -458,7 +451,7 @@ fn offsets() {
         let ran = run(info).expect(2);
         let said = match blocks {
             "2 blocks" => "no F2FS mark".to_string(),
-            _ => format!("the image has {blocks}; a card has at least 2"),
+            _ => format!("the image has {blocks} of 4,096 bytes; a card has at least 2"),
         };
         assert!(ran.words().contains(&said), "no '{said}' in {ran:?}");
     }
@@ -536,50 +529,52 @@ fn output_over_the_disk() {
     assert_eq!(fs::metadata(&path).unwrap().modified().unwrap(), before);
 }
 
-/// Tables and disks with random bytes changed, under the compiler's sanitizers.
+/// A small disk with a random table, of which some bytes are changed.
+fn random_disk(random: &mut Random) -> Disk {
+    let disk = Disk::new(64 * 1024 + random.below(5000));
+    let near = random.below(140) as u32;
+    if random.below(3) == 0 {
+        let form = GptForm {
+            sector: pick(random, &[512, 4096]),
+            ..GptForm::USUAL
+        };
+        let last = pick(random, &[7, 100, u64::MAX]);
+        let entry = GptEntry {
+            number: 1,
+            first: near.into(),
+            last,
+        };
+        disk.put_gpt(form, &[entry]);
+    } else {
+        let kind = pick(random, &[LINUX, 0x05, 0x0F, 0xEE]);
+        let primary = [entry(kind, near, u32::MAX), entry(LINUX, u32::MAX, near)];
+        disk.put_mbr(0, &primary);
+        disk.put_mbr(near.into(), &[entry(LINUX, near, 1), entry(0x05, near, 1)]);
+    }
+    for _ in 0..random.below(3) {
+        let at = pick(random, &[446, 510, 512, 1024]) + random.below(100);
+        disk.put(at, &random.bytes(1));
+    }
+    disk
+}
+
+/// Under the compiler's sanitizers.
 #[test]
 fn sanitized() {
     let build = SpecialBuild::sanitized();
-    let mut random = harptimber_tests::trial::Random::new(5);
+    let random = &mut Random::new(5);
     for _ in 0..40 {
-        let disk = Disk::new(64 * 1024 + random.below(5000));
-        let form = GptForm {
-            sector: [512, 4096][random.below(2) as usize],
-            ..GptForm::USUAL
-        };
-        match random.below(3) {
-            0 => disk.put_gpt(
-                form,
-                &[GptEntry {
-                    number: 1,
-                    first: 6,
-                    last: random.number(),
-                }],
-            ),
-            _ => {
-                let kind = [LINUX, 5, 0x0F, 0xEE][random.below(4) as usize];
-                let near = random.below(140) as u32;
-                disk.put_mbr(
-                    0,
-                    &[entry(kind, near, u32::MAX), entry(LINUX, u32::MAX, near)],
-                );
-                disk.put_mbr(near.into(), &[entry(LINUX, near, 1), entry(5, near, 1)]);
-            }
-        }
-        for _ in 0..random.below(3) {
-            let at = [446, 510, 512, 1024][random.below(4) as usize] + random.below(100);
-            disk.put(at, &random.bytes(1));
-        }
-        for part in [
-            &[][..],
-            &["--partition=1"],
-            &["--partition=2"],
-            &["--partition=5"],
-            &["--offset=65000"],
-        ] {
-            let part: Vec<&dyn Word> = part.iter().map(|word| word as &dyn Word).collect();
-            let info =
-                build.run(&[&[&"info" as _, &"--json" as _], &part[..], &[&disk.path()]].concat());
+        let disk = random_disk(random);
+        let parts = [
+            "--partition=1",
+            "--partition=2",
+            "--partition=5",
+            "--offset=65000",
+        ];
+        let info = build.run(&[&"info", &disk.path()]);
+        assert_eq!(info.status, 2, "of {info:?}");
+        for part in parts {
+            let info = build.run(&[&"info", &"--json", &part, &disk.path()]);
             assert!([2, 3].contains(&info.status), "of {info:?}");
         }
     }

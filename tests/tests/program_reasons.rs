@@ -1,27 +1,29 @@
 //! Why a pull was refused, in words and in JSON, for each thing that can be wrong on the way.
 
-use std::path::PathBuf;
+use std::fs::File;
+use std::os::unix::fs::FileExt;
+use std::path::{Path, PathBuf};
 
 use reference::hash::raw_hash;
 
 use harptimber_tests::card::{Card, ROOT};
+use harptimber_tests::damage::Damage;
 use harptimber_tests::directory::{bucket_index, in_slot, Dentry};
 use harptimber_tests::layout::dentry::{FILE_TYPE, INO, NAME_LEN};
 use harptimber_tests::layout::footer;
 use harptimber_tests::layout::inode::*;
 use harptimber_tests::layout::{Field, BLOCK_SIZE};
 use harptimber_tests::lent::Lent;
-use harptimber_tests::on_disk::OnDisk;
-use harptimber_tests::program::{run, Words};
+use harptimber_tests::program::{run, Ran, Words};
 use harptimber_tests::program_page::{expect_head, meaning};
 use harptimber_tests::published::Scratch;
 use harptimber_tests::pulls::{reference_pull, Call, Outcome};
-use harptimber_tests::random_card::pick;
+use harptimber_tests::random_files::{any_target, random_files, RandomFiles};
 use harptimber_tests::scene::{Scene, Setting, NAME};
 use harptimber_tests::special_build::SpecialBuild;
 use harptimber_tests::tree;
 use harptimber_tests::trial::Random;
-use harptimber_tests::walk_damage::strike_block;
+use harptimber_tests::walk_damage::strike_either;
 
 const BLOCKS: u32 = 2000;
 
@@ -360,52 +362,73 @@ fn no_reason() {
     }
 }
 
-/// Whatever the damage is, the program's walk stops where the library's does, so that there is a reason; and it keeps to
-/// the image's bytes.
-#[test]
-fn damaged() {
-    const ROUNDS: usize = 150;
-    let build = SpecialBuild::sanitized();
-    let stage = Stage::new();
-    let mut disk = OnDisk::new(stage.scene.card.image.clone());
-    let mut random = Random::new(22);
-    let mut reasons = [0; 15];
-    for _ in 0..ROUNDS {
-        let index = pick(&mut random, &[0, 1, 922, 923, 924, 1999]);
-        let mut lists = pulled(&disk, index);
-        lists.sort();
-        let mut struck = Vec::new();
-        for _ in 0..1 + random.below(3) {
-            let block = pick(&mut random, &lists);
-            strike_block(&mut disk.image, block, &mut random);
-            struck.push(block);
-        }
-        disk.write_blocks(&struck);
-        let call = Call::new(&disk.image, NAME, index);
-        let answer = Outcome::of(reference_pull, &call, Lent::least())
-            .pulled
-            .answer;
-        let ran = build.run(&[&"pull", &"--json", &disk.path(), &NAME, &index]);
-        let json = ran.json();
-        expect_head(&json, "pull", answer);
-        let explained = matches!(answer, 3 | 9..=14);
-        assert_eq!(
-            json.get("reason").is_some(),
-            explained,
-            "in {json:?} of {:?}",
-            disk.image
-        );
-        reasons[answer as usize] += u32::from(explained);
-        disk.image.undo(0);
-        disk.write_blocks(&struck);
-    }
-    for answer in [9, 11, 12, 13, 14] {
-        assert!(reasons[answer] > 0, "no answer {answer} in {reasons:?}");
+/// Writes these bytes of a card's image to its file.
+fn write_places(path: &Path, card: &Card, places: &[(usize, usize)]) {
+    let file = File::options().write(true).open(path).expect("the image");
+    for &(at, len) in places {
+        let bytes = &card.image.bytes()[at..at + len];
+        file.write_all_at(bytes, at as u64).expect("its bytes");
     }
 }
 
-/// The blocks that a pull reads.
-fn pulled(disk: &OnDisk, index: u32) -> Vec<u32> {
-    let call = Call::new(&disk.image, NAME, index);
-    Outcome::of(reference_pull, &call, Lent::least()).blocks()
+/// Whatever the damage is, the program's walk stops where the library's does, so that there is a reason.
+fn damage_cards(seed: u64, cards: u32, damages: u32, run: impl Fn(Words) -> Ran) -> [u32; 15] {
+    let mut random = Random::new(seed);
+    let scratch = Scratch::new();
+    let path = scratch.path("card.img");
+    let mut answers = [0; 15];
+    for _ in 0..cards {
+        let RandomFiles { mut card, targets } = random_files(&mut random);
+        card.image.save(&path);
+        let opening = Damage::of(&card.image);
+        for _ in 0..damages {
+            let target = any_target(&targets, &mut random);
+            for _ in 0..1 + random.below(2) {
+                strike_either(&mut card, (&opening, 12), target, &mut random);
+            }
+            let places = card.image.written().map(|(at, bytes)| (at, bytes.len()));
+            let places: Vec<(usize, usize)> = places.collect();
+            write_places(&path, &card, &places);
+            let (name, index) = target.any_call(&mut random);
+            // A command line has no zero bytes.
+            let name = if name.contains(&0) {
+                target.name.clone()
+            } else {
+                name
+            };
+            let call = Call::new(&card.image, &name, index);
+            let answer = Outcome::of(reference_pull, &call, Lent::least())
+                .pulled
+                .answer;
+            let json = run(&[&"pull", &"--json", &"--", &path, &name, &index]).json();
+            expect_head(&json, "pull", answer);
+            let explained = json.get("reason").is_some();
+            assert_eq!(
+                explained,
+                matches!(answer, 3..=14),
+                "in {json:?} of {:?}",
+                card.image
+            );
+            answers[answer as usize] += 1;
+            card.image.undo(0);
+            write_places(&path, &card, &places);
+        }
+    }
+    answers
+}
+
+#[test]
+fn damaged() {
+    let answers = damage_cards(22, 10, 100, run);
+    let missing = (0..15).find(|&answer| answers[answer] == 0);
+    assert_eq!(missing, None, "an answer that didn't come, in {answers:?}");
+}
+
+/// It keeps to the image's bytes.
+#[test]
+fn damaged_under_sanitizers() {
+    let build = SpecialBuild::sanitized();
+    let answers = damage_cards(23, 3, 30, |words| build.run(words));
+    let stopped: u32 = answers[9..].iter().sum();
+    assert!(stopped >= 20, "walks that stopped, in {answers:?}");
 }

@@ -15,7 +15,7 @@ use harptimber_tests::layout::superblock::{
 use harptimber_tests::layout::{Field, BLOCK_SIZE};
 use harptimber_tests::on_disk::{OnDisk, Shared};
 use harptimber_tests::program::{run, Words};
-use harptimber_tests::program_page::{counted, expect_head, expect_name, meaning};
+use harptimber_tests::program_page::{counted, expect_head, expect_name, meaning, with_commas};
 use harptimber_tests::published::{formatted, Scratch};
 
 const NAME: &[u8] = b"road.bin";
@@ -95,7 +95,11 @@ impl Images {
             );
         }
         let [count, left] = [whole, whole - block].map(|len| len / block);
-        let why = format!("; the superblock counts {count} blocks, the image has {left}");
+        let counts = [count, left].map(|blocks| with_commas(blocks as usize));
+        let why = format!(
+            ": both copies: it counts {} blocks, the image has {}",
+            counts[0], counts[1]
+        );
         self.add_length(whole - block, 5, &why);
     }
 
@@ -110,26 +114,43 @@ impl Images {
     fn add_damaged(&mut self) {
         let pack = sound().first_block(0);
         let flags = sound().get(pack, CKPT_FLAGS) | u64::from(CP_LARGE_NAT_BITMAP_FLAG);
-        self.add_changed("a feature", 6, "", &[(0, FEATURE, 1)]);
-        self.add_changed("a payload", 6, "", &[(0, CP_PAYLOAD, 1)]);
-        self.add_changed("no checksum", 7, "", &[(pack, CHECKSUM, 1)]);
-        self.add_changed("39 in the journal", 8, "", &[(pack + 1, N_NATS, 39)]);
+        let why = ": features: encrypt";
+        self.add_changed("a feature", 6, why, &[(0, FEATURE, 1)]);
+        let why = ": cp_payload is 1";
+        self.add_changed("a payload", 6, why, &[(0, CP_PAYLOAD, 1)]);
+        let sum = sound().get(pack, CHECKSUM);
+        let why = format!(
+            ": pack 1: the checksum of its first block is 00000001, its bytes make {sum:08x}; \
+             pack 2: its first block is all zeros"
+        );
+        self.add_changed("no checksum", 7, &why, &[(pack, CHECKSUM, 1)]);
+        let why = ": the NAT journal counts 39 entries, at most 38 fit";
+        self.add_changed("39 in the journal", 8, why, &[(pack + 1, N_NATS, 39)]);
         let mut image = sound();
         image.set_sealed(pack, CKPT_FLAGS, flags);
-        self.add("a large map", 8, "", &image);
+        let why = ": large_nat_bitmap is set, which isn't read";
+        self.add("a large map", 8, why, &image);
     }
 
     /// With and without a mark, and with more blocks than there are in the one copy or the other.
     fn add_without_superblock(&mut self) {
-        let no_mark = "; no F2FS mark: is it another file system, or a whole disk with partitions?";
+        let no_mark = ": both copies: no F2FS mark; perhaps it is another file system";
         let fields = [(0, MAGIC, 0), (1, MAGIC, 0)];
         self.add_changed("no mark", 5, no_mark, &fields);
         let fields = [(0, LOG_BLOCKSIZE, 13), (1, LOG_BLOCKSIZE, 13)];
-        self.add_changed("larger blocks", 5, "", &fields);
+        let why = ": both copies: log_blocksize is 13, not 12";
+        self.add_changed("larger blocks", 5, why, &fields);
         let blocks = sound().bytes().len() / BLOCK_SIZE;
         let count = (1 << 33) + 9;
-        let why = format!("; the superblock counts {count} blocks, the image has {blocks}");
         for (copy, other) in [(0, 1), (1, 0)] {
+            let counts = [count, blocks as u64].map(|blocks| with_commas(blocks as usize));
+            let counts = format!(
+                "it counts {} blocks, the image has {}",
+                counts[0], counts[1]
+            );
+            let mut whys = ["no F2FS mark"; 2];
+            whys[copy as usize] = &counts;
+            let why = format!(": copy 1: {}; copy 2: {}", whys[0], whys[1]);
             let name = format!("many blocks by copy {copy}");
             let fields = [(copy, BLOCK_COUNT, count), (other, MAGIC, 0)];
             self.add_changed(&name, 5, &why, &fields);
@@ -137,8 +158,18 @@ impl Images {
     }
 
     fn add_published(&mut self) {
-        for (options, answer) in [("-O extra_attr", 6), ("-i", 7)] {
-            self.add(options, answer, "", &formatted(64, options));
+        let large = "both packs: its first block has checksum_offset 192, not 4092 \
+                     (large_nat_bitmap, by mkfs.f2fs -i)";
+        for (options, answer, why) in [
+            ("-O extra_attr", 6, "features: extra_attr"),
+            ("-i", 7, large),
+        ] {
+            self.add(
+                options,
+                answer,
+                &format!(": {why}"),
+                &formatted(64, options),
+            );
         }
     }
 
@@ -162,7 +193,13 @@ fn refused(command: &'static str, words: Words, answer: u32) -> Json {
 fn as_json() {
     let images = Images::shared();
     let output = images.scratch.path("output");
-    for Unopened { path, answer, .. } in &images.unopened {
+    for Unopened { path, answer, why } in &images.unopened {
+        let refused = |command, words: Words, answer| {
+            let json = refused(command, words, answer);
+            assert_eq!(json["reason"].text(), &why[2..], "in {json:?}");
+            json
+        };
+        refused("info", &[path], *answer);
         let json = refused("pull", &[path, &NAME, &"7"], *answer);
         assert_eq!(json["byte_count"].number(), 0);
         assert_eq!(json["nodes"].list().len() + json["blocks"].list().len(), 0);
@@ -185,7 +222,8 @@ fn in_words() {
     let sound = OnDisk::new(sound());
     let good = sound.path();
     for Unopened { path, answer, why } in &images.unopened {
-        let lines: [Words; 5] = [
+        let lines: [Words; 6] = [
+            &[&"info", path],
             &[&"pull", path, &NAME, &"0"],
             &[&"pull", &"--lists", path, &NAME, &"0"],
             &[&"node", path, &"3"],
@@ -199,8 +237,9 @@ fn in_words() {
             let meaning = meaning("pull", *answer);
             let meaning = meaning.split(": ").next().unwrap();
             let part = format!(": {meaning} (answer {answer}){why}");
-            let behind = text.split_once(&part).map(|(_, behind)| behind);
-            let ends = ["\n", "; 0 bytes were written\n"].map(Some);
+            let first = text.lines().next().unwrap();
+            let behind = first.split_once(&part).map(|(_, behind)| behind);
+            let ends = ["", "; 0 bytes were written"].map(Some);
             assert!(ends.contains(&behind), "no '{part}' in {ran:?}");
         }
     }
