@@ -194,12 +194,17 @@ void show_answer(FILE *out, uint32_t answer, const char *meaning, const struct c
     show_asked(out, answer, meaning, &asked);
 }
 
-void json_asked(struct json *json, uint32_t answer, const struct asked *asked)
+void json_asked_as(struct json *json, const char *key, uint32_t answer, const struct asked *asked)
 {
     char *reason = reason_of_asked(answer, asked);
     if (reason != NULL)
-        json_string(json, "reason", reason);
+        json_string(json, key, reason);
     free(reason);
+}
+
+void json_asked(struct json *json, uint32_t answer, const struct asked *asked)
+{
+    json_asked_as(json, "reason", answer, asked);
 }
 
 void json_reason(struct json *json, uint32_t answer, const struct card *card, const char *name)

@@ -71,10 +71,14 @@ impl Cards {
         let expected = Expected::of(images, name, index);
         let paths = [self.kept.disk.path(), self.fresh.path()];
         let index = index.unwrap_or(0);
-        let words: Words = &[&"compare", &"--", &paths[0], &paths[1], &name, &index];
-        let words = &words[..words.len() - usize::from(expected.whole())];
+        let words: Words = &[
+            &"--index", &index, &"compare", &"--", &paths[0], &paths[1], &name,
+        ];
+        let words = &words[2 * usize::from(expected.whole())..];
         let in_words = run(words).expect(expected.status);
-        expected.expect_words(in_words.words());
+        expected.expect_words(in_words.words(), true);
+        let quiet = run(&[&[&"-q" as _], words].concat()).expect(expected.status);
+        assert_eq!((quiet.words(), quiet.err.as_str()), ("", ""));
         let as_json = run(&[&[&"--json" as _], words].concat()).expect(expected.status);
         let json = as_json.json();
         expect_head(&json, "compare", expected.answer);
@@ -96,18 +100,6 @@ fn same() {
     }
 }
 
-#[test]
-fn same_path_twice() {
-    let kept = ProgramCard::build();
-    let path = kept.disk.path();
-    let json = run(&[&"compare", &"--json", &path, &path, &ROAD])
-        .expect(0)
-        .json();
-    expect_head(&json, "compare", 15);
-    let image = &kept.disk.image;
-    Expected::of([image, image], ROAD, None).expect_json(&json);
-}
-
 /// Cards that the published tools write before and after a change of two bytes.
 #[test]
 fn published_cards() {
@@ -127,7 +119,7 @@ fn published_cards() {
         let expected = Expected::of(cards, name.as_bytes(), None);
         assert_eq!(expected.status, status, "of {name}");
         let words: Words = &[&"compare", &kept.path(), &fresh.path(), &name];
-        expected.expect_words(run(words).expect(status).words());
+        expected.expect_words(run(words).expect(status).words(), true);
         let ran = run(&[words, &[&"--json"]].concat()).expect(status);
         expected.expect_json(&ran.json());
     }
@@ -188,19 +180,22 @@ fn main_area() {
         image.set(0, SEGMENT_COUNT_MAIN, 2);
         image.set(1, SEGMENT_COUNT_MAIN, 2);
     });
-    for name in [ROAD, OUTSIDE, b"no such name", EMPTY] {
+    for name in [ROAD, OUTSIDE, EMPTY] {
         assert_eq!(cards.expect(name), 1, "of {}", shown(name));
     }
+    assert_eq!(cards.expect(b"no such name"), 4, "on neither card");
 }
 
-/// Where the kept card refuses, that is said; unless something changed.
+/// Where the kept card refuses, that is said; unless something changed. A name that is on neither card is
+/// the question's fault.
 #[test]
 fn refused_by_kept() {
     let mut cards = Cards::new();
     let refused = cards.kept.refused.clone();
-    for (name, index, _) in &refused {
-        assert_eq!(cards.expect(name), 2, "of {}", shown(name));
-        assert_eq!(cards.expect_at(name, Some(*index)), 2);
+    for (name, index, answer) in &refused {
+        let status = if *answer == 2 { 4 } else { 2 };
+        assert_eq!(cards.expect(name), status, "of {}", shown(name));
+        assert_eq!(cards.expect_at(name, Some(*index)), status);
     }
     assert_eq!(cards.expect_at(ROAD, Some(6)), 2, "past the end");
     let blocks = cards.kept.outside.blocks.clone();

@@ -350,8 +350,8 @@ const COPY_RULES: [(Field, u64, &str); 24] = [
     ),
     (
         BLOCK_COUNT,
-        9,
-        "segment_count ends at 5125, but block_count is 9",
+        5124,
+        "segment_count ends at 5125, but block_count is 5124",
     ),
     (
         BLOCK_COUNT,
@@ -515,6 +515,21 @@ fn pack_rules() {
             _ => why.to_string(),
         };
         expect_reason(image, answer, &reason);
+    }
+}
+
+/// Packs without compact summaries that have too few blocks for the others, by one.
+#[test]
+fn short_packs() {
+    for (flags, total) in [(CP_UMOUNT_FLAG, 7), (CP_FASTBOOT_FLAG, 7), (0, 4)] {
+        let pack = Pack {
+            total,
+            ..Pack::plain(1, flags)
+        };
+        let lies = format!("the pack has {total} blocks, and it lies {total} before the end");
+        let reason = format!("the journal block is out of place: {lies}");
+        let knobs = Knobs::sound().with_pack(0, pack);
+        expect_reason(Image::new(&knobs), 8, &reason);
     }
 }
 

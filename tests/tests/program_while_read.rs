@@ -77,7 +77,7 @@ impl Images {
         for (whole, one) in [(long, road), (on_new(long), on_new(road))] {
             expect(&[&"compare", &kept, &new, &LONG], whole);
             expect(&[&"compare", &"--json", &kept, &new, &LONG], whole);
-            expect(&[&"compare", &kept, &new, &ROAD, &"5"], one);
+            expect(&[&"compare", &"--index=5", &kept, &new, &ROAD], one);
         }
     }
 
