@@ -106,10 +106,10 @@ static void show_out_of_shape(FILE *out, const struct asked *asked)
         fputs("the name has ", out);
         show_count(out, asked->len, "byte");
         fputs("; at most 255 are possible", out);
-    } else if (memchr(asked->name, '/', asked->len) == NULL) {
-        fputs("the name has a zero byte", out);
-    } else {
+    } else if (memchr(asked->name, '/', asked->len) != NULL) {
         fprintf(out, "the name has a slash%s", asked->card == NULL ? "" : "; only the root directory is read");
+    } else if (memchr(asked->name, '\0', asked->len) != NULL) {
+        fputs("the name has a zero byte", out);
     }
 }
 

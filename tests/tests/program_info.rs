@@ -736,11 +736,11 @@ fn library_against_words() {
             for key in ["label", "areas", "features", "copies", "packs"] {
                 assert_eq!(json.get(key).is_some(), agrees, "'{key}' in {json:?}");
             }
-            assert_eq!(
-                json.get("reason").is_some(),
-                agrees && own != 0,
-                "in {json:?}"
-            );
+            let pull: Words = &[&"pull", &"--json", &disk.path(), &"name", &"0"];
+            for json in [&json, &run(pull).json()] {
+                let reason = json.get("reason").is_some();
+                assert_eq!(reason, agrees && own != 0, "in {json:?}");
+            }
             let words = run(&[&"info", &disk.path()]);
             let lines = words.words().lines().count();
             assert_eq!(lines > 1, agrees, "of {words:?}");
