@@ -264,3 +264,14 @@ void opening_read(struct opening *opening, const struct card *card)
     if (!opening->agrees)
         *opening->why = '\0';
 }
+
+const uint8_t *opening_superblock(const struct card *card)
+{
+    for (uint32_t number = 0; number < 2; number++) {
+        struct opening_copy copy = {.passes = false};
+        read_copy(&copy, card, number);
+        if (copy.passes)
+            return disk_superblock(card, number);
+    }
+    return NULL;
+}
