@@ -279,7 +279,7 @@ fn damage(cards: &mut Cards, random: &mut Random, rounds: usize) -> [u32; 5] {
         cards.undo();
     }
     println!(
-        "compare of damaged cards: {} compared, statuses {statuses:?}",
+        "compare of damaged cards: {} inputs compared, statuses {statuses:?}",
         3 * rounds
     );
     statuses
