@@ -315,43 +315,47 @@ const COPY_RULES: [(Field, u64, &str); 24] = [
     (
         SEGMENT_COUNT_SSA,
         2,
-        "main_blkaddr is 3589, but the SSA area ends at 4101",
+        "main_blkaddr is 3589, not 4101, where the SSA area ends",
     ),
     (
         SEGMENT0_BLKADDR,
         1,
         "segment0_blkaddr is 1, but blocks 0 and 1 have the superblock",
     ),
-    (CP_BLKADDR, 6, "cp_blkaddr is 6, but segment0_blkaddr 5"),
+    (
+        CP_BLKADDR,
+        6,
+        "cp_blkaddr is 6, not 5 as segment0_blkaddr is",
+    ),
     (
         SIT_BLKADDR,
         1030,
-        "sit_blkaddr is 1030, but the checkpoint area ends at 1029",
+        "sit_blkaddr is 1030, not 1029, where the checkpoint area ends",
     ),
     (
         NAT_BLKADDR,
         2054,
-        "nat_blkaddr is 2054, but the SIT area ends at 2053",
+        "nat_blkaddr is 2054, not 2053, where the SIT area ends",
     ),
     (
         SSA_BLKADDR,
         3078,
-        "ssa_blkaddr is 3078, but the NAT area ends at 3077",
+        "ssa_blkaddr is 3078, not 3077, where the NAT area ends",
     ),
     (
         MAIN_BLKADDR,
         3590,
-        "main_blkaddr is 3590, but the SSA area ends at 3589",
+        "main_blkaddr is 3590, not 3589, where the SSA area ends",
     ),
     (
         SEGMENT_COUNT,
         7,
-        "the main area ends at 4101, but segment_count at 3589",
+        "the main area ends at 4101, the segments of segment_count at 3589",
     ),
     (
         BLOCK_COUNT,
         5124,
-        "segment_count ends at 5125, but block_count is 5124",
+        "block_count is 5124, but the segments of segment_count end at 5125",
     ),
     (
         BLOCK_COUNT,

@@ -1,7 +1,9 @@
 //! `harptimber ls`, against the files that the published tools were given and against cards made by hand, sound and
 //! damaged.
 
+use std::ffi::OsStr;
 use std::fs;
+use std::os::unix::ffi::OsStrExt;
 use std::os::unix::fs::symlink;
 use std::path::Path;
 use std::process::Command;
@@ -16,7 +18,7 @@ use harptimber_tests::layout::superblock::MAGIC;
 use harptimber_tests::layout::{footer, slots, Field};
 use harptimber_tests::on_disk::OnDisk;
 use harptimber_tests::program::{run, Ran};
-use harptimber_tests::program_card::{pulled, shared_card, ROAD};
+use harptimber_tests::program_card::{pulled, shared_card, ProgramCard, ROAD};
 use harptimber_tests::program_page::{counted, expect_head, expect_name, meaning};
 use harptimber_tests::published::{self, contents, LONGEST_INLINE};
 use harptimber_tests::random_card::pick;
@@ -139,14 +141,22 @@ fn published_file(name: &[u8], size: usize) -> Expected {
     }
 }
 
-/// Files of many sizes, a folder, a link, and names with letters that mean something elsewhere.
-#[test]
-fn published_card() {
-    let mut random = Random::new(31);
-    let scratch = published::Scratch::new();
-    let (folder, image) = (scratch.path("files"), scratch.image_path());
+/// Names with letters that mean something elsewhere.
+const ODD: [&[u8]; 8] = [
+    b"back\\x41slash",
+    b"A",
+    b"tab\tand\nline",
+    "Stra\u{DF}e".as_bytes(),
+    b"-o",
+    b"..hidden",
+    b"...",
+    &[b'n'; 255],
+];
+
+/// Fills a folder with files of many sizes, a folder and a link. Returns what a card with them is to be listed as.
+fn fill_folder(folder: &Path, random: &mut Random) -> Vec<Expected> {
     fs::create_dir_all(folder.join("sub/deeper")).unwrap();
-    fs::write(folder.join("sub/below.bin"), contents(&mut random, 9000)).unwrap();
+    fs::write(folder.join("sub/below.bin"), contents(random, 9000)).unwrap();
     symlink("road.bin", folder.join("link")).unwrap();
     let sizes = [
         0,
@@ -157,30 +167,25 @@ fn published_card() {
         4097,
         3_000_000,
     ];
-    let mut expected: Vec<Expected> = vec![
+    let sized = sizes.map(|size| (format!("of {size}").into_bytes(), size));
+    let odd = ODD.map(|name| (name.to_vec(), 5000));
+    let mut expected = vec![
         Expected::new(b"sub", 4096, 12, "it is a directory"),
         Expected::new(b"link", 8, 12, "it is a symbolic link"),
     ];
-    let names = sizes.map(|size| (format!("of {size}").into_bytes(), size));
-    let longest = [b'n'; 255];
-    let others: [&[u8]; 8] = [
-        b"back\\x41slash",
-        b"A",
-        b"tab\tand\nline",
-        "Stra\u{DF}e".as_bytes(),
-        b"-o",
-        b"..hidden",
-        b"...",
-        &longest,
-    ];
-    let others = others.map(|name| (name.to_vec(), 5000));
-    for (name, size) in names.into_iter().chain(others) {
-        let path = scratch
-            .path("files")
-            .join(String::from_utf8(name.clone()).unwrap());
-        fs::write(path, contents(&mut random, size)).unwrap();
+    for (name, size) in sized.into_iter().chain(odd) {
+        let path = folder.join(OsStr::from_bytes(&name));
+        fs::write(path, contents(random, size)).unwrap();
         expected.push(published_file(&name, size));
     }
+    expected
+}
+
+#[test]
+fn published_card() {
+    let scratch = published::Scratch::new();
+    let (folder, image) = (scratch.path("files"), scratch.image_path());
+    let expected = fill_folder(&folder, &mut Random::new(31));
     let file = fs::File::create(&image).unwrap();
     file.set_len(64 << 20).unwrap();
     published::run(Command::new("mkfs.f2fs").arg(&image));
@@ -214,39 +219,39 @@ fn published_without_files() {
     expect_listing(&disk.path(), Vec::new(), &[]);
 }
 
+/// The names on the shared card with their sizes, where an inode has one.
+fn names_and_sizes(card: &ProgramCard) -> Vec<(Vec<u8>, Option<u64>)> {
+    let put = card.files.iter().chain([&card.outside]);
+    let put = put.map(|file| (file.name.clone(), Some(file.size)));
+    let with_node = Some(u64::from(ADDRESSES + 2) * 4096);
+    let others = [
+        ("unused node", with_node),
+        ("far node", with_node),
+        ("foreign node", with_node),
+        ("inline", Some(100)),
+        ("folder", Some(100)),
+        ("no inode", None),
+    ];
+    let others = others.map(|(name, size)| (name.as_bytes().to_vec(), size));
+    let mut names: Vec<_> = put.chain(others).collect();
+    names.sort();
+    names
+}
+
 /// Every answer that a pull of block 0 has, names of any bytes, and a malformed entry in a block of the second level.
 #[test]
 fn every_answer() {
     let card = shared_card();
-    let image = &card.card.image;
     let path = card.disk.path();
     let json = listed(&run(&[&"ls", &"--json", &path]).expect(2), &path);
-    let put = card.files.iter().map(|file| (file.name.clone(), file.size));
-    let mut sizes: Vec<(Vec<u8>, Option<u64>)> =
-        put.map(|(name, size)| (name, Some(size))).collect();
-    let node = |name: &str| {
-        (
-            name.as_bytes().to_vec(),
-            Some(u64::from(ADDRESSES + 2) * 4096),
-        )
-    };
-    sizes.extend(["unused node", "far node", "foreign node"].map(node));
-    sizes.extend([
-        (b"outside".to_vec(), Some(5 * 4096)),
-        (b"inline".to_vec(), Some(100)),
-    ]);
-    sizes.extend([
-        (b"folder".to_vec(), Some(100)),
-        (b"no inode".to_vec(), None),
-    ]);
-    sizes.sort();
+    let expected = names_and_sizes(&card);
     let names = json["names"].list();
-    assert_eq!(names.len(), sizes.len(), "names in {json:?}");
+    assert_eq!(names.len(), expected.len(), "names in {json:?}");
     let mut answers = Vec::new();
-    for (json, (name, size)) in names.iter().zip(&sizes) {
+    for (json, (name, size)) in names.iter().zip(&expected) {
         expect_name(json, name);
         assert_eq!(json.get("size").map(Json::number), *size, "in {json:?}");
-        let answer = pulled(image, name, 0).pulled.answer;
+        let answer = pulled(&card.card.image, name, 0).pulled.answer;
         assert_eq!(json["answer"].number(), u64::from(answer), "in {json:?}");
         answers.push(answer);
     }
@@ -262,7 +267,12 @@ fn every_answer() {
         "{problem}"
     );
     assert!(problem.ends_with(" has a name of 9 bytes"), "{problem}");
-    let words = run(&[&"ls", &path]).expect(2);
+}
+
+/// No byte of a name reaches a terminal that would act on it.
+#[test]
+fn control_bytes() {
+    let words = run(&[&"ls", &shared_card().disk.path()]).expect(2);
     let control = |letter: char| letter.is_control() && letter != '\n';
     assert!(
         !words.words().contains(control),
@@ -348,53 +358,49 @@ fn found_by_no_pull() {
     expect_listing(&OnDisk::new(scene.card.image).path(), expected, &[]);
 }
 
+/// A number to change on a card, and what is then said.
+type Broken = (u32, Field, u64, String);
+
+/// Addresses and nodes of the root directory that lead nowhere.
+fn broken_parts(scene: &mut Scene) -> Vec<Broken> {
+    let (root, block) = (scene.root_block(), scene.linked.block);
+    let card = &mut scene.card;
+    let (main, end) = (card.image.areas.main, card.image.areas.main_end);
+    let first = bucket_index(9, 0, 0);
+    let place = tree::way(ADDRESSES, first)[1].place;
+    card.way(ROOT, first);
+    let node = card.node(ROOT, place);
+    let address = slots::I_ADDR.moved(5 * slots::SIZE);
+    let double = slots::I_NID.moved(4 * slots::SIZE);
+    let outside = format!(
+        "has address {end}; the main area is blocks {main} to {}",
+        end - 1
+    );
+    let foreign = format!(
+        "node {} (place {place} of the root directory) should be in block {}, but the block's number is 7, not {}",
+        node.nid, node.block, node.nid
+    );
+    let twice = format!("the card's block {block} is in the root directory twice");
+    let past = card.node_numbers;
+    let past_words = format!("node {past} (place 2041 of the root directory) is out of range");
+    vec![
+        (
+            root,
+            address,
+            end.into(),
+            format!("block 5 of the root directory {outside}"),
+        ),
+        (root, address, block.into(), twice),
+        (node.block, footer::NID, 7, foreign),
+        (root, double, past.into(), past_words),
+    ]
+}
+
 /// A part of the directory that can't be read: the others are listed.
 #[test]
 fn damaged_parts() {
     let mut scene = small();
-    let (root, block) = (scene.root_block(), scene.linked.block);
-    let end = scene.card.image.areas.main_end;
-    let level = 9;
-    let first = bucket_index(level, 0, 0);
-    let place = tree::way(ADDRESSES, first)[1].place;
-    scene.card.way(ROOT, first);
-    let node = scene.card.node(ROOT, place);
-    let address = slots::I_ADDR.moved(5 * slots::SIZE);
-    let main_area = format!(
-        "the main area is blocks {} to {}",
-        scene.card.image.areas.main,
-        end - 1
-    );
-    let cases: [(u32, Field, u64, String); 4] = [
-        (
-            root,
-            address,
-            u64::from(end),
-            format!("block 5 of the root directory has address {end}; {main_area}"),
-        ),
-        (
-            root,
-            address,
-            u64::from(block),
-            format!("the card's block {block} is in the root directory twice"),
-        ),
-        (
-            node.block,
-            footer::NID,
-            7,
-            format!(
-                "node {} (place {place} of the root directory) should be in block {}, but the block's number is 7, not {}",
-                node.nid, node.block, node.nid
-            ),
-        ),
-        (
-            root,
-            slots::I_NID.moved(4 * slots::SIZE),
-            u64::from(scene.card.node_numbers),
-            format!("node {} (place 2041 of the root directory) is out of range", scene.card.node_numbers),
-        ),
-    ];
-    for (block, field, value, problem) in cases {
+    for (block, field, value, problem) in broken_parts(&mut scene) {
         let mark = scene.card.image.mark();
         scene.card.image.set(block, field, value);
         let disk = OnDisk::new(scene.card.image.clone());
@@ -424,13 +430,16 @@ fn malformed_entry() {
     expect_listing(&OnDisk::new(scene.card.image).path(), expected, &[reason]);
 }
 
+/// Fields of the root's inode, what is then missing, and what is listed.
+type Root<'a> = (&'a [(Field, u64)], Option<String>, Vec<Expected>);
+
 /// A root that can't be read at all, and roots that a pull refuses but that can be listed.
 #[test]
 fn roots() {
     let scene = small();
     let root = scene.root_block();
     let not_read = |why: &str| format!("the root directory isn't read: {why}");
-    let cases: [(&[(Field, u64)], Option<String>, Vec<Expected>); 5] = [
+    let cases: [Root; 5] = [
         (&[(I_MODE, S_IFREG)], Some(not_read("it is a regular file")), vec![]),
         (
             &[(I_INLINE, EXTRA_ATTR)],

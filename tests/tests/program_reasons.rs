@@ -6,7 +6,7 @@ use std::path::{Path, PathBuf};
 
 use reference::hash::raw_hash;
 
-use harptimber_tests::card::{Card, ROOT};
+use harptimber_tests::card::{Card, Node, ROOT};
 use harptimber_tests::damage::Damage;
 use harptimber_tests::directory::{bucket_index, in_slot, Dentry};
 use harptimber_tests::layout::dentry::{FILE_TYPE, INO, NAME_LEN};
@@ -177,45 +177,50 @@ fn outside() {
     }
 }
 
+/// A footer's flag word with this place.
+fn at_place(place: u64) -> (Field, u64) {
+    (footer::FLAG, place << footer::OFFSET_BIT_SHIFT | 5)
+}
+
 /// 11: which number of the block, or of the table, is another.
 #[test]
 fn foreign() {
     let mut stage = Stage::new();
     let ino = stage.scene.ino;
-    let node = stage.card().node(ino, 1);
-    let inode = stage.card().node(ino, 0);
-    let of_node = format!(
-        "node {} (place 1 of the file) should be in block {}",
-        node.nid, node.block
-    );
-    let of_inode = format!(
-        "node {ino} (the file's inode) should be in block {}",
-        inode.block
-    );
+    let Node { nid, block } = stage.card().node(ino, 1);
+    let head = format!("node {nid} (place 1 of the file) should be in block {block}, but");
     let other = u64::from(ino ^ 1);
-    let place = |place: u64| (footer::FLAG, place << footer::OFFSET_BIT_SHIFT | 5);
-    let number = format!("the block's number is 77, not {}", node.nid);
+    let number = format!("the block's number is 77, not {nid}");
     let owner = format!("the block's inode is {other}, not {ino}");
     let cases: [(&[(Field, u64)], String); 4] = [
         (&[(footer::NID, 77)], number.clone()),
         (&[(footer::INO, other)], owner.clone()),
-        (&[place(9)], "the block's place is 9, not 1".to_string()),
+        (&[at_place(9)], "the block's place is 9, not 1".to_string()),
         (
-            &[(footer::NID, 77), (footer::INO, other), place(0)],
+            &[(footer::NID, 77), (footer::INO, other), at_place(0)],
             format!("{number}; {owner}; the block's place is 0, not 1"),
         ),
     ];
     for (fields, why) in cases {
-        stage.expect(ADDRESSES, 11, &format!("{of_node}, but {why}"), |scene| {
-            scene.card.image.set_all(node.block, fields)
+        stage.expect(ADDRESSES, 11, &format!("{head} {why}"), |scene| {
+            scene.card.image.set_all(block, fields)
         });
     }
-    let why = format!("{of_node}, but the table's inode is {other}, not {ino}");
+    let why = format!("{head} the table's inode is {other}, not {ino}");
     stage.expect(ADDRESSES, 11, &why, |scene| {
-        scene.card.set_entry(node.nid, other as u32, node.block)
+        scene.card.set_entry(nid, other as u32, block)
     });
-    let why = format!("{of_inode}, but the block's place is 1, not 0");
-    stage.expect_fields(inode.block, 11, &why, &[place(1)]);
+}
+
+/// The same of an inode.
+#[test]
+fn foreign_inode() {
+    let mut stage = Stage::new();
+    let ino = stage.scene.ino;
+    let block = stage.scene.file_block();
+    let place = "the block's place is 1, not 0";
+    let why = format!("node {ino} (the file's inode) should be in block {block}, but {place}");
+    stage.expect_fields(block, 11, &why, &[at_place(1)]);
 }
 
 /// 12 of a file.
@@ -230,7 +235,6 @@ fn kinds_of_files() {
         (0x6000, "a block device"),
         (0xA000, "a symbolic link"),
         (0xC000, "a socket"),
-        (0x0000, "a file of no known kind"),
         (0x9000, "a file of no known kind"),
     ];
     for (mode, kind) in kinds {
@@ -371,7 +375,30 @@ fn write_places(path: &Path, card: &Card, places: &[(usize, usize)]) {
     }
 }
 
-/// Whatever the damage is, the program's walk stops where the library's does, so that there is a reason.
+/// Whatever the damage is, the program's walk stops where the library's does, so that there is a reason. Returns the answer.
+fn expect_reason(
+    card: &Card,
+    path: &PathBuf,
+    (name, index): (&[u8], u32),
+    run: impl Fn(Words) -> Ran,
+) -> u32 {
+    let call = Call::new(&card.image, name, index);
+    let answer = Outcome::of(reference_pull, &call, Lent::least())
+        .pulled
+        .answer;
+    let json = run(&[&"pull", &"--json", &"--", path, &name, &index]).json();
+    expect_head(&json, "pull", answer);
+    let explained = json.get("reason").is_some();
+    assert_eq!(
+        explained,
+        matches!(answer, 3..=14),
+        "in {json:?} of {:?}",
+        card.image
+    );
+    answer
+}
+
+/// Damages random cards. Returns how often each answer came.
 fn damage_cards(seed: u64, cards: u32, damages: u32, run: impl Fn(Words) -> Ran) -> [u32; 15] {
     let mut random = Random::new(seed);
     let scratch = Scratch::new();
@@ -396,19 +423,7 @@ fn damage_cards(seed: u64, cards: u32, damages: u32, run: impl Fn(Words) -> Ran)
             } else {
                 name
             };
-            let call = Call::new(&card.image, &name, index);
-            let answer = Outcome::of(reference_pull, &call, Lent::least())
-                .pulled
-                .answer;
-            let json = run(&[&"pull", &"--json", &"--", &path, &name, &index]).json();
-            expect_head(&json, "pull", answer);
-            let explained = json.get("reason").is_some();
-            assert_eq!(
-                explained,
-                matches!(answer, 3..=14),
-                "in {json:?} of {:?}",
-                card.image
-            );
+            let answer = expect_reason(&card, &path, (&name, index), &run);
             answers[answer as usize] += 1;
             card.image.undo(0);
             write_places(&path, &card, &places);
