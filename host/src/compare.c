@@ -15,6 +15,11 @@ bool is_changed(const struct run *run)
     return run->verdict.answer == HARPTIMBER_CHANGED;
 }
 
+uint64_t held_bytes(const struct holding *holding)
+{
+    return holding->inode == NULL ? 0 : disk_inode_of(holding->inode).size;
+}
+
 uint32_t compared_blocks(const struct comparison *c)
 {
     return c->counts[SAME] + c->counts[SAME_BYTES] + c->counts[DIFFERENT];

@@ -64,6 +64,9 @@ enum { NO_SIDE = 0 };
 
 bool is_changed(const struct run *run);
 
+/* The file's size; 0 without an inode. */
+uint64_t held_bytes(const struct holding *holding);
+
 /* How many blocks were compared. */
 uint32_t compared_blocks(const struct comparison *c);
 

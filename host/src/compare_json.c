@@ -2,7 +2,6 @@
 #include <stdlib.h>
 
 #include "compare.h"
-#include "disk.h"
 #include "json.h"
 #include "text.h"
 #include "words.h"
@@ -18,7 +17,7 @@ static const char *verdict_of(const struct comparison *c)
         return c->has.answer == HARPTIMBER_NO_NAME ? "gone" : "no longer readable";
     if (!was && is)
         return c->had.answer == HARPTIMBER_NO_NAME ? "new" : "readable now";
-    bool resized = c->whole && was && disk_inode_of(c->had.inode).size != disk_inode_of(c->has.inode).size;
+    bool resized = c->whole && was && held_bytes(&c->had) != held_bytes(&c->has);
     if (resized || c->counts[DIFFERENT] != 0)
         return "differs";
     bool to_the_end = is_block(c->last_answer) || (c->whole && c->last_answer == HARPTIMBER_PAST_END);
@@ -90,7 +89,7 @@ static void json_run(struct json *json, const struct comparison *c, const struct
 static void json_size(struct json *json, const char *key, const struct holding *holding)
 {
     if (holding->inode != NULL)
-        json_number(json, key, disk_inode_of(holding->inode).size);
+        json_number(json, key, held_bytes(holding));
 }
 
 /* What the object has for each name. */

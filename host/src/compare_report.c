@@ -260,15 +260,10 @@ static void words_end(const struct comparison *c)
         words_answer(c, c->new, c->end.first, c->end.answer);
 }
 
-static uint64_t size_of(const struct holding *holding)
-{
-    return disk_inode_of(holding->inode).size;
-}
-
 /* Of a file that is on both cards. */
 static void words_both(const struct comparison *c)
 {
-    uint64_t before = size_of(&c->had), now = size_of(&c->has);
+    uint64_t before = held_bytes(&c->had), now = held_bytes(&c->has);
     bool empty = c->whole && compared_blocks(c) == 0 && c->last_answer == HARPTIMBER_PAST_END;
     if (before != now) {
         printf(now > before ? "grown from " : "shrunk from ");
@@ -292,7 +287,7 @@ static void words_one(const struct comparison *c, const char *what, const struct
 {
     bool kept = there == &c->had;
     printf("%s: ", what);
-    show_count(stdout, size_of(there), "byte");
+    show_count(stdout, held_bytes(there), "byte");
     printf(" on the %s card; ", kept ? "kept" : "new");
     words_answer(c, kept ? c->new : c->kept, UINT32_MAX, answer);
 }

@@ -158,7 +158,7 @@ impl Expected<'_> {
         );
         for answer in (3..=14).filter(|_| self.there[1] == 3) {
             let told = |run: &Run| run.fate == Fate::Different && run.new_answer == answer;
-            tell(&told, "on the new card ", None);
+            tell(&told, "on the new card: ", None);
         }
         for ground in self.grounds() {
             let own_data = ground == [3, 0];
