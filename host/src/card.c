@@ -167,6 +167,18 @@ bool card_is(const struct card *card, const struct stat *info)
     return card->info.st_dev == info->st_dev && card->info.st_ino == info->st_ino;
 }
 
+/* Two loop devices may have one file. Partitions of a loop device have its number, and are none themselves. */
+bool card_is_same(const struct card *card, const struct card *other)
+{
+    struct loop_info64 one, two;
+    if (card_is(card, &other->info) || card_is(other, &card->info))
+        return true;
+    bool loops = S_ISBLK(card->info.st_mode) && S_ISBLK(other->info.st_mode) &&
+                 ioctl(card->file, LOOP_GET_STATUS64, &one) == 0 && ioctl(other->file, LOOP_GET_STATUS64, &two) == 0;
+    return loops && one.lo_number != two.lo_number && one.lo_device == two.lo_device && one.lo_inode == two.lo_inode &&
+           one.lo_offset == two.lo_offset;
+}
+
 struct harptimber_pulled card_pull(const struct card *card, const char *name, uint32_t index,
                                    uint8_t *block, struct lists *lists)
 {

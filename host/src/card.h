@@ -48,6 +48,9 @@ bool card_is_settled(const struct card *card);
 /* Whether a file is the card itself, or what a loop device that is the card has its bytes from. */
 bool card_is(const struct card *card, const struct stat *info);
 
+/* Whether two cards have their bytes from the same place: a file or device, by whatever path or loop device. */
+bool card_is_same(const struct card *card, const struct card *other);
+
 /* Block `index` of the file `name`, into 4,096 bytes at `block`. */
 struct harptimber_pulled card_pull(const struct card *card, const char *name, uint32_t index,
                                    uint8_t *block, struct lists *lists);

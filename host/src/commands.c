@@ -1,5 +1,6 @@
 #include "commands.h"
 
+#include <limits.h>
 #include <stdio.h>
 #include <string.h>
 
@@ -8,6 +9,9 @@
 const struct program_option options[OPTION_COUNT] = {
     [OUTPUT] = {'o', "output", "FILE", "write the bytes to FILE; - is standard output", FIELD(output)},
     [LISTS] = {0, "lists", NULL, "print the nodes and blocks that the answer rested on", FIELD(lists)},
+    [INDEX] = {0, "index", "N", "compare only block N of each file", FIELD(index)},
+    [QUIET] = {'q', "quiet", NULL, "print nothing: the exit status says it", FIELD(quiet)},
+    [VERBOSE] = {'v', "verbose", NULL, "with several names too, say which blocks, and what changed", FIELD(verbose)},
     [OFFSET] = {0, "offset", "BYTES", "the card starts so many bytes into the image", FIELD(offset)},
     [PARTITION] = {0, "partition", "N", "the card is partition N of the image, by its MBR or GPT", FIELD(partition)},
     [JSON] = {0, "json", NULL, "print one JSON object", FIELD(json)},
@@ -47,13 +51,16 @@ const struct command commands[] = {
      "  0  the whole file was written\n"
      "  2  a block was refused; the message says how much was written\n",
      run_cat},
-    {"compare", "KEPT NEW NAME [INDEX]", 3, 4, A_PART | TAKES(JSON),
-     "whether a block, or all blocks, read from KEPT are still good on NEW",
-     "Say whether block INDEX of the file NAME, or without it every block, read from the card KEPT is\n"
-     "still good on the card NEW, and if not, what changed.\n",
-     "  0  still good\n"
-     "  1  something that the answer rested on has changed\n"
-     "  2  KEPT has no such block, or a card can't be read\n",
+    {"compare", "KEPT NEW NAME..", 3, INT_MAX, TAKES(INDEX) | TAKES(QUIET) | TAKES(VERBOSE) | A_PART | TAKES(JSON),
+     "whether files read from the card KEPT are still good on NEW",
+     "Say for each file NAME whether what was read from the card KEPT is still good on the card NEW: how\n"
+     "many blocks differ, have the same bytes but rest on something that changed, or are the same for\n"
+     "certain. A single name is followed by which blocks, and what changed.\n",
+     "  0  each block is the same, for certain\n"
+     "  1  something that it rests on has changed, its bytes or not\n"
+     "  2  KEPT has no such block, or a card can't be read\n"
+     "  4  neither card has the name\n"
+     "     With several names it is the highest of theirs.\n",
      run_compare},
     {"node", "IMAGE NUMBER", 2, 2, A_PART | TAKES(JSON),
      "a node's entry in the node address table",

@@ -44,6 +44,27 @@ struct disk_inode disk_inode_of(const uint8_t *block)
     };
 }
 
+uint32_t disk_place(const uint8_t *block)
+{
+    return disk32(block + DISK_FOOTER_FLAG) >> 3;
+}
+
+const uint8_t *disk_file(const struct card *card, const char *name)
+{
+    uint8_t block[BLOCK_SIZE];
+    struct lists lists;
+    struct harptimber_pulled pulled = card_pull(card, name, UINT32_MAX, block, &lists);
+    if (pulled.answer != HARPTIMBER_PAST_END && pulled.answer != HARPTIMBER_KIND_NOT_READ)
+        return NULL;
+    for (uint32_t i = 0; i < pulled.node_count; i++) {
+        uint32_t number = list_number(lists.nodes, i);
+        const uint8_t *node = disk_node(card, number);
+        if (number != DISK_ROOT && node != NULL && disk32(node + DISK_FOOTER_INODE) == number)
+            return node; /* others in the list are the root directory's */
+    }
+    return NULL;
+}
+
 const uint8_t *disk_superblock(const struct card *card, uint32_t copy)
 {
     const uint8_t *block = disk_block(card, copy);

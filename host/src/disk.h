@@ -20,6 +20,9 @@ const uint8_t *disk_block(const struct card *card, uint32_t number);
 /* The block of a node, by the library's lookup; null if the number has none inside the card. */
 const uint8_t *disk_node(const struct card *card, uint32_t number);
 
+/* The inode's block of a file in the root directory, by a pull past its end; null if that doesn't come so far. */
+const uint8_t *disk_file(const struct card *card, const char *name);
+
 /* The root directory's inode number, on every card that opens. */
 enum { DISK_ROOT = 3 };
 
@@ -53,6 +56,9 @@ enum { DISK_ADDRESSES = 360, DISK_NODES = 4052 };
 enum { DISK_FOOTER_NUMBER = 4072, DISK_FOOTER_INODE = 4076, DISK_FOOTER_FLAG = 4080 };
 
 struct disk_inode disk_inode_of(const uint8_t *block);
+
+/* A node's place in its file, 0 for the inode. */
+uint32_t disk_place(const uint8_t *block);
 
 /* The copies of the superblock start so many bytes into blocks 0 and 1, with this mark. */
 enum { DISK_SUPERBLOCK_AT = 1024 };

@@ -1,6 +1,7 @@
 /* info: what card it is, and whether it can be read. */
 #include <inttypes.h>
 #include <stdlib.h>
+#include <string.h>
 
 #include "disk.h"
 #include "json.h"
@@ -15,7 +16,8 @@ struct info {
     const struct card *card;
     struct opening opening;
     char *reason;              /* why it can't be read, or null */
-    const uint8_t *superblock; /* the copy in use; null if none is */
+    const uint8_t *superblock; /* the copy in use, as it was read; null if none is */
+    uint8_t copy[BLOCK_SIZE - DISK_SUPERBLOCK_AT];
     char label[DISK_LABEL_ROOM];
     struct partitions partitions;
 };
@@ -26,10 +28,11 @@ static void read_info(struct info *info, const struct card *card)
     opening_read(&info->opening, card);
     const struct opening *opening = &info->opening;
     info->reason = reason_of(opening->answer, card, NULL);
-    bool used = opening->agrees && opening->copy_in_use != NONE_IN_USE;
-    info->superblock = used ? disk_superblock(card, (uint32_t)opening->copy_in_use) : NULL;
-    if (info->superblock != NULL)
+    if (opening->agrees && opening->copy_in_use != NONE_IN_USE) {
+        memcpy(info->copy, disk_superblock(card, (uint32_t)opening->copy_in_use), sizeof info->copy);
+        info->superblock = info->copy;
         disk_label(info->superblock, info->label);
+    }
     if (opening->answer != HARPTIMBER_DATA)
         partitions_read(&info->partitions, card->map, card->file_len);
 }

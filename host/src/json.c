@@ -49,6 +49,12 @@ void json_number(struct json *json, const char *key, uint64_t number)
     fprintf(json->out, "%" PRIu64, number);
 }
 
+void json_null(struct json *json, const char *key)
+{
+    lead(json, key);
+    fputs("null", json->out);
+}
+
 void json_flag(struct json *json, const char *key, bool flag)
 {
     lead(json, key);

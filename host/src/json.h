@@ -22,6 +22,7 @@ void json_open(struct json *json, const char *key, char bracket);
 void json_close(struct json *json, char bracket);
 
 void json_number(struct json *json, const char *key, uint64_t number);
+void json_null(struct json *json, const char *key);
 void json_flag(struct json *json, const char *key, bool flag);
 void json_string(struct json *json, const char *key, const char *text);
 

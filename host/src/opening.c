@@ -66,13 +66,13 @@ static bool areas_pass(const uint8_t *copy, char *why)
     if (segment0 < 2)
         return because(why, "segment0_blkaddr is %" PRIu32 ", but blocks 0 and 1 have the superblock", segment0);
     if (checkpoint != segment0)
-        return because(why, "cp_blkaddr is %" PRIu32 ", but segment0_blkaddr %" PRIu32, checkpoint, segment0);
+        return because(why, "cp_blkaddr is %" PRIu32 ", not %" PRIu32 " as segment0_blkaddr is", checkpoint, segment0);
     for (int area = 1; area < DISK_AREAS; area++) {
         uint32_t first = disk_area_first(copy, area);
         uint64_t end = disk_area_end(copy, area - 1);
         if (first != end)
-            return because(why, "%s is %" PRIu32 ", but the %s area ends at %" PRIu64, disk_areas[area].field, first,
-                           disk_areas[area - 1].name, end);
+            return because(why, "%s is %" PRIu32 ", not %" PRIu64 ", where the %s area ends", disk_areas[area].field, first,
+                           end, disk_areas[area - 1].name);
     }
     return true;
 }
@@ -82,9 +82,11 @@ static bool ends_pass(const uint8_t *copy, uint64_t image_blocks, char *why)
     uint64_t main_end = disk_area_end(copy, DISK_MAIN), blocks = disk64(copy + 36);
     uint64_t segments_end = disk32(copy + 72) + (uint64_t)DISK_SEGMENT_BLOCKS * disk32(copy + 48);
     if (main_end > segments_end)
-        return because(why, "the main area ends at %" PRIu64 ", but segment_count at %" PRIu64, main_end, segments_end);
+        return because(why, "the main area ends at %" PRIu64 ", the segments of segment_count at %" PRIu64, main_end,
+                       segments_end);
     if (segments_end > blocks)
-        return because(why, "segment_count ends at %" PRIu64 ", but block_count is %" PRIu64, segments_end, blocks);
+        return because(why, "block_count is %" PRIu64 ", but the segments of segment_count end at %" PRIu64, blocks,
+                       segments_end);
     char counted[NUMBER_ROOM], there[NUMBER_ROOM];
     if (blocks > image_blocks)
         return because(why, "it counts %s blocks, the image has %s", number_text(counted, blocks),
@@ -261,4 +263,15 @@ void opening_read(struct opening *opening, const struct card *card)
     opening->agrees = judged == opening->answer;
     if (!opening->agrees)
         *opening->why = '\0';
+}
+
+const uint8_t *opening_superblock(const struct card *card)
+{
+    for (uint32_t number = 0; number < 2; number++) {
+        struct opening_copy copy = {.passes = false};
+        read_copy(&copy, card, number);
+        if (copy.passes)
+            return disk_superblock(card, number);
+    }
+    return NULL;
 }

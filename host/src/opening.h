@@ -39,4 +39,7 @@ struct opening {
 /* Asks the library, and finds the words. */
 void opening_read(struct opening *opening, const struct card *card);
 
+/* The copy of the superblock that is in use, by the same rules; null if neither passes. */
+const uint8_t *opening_superblock(const struct card *card);
+
 #endif

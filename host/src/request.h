@@ -6,15 +6,16 @@
 #include <stdint.h>
 
 /* What the program ends with; the man page promises these. */
-enum status { DONE = 0, CHANGED = 1, REFUSED = 2, MISUSED = 3 };
+enum status { DONE = 0, CHANGED = 1, REFUSED = 2, MISUSED = 3, NOT_FOUND = 4 };
 
 struct request {
     const char *command;
     char *const *words; /* behind the command, options left out */
     int word_count;
     const char *output;             /* -o's FILE, or null */
+    const char *index;              /* --index's N, or null */
     const char *offset, *partition; /* what chooses a part of the image, or null */
-    bool lists, json;
+    bool lists, json, quiet, verbose;
 };
 
 /* Each runs a command and says what to end with. */

@@ -2,6 +2,8 @@
 
 #include <string.h>
 
+#include "opening.h"
+
 /* What the library never answers. */
 static const uint32_t NO_ANSWER = UINT32_MAX;
 
@@ -10,19 +12,13 @@ enum { LEVELS = 29 };
 
 enum { SLOT_BYTES = 8, ENTRY_BYTES = 11, MOST_NAME_BYTES = 255 };
 
-/* The main area by the first copy of the superblock that may be the one in use; on a card that opens there is one. */
 struct walk walk_begin(const struct card *card)
 {
     struct walk walk = {.card = card, .stop.in_root = true};
-    for (uint32_t copy = 0; copy < 2 && walk.main_end == 0; copy++) {
-        const uint8_t *superblock = disk_superblock(card, copy);
-        if (superblock == NULL || disk32(superblock) != DISK_MARK)
-            continue;
-        uint64_t end = disk_area_end(superblock, DISK_MAIN);
-        if (end > disk64(superblock + DISK_BLOCK_COUNT_AT) || end > card->len / BLOCK_SIZE)
-            continue;
+    const uint8_t *superblock = opening_superblock(card);
+    if (superblock != NULL) {
         walk.main_first = disk_area_first(superblock, DISK_MAIN);
-        walk.main_end = end;
+        walk.main_end = disk_area_end(superblock, DISK_MAIN);
     }
     return walk;
 }

@@ -88,10 +88,10 @@ static void show_out_of_shape(FILE *out, const struct asked *asked)
         fputs("the name has ", out);
         show_count(out, asked->len, "byte");
         fputs("; at most 255 are possible", out);
-    } else if (memchr(asked->name, '/', asked->len) == NULL) {
-        fputs("the name has a zero byte", out);
-    } else {
+    } else if (memchr(asked->name, '/', asked->len) != NULL) {
         fprintf(out, "the name has a slash%s", asked->card == NULL ? "" : "; only the root directory is read");
+    } else if (memchr(asked->name, '\0', asked->len) != NULL) {
+        fputs("the name has a zero byte", out);
     }
 }
 
@@ -176,12 +176,17 @@ void show_answer(FILE *out, uint32_t answer, const char *meaning, const struct c
     show_asked(out, answer, meaning, &asked);
 }
 
-void json_asked(struct json *json, uint32_t answer, const struct asked *asked)
+void json_asked_as(struct json *json, const char *key, uint32_t answer, const struct asked *asked)
 {
     char *reason = reason_of_asked(answer, asked);
     if (reason != NULL)
-        json_string(json, "reason", reason);
+        json_string(json, key, reason);
     free(reason);
+}
+
+void json_asked(struct json *json, uint32_t answer, const struct asked *asked)
+{
+    json_asked_as(json, "reason", answer, asked);
 }
 
 void json_reason(struct json *json, uint32_t answer, const struct card *card, const char *name)

@@ -20,6 +20,7 @@ pub mod on_disk;
 pub mod outside;
 pub mod program;
 pub mod program_card;
+pub mod program_compare_words;
 pub mod program_compares;
 pub mod program_page;
 pub mod published;

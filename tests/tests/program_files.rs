@@ -23,7 +23,7 @@ fn expect_unreadable(bad: &Path, why: &str, run: impl Fn(Words) -> Ran) {
         &[&"cat", &bad, &ROAD],
         &[&"node", &bad, &"3"],
         &[&"compare", &good, &bad, &ROAD],
-        &[&"compare", &bad, &good, &ROAD, &"0"],
+        &[&"compare", &"--index=0", &bad, &good, &ROAD],
         &[&"compare", &"--json", &bad, &bad, &ROAD],
     ];
     for line in lines {

@@ -315,43 +315,47 @@ const COPY_RULES: [(Field, u64, &str); 24] = [
     (
         SEGMENT_COUNT_SSA,
         2,
-        "main_blkaddr is 3589, but the SSA area ends at 4101",
+        "main_blkaddr is 3589, not 4101, where the SSA area ends",
     ),
     (
         SEGMENT0_BLKADDR,
         1,
         "segment0_blkaddr is 1, but blocks 0 and 1 have the superblock",
     ),
-    (CP_BLKADDR, 6, "cp_blkaddr is 6, but segment0_blkaddr 5"),
+    (
+        CP_BLKADDR,
+        6,
+        "cp_blkaddr is 6, not 5 as segment0_blkaddr is",
+    ),
     (
         SIT_BLKADDR,
         1030,
-        "sit_blkaddr is 1030, but the checkpoint area ends at 1029",
+        "sit_blkaddr is 1030, not 1029, where the checkpoint area ends",
     ),
     (
         NAT_BLKADDR,
         2054,
-        "nat_blkaddr is 2054, but the SIT area ends at 2053",
+        "nat_blkaddr is 2054, not 2053, where the SIT area ends",
     ),
     (
         SSA_BLKADDR,
         3078,
-        "ssa_blkaddr is 3078, but the NAT area ends at 3077",
+        "ssa_blkaddr is 3078, not 3077, where the NAT area ends",
     ),
     (
         MAIN_BLKADDR,
         3590,
-        "main_blkaddr is 3590, but the SSA area ends at 3589",
+        "main_blkaddr is 3590, not 3589, where the SSA area ends",
     ),
     (
         SEGMENT_COUNT,
         7,
-        "the main area ends at 4101, but segment_count at 3589",
+        "the main area ends at 4101, the segments of segment_count at 3589",
     ),
     (
         BLOCK_COUNT,
-        9,
-        "segment_count ends at 5125, but block_count is 9",
+        5124,
+        "block_count is 5124, but the segments of segment_count end at 5125",
     ),
     (
         BLOCK_COUNT,
@@ -515,6 +519,21 @@ fn pack_rules() {
             _ => why.to_string(),
         };
         expect_reason(image, answer, &reason);
+    }
+}
+
+/// Packs without compact summaries that have too few blocks for the others, by one.
+#[test]
+fn short_packs() {
+    for (flags, total) in [(CP_UMOUNT_FLAG, 7), (CP_FASTBOOT_FLAG, 7), (0, 4)] {
+        let pack = Pack {
+            total,
+            ..Pack::plain(1, flags)
+        };
+        let lies = format!("the pack has {total} blocks, and it lies {total} before the end");
+        let reason = format!("the journal block is out of place: {lies}");
+        let knobs = Knobs::sound().with_pack(0, pack);
+        expect_reason(Image::new(&knobs), 8, &reason);
     }
 }
 
@@ -717,11 +736,11 @@ fn library_against_words() {
             for key in ["label", "areas", "features", "copies", "packs"] {
                 assert_eq!(json.get(key).is_some(), agrees, "'{key}' in {json:?}");
             }
-            assert_eq!(
-                json.get("reason").is_some(),
-                agrees && own != 0,
-                "in {json:?}"
-            );
+            let pull: Words = &[&"pull", &"--json", &disk.path(), &"name", &"0"];
+            for json in [&json, &run(pull).json()] {
+                let reason = json.get("reason").is_some();
+                assert_eq!(reason, agrees && own != 0, "in {json:?}");
+            }
             let words = run(&[&"info", &disk.path()]);
             let lines = words.words().lines().count();
             assert_eq!(lines > 1, agrees, "of {words:?}");

@@ -8,7 +8,7 @@ use std::os::unix::fs::symlink;
 use std::path::Path;
 use std::process::Command;
 
-use harptimber_tests::card::{Card, ROOT};
+use harptimber_tests::card::{Card, Passage, ROOT};
 use harptimber_tests::directory::{bucket_index, in_slot, Dentry};
 use harptimber_tests::image::Image;
 use harptimber_tests::json::Json;
@@ -361,38 +361,50 @@ fn found_by_no_pull() {
 /// A number to change on a card, and what is then said.
 type Broken = (u32, Field, u64, String);
 
-/// Addresses and nodes of the root directory that lead nowhere.
-fn broken_parts(scene: &mut Scene) -> Vec<Broken> {
+/// Addresses of the root directory that lead outside, in its inode and in its last node, or to a block a second time.
+fn broken_addresses(scene: &mut Scene) -> Vec<Broken> {
     let (root, block) = (scene.root_block(), scene.linked.block);
     let card = &mut scene.card;
     let (main, end) = (card.image.areas.main, card.image.areas.main_end);
-    let first = bucket_index(9, 0, 0);
-    let place = tree::way(ADDRESSES, first)[1].place;
-    card.way(ROOT, first);
-    let node = card.node(ROOT, place);
     let address = slots::I_ADDR.moved(5 * slots::SIZE);
-    let double = slots::I_NID.moved(4 * slots::SIZE);
-    let outside = format!(
-        "has address {end}; the main area is blocks {main} to {}",
-        end - 1
-    );
-    let foreign = format!(
-        "node {} (place {place} of the root directory) should be in block {}, but the block's number is 7, not {}",
-        node.nid, node.block, node.nid
-    );
+    let deep = tree::last_index(ADDRESSES) - 5;
+    let last = *card.way(ROOT, deep).last().unwrap();
+    let outside = |index: u32| {
+        let whose = format!("block {index} of the root directory has address {end}");
+        format!("{whose}; the main area is blocks {main} to {}", end - 1)
+    };
     let twice = format!("the card's block {block} is in the root directory twice");
+    vec![
+        (root, address, end.into(), outside(5)),
+        (last.node.block, last.slot, end.into(), outside(deep)),
+        (root, address, block.into(), twice),
+    ]
+}
+
+/// Nodes of the root directory that aren't there.
+fn broken_nodes(scene: &mut Scene) -> Vec<Broken> {
+    let root = scene.root_block();
+    let card = &mut scene.card;
+    let Passage { node, place, .. } = card.way(ROOT, bucket_index(9, 0, 0))[1];
+    let double = slots::I_NID.moved(4 * slots::SIZE);
     let past = card.node_numbers;
-    let past_words = format!("node {past} (place 2041 of the root directory) is out of range");
+    let in_root =
+        |nid: u32, place: u32| format!("node {nid} (place {place} of the root directory)");
+    let number = format!("the block's number is 7, not {}", node.nid);
+    let foreign = format!("should be in block {}, but {number}", node.block);
     vec![
         (
-            root,
-            address,
-            end.into(),
-            format!("block 5 of the root directory {outside}"),
+            node.block,
+            footer::NID,
+            7,
+            format!("{} {foreign}", in_root(node.nid, place)),
         ),
-        (root, address, block.into(), twice),
-        (node.block, footer::NID, 7, foreign),
-        (root, double, past.into(), past_words),
+        (
+            root,
+            double,
+            past.into(),
+            format!("{} is out of range", in_root(past, 2041)),
+        ),
     ]
 }
 
@@ -400,7 +412,8 @@ fn broken_parts(scene: &mut Scene) -> Vec<Broken> {
 #[test]
 fn damaged_parts() {
     let mut scene = small();
-    for (block, field, value, problem) in broken_parts(&mut scene) {
+    let parts = [broken_addresses(&mut scene), broken_nodes(&mut scene)].concat();
+    for (block, field, value, problem) in parts {
         let mark = scene.card.image.mark();
         scene.card.image.set(block, field, value);
         let disk = OnDisk::new(scene.card.image.clone());

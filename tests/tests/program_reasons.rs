@@ -12,6 +12,7 @@ use harptimber_tests::directory::{bucket_index, in_slot, Dentry};
 use harptimber_tests::layout::dentry::{FILE_TYPE, INO, NAME_LEN};
 use harptimber_tests::layout::footer;
 use harptimber_tests::layout::inode::*;
+use harptimber_tests::layout::superblock::MAIN_BLKADDR;
 use harptimber_tests::layout::{Field, BLOCK_SIZE};
 use harptimber_tests::lent::Lent;
 use harptimber_tests::program::{run, Ran, Words};
@@ -175,6 +176,21 @@ fn outside() {
             scene.card.set_address(ROOT, 0, address)
         });
     }
+}
+
+/// The main area is that of the copy in use, though the other has its mark.
+#[test]
+fn second_copy() {
+    let mut stage = Stage::new();
+    let ino = stage.scene.ino;
+    let areas = stage.card().image.areas;
+    let reason = format!("block 0 of the file has address {}", areas.main_end);
+    let reason = format!("{reason}; {}", stage.main_area());
+    stage.expect(0, 13, &reason, |scene| {
+        let main = u64::from(areas.main);
+        scene.card.image.set(0, MAIN_BLKADDR, main - 512);
+        scene.card.set_address(ino, 0, areas.main_end);
+    });
 }
 
 /// A footer's flag word with this place.

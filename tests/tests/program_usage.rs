@@ -51,11 +51,10 @@ fn missing_words() {
 #[test]
 fn words_too_many() {
     for (command, words) in COMMANDS {
-        let more: &[&str] = match command {
-            "compare" => &["0", "0"],
-            _ => &["0"],
-        };
-        expect_usage(&[&[command], words, more].concat());
+        // Of names there may be any number.
+        if command != "compare" {
+            expect_usage(&[&[command], words, &["0"]].concat());
+        }
     }
     expect_usage(&["--help=now"]);
 }
@@ -77,6 +76,11 @@ fn unknown_commands_and_options() {
 fn options_elsewhere() {
     for command in ["info", "ls", "cat", "compare", "node", "place", "hash"] {
         expect_usage_with(&line_of(command), &["--lists"]);
+    }
+    for command in ["info", "ls", "pull", "cat", "node", "place", "hash"] {
+        for option in ["-q", "--quiet", "-v", "--verbose", "--index=0"] {
+            expect_usage_with(&line_of(command), &[option]);
+        }
     }
     for command in ["place", "hash"] {
         expect_usage_with(&line_of(command), &["--offset", "0"]);
@@ -130,10 +134,15 @@ fn no_numbers() {
         for options in [&[][..], &["--json"], &["--"]] {
             let expect = |words: &[&str]| expect_usage(&[options, words].concat());
             expect(&["pull", "card.img", "road.bin", wrong]);
-            expect(&["compare", "kept.img", "new.img", "road.bin", wrong]);
             expect(&["node", "card.img", wrong]);
             expect(&["place", wrong, "0"]);
             expect(&["place", "923", wrong]);
+        }
+        for json in [&[][..], &["--json"]] {
+            let index = [
+                "compare", "--index", wrong, "kept.img", "new.img", "road.bin",
+            ];
+            expect_usage(&[json, &index].concat());
         }
     }
 }
@@ -208,6 +217,9 @@ fn help() {
         for option in [
             "--json",
             "--lists",
+            "--index",
+            "-q",
+            "-v",
             "-o",
             "--offset",
             "--partition",
@@ -227,7 +239,10 @@ const PAGES: [(&str, &[&str]); 8] = [
         &["-o", "--lists", "--offset", "--partition", "--json"],
     ),
     ("cat", &["-o", "--offset", "--partition", "--json"]),
-    ("compare", &["--offset", "--partition", "--json"]),
+    (
+        "compare",
+        &["--index", "-q", "-v", "--offset", "--partition", "--json"],
+    ),
     ("node", &["--offset", "--partition", "--json"]),
     ("place", &["--json"]),
     ("hash", &["--json"]),
@@ -242,7 +257,8 @@ fn own_pages() {
         let usage = format!("Usage: harptimber {command} ");
         assert!(page.words().starts_with(&usage), "of {page:?}");
         assert!(page.words().contains("\nExit status:\n"), "of {page:?}");
-        for option in ["-o", "--lists", "--offset", "--partition", "--json"] {
+        let all = ["-o", "--lists", "--index", "-q", "-v", "--offset"];
+        for option in all.into_iter().chain(["--partition", "--json"]) {
             let takes = taken.contains(&option);
             let usage = page.words().lines().next().unwrap();
             assert_eq!(usage.contains(&format!("[{option}")), takes, "{page:?}");

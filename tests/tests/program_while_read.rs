@@ -72,12 +72,16 @@ impl Images {
         expect(&[&"pull", &"-o", &output, &kept, &ROAD, &"5"], road);
         expect(&[&"cat", &kept, &LONG], long);
         expect(&[&"cat", &"--json", &"-o", &output, &kept, &LONG], long);
+        let block = self.card.card.image.first_block(1);
+        let pack = Hold { image: 0, block };
+        expect(&[&"info", &kept], pack);
+        expect(&[&"info", &"--json", &kept], pack);
         expect(&[&"node", &kept, &ino], table);
         expect(&[&"node", &"--json", &kept, &ino], table);
         for (whole, one) in [(long, road), (on_new(long), on_new(road))] {
             expect(&[&"compare", &kept, &new, &LONG], whole);
             expect(&[&"compare", &"--json", &kept, &new, &LONG], whole);
-            expect(&[&"compare", &kept, &new, &ROAD, &"5"], one);
+            expect(&[&"compare", &"--index=5", &kept, &new, &ROAD], one);
         }
     }
 

@@ -6,6 +6,7 @@ use reference::hash::raw_hash;
 use reference::lookup::node_lookup;
 use reference::place::file_place;
 
+use harptimber_tests::on_disk::OnDisk;
 use harptimber_tests::program::{run, run_on_terminal, Ran, Words};
 use harptimber_tests::program_card::{shared_card, NAMES, REPEATING, ROAD};
 use harptimber_tests::program_page::{counted, meaning, status_of};
@@ -135,6 +136,7 @@ fn hashes() {
 fn out_of_shape() {
     let card = shared_card();
     let path = card.disk.path();
+    let other = OnDisk::new(card.disk.image.clone());
     let long = vec![b'x'; 300];
     let slash = "the name has a slash; only the root directory is read";
     let too_long = "the name has 300 bytes; at most 255 are possible";
@@ -145,7 +147,7 @@ fn out_of_shape() {
         (&[&"pull", &path, &"a/b", &"0"], slash),
         (&[&"pull", &path, &"", &"0"], "the name is empty"),
         (&[&"pull", &path, &long, &"0"], too_long),
-        (&[&"compare", &path, &path, &"a/b"], slash),
+        (&[&"compare", &path, &other.path(), &"a/b"], slash),
         (&[&"place", &"5", &"0"], "A has to be 873 or 923"),
         (&[&"place", &"4294967295", &"0"], "A has to be 873 or 923"),
     ];
