@@ -89,7 +89,18 @@ impl Holder {
     }
 
     /// Runs the program, with something done while it is held.
-    pub fn run(&self, words: Words, hold: Hold, files: Files, meanwhile: impl FnOnce()) -> Ran {
+    pub fn run(&self, words: Words, hold: Hold, meanwhile: impl FnOnce()) -> Ran {
+        self.run_with(Files::AsHere, words, hold, meanwhile)
+    }
+
+    /// The same on such a file system.
+    pub fn run_with(
+        &self,
+        files: Files,
+        words: Words,
+        hold: Hold,
+        meanwhile: impl FnOnce(),
+    ) -> Ran {
         let (running, open) = self.start(words, hold, files);
         meanwhile();
         drop(open);

@@ -51,7 +51,7 @@ impl Images {
         let file = file.unwrap();
         file.set_modified(SystemTime::UNIX_EPOCH).unwrap();
         thread::sleep(TICK);
-        self.holder.run(words, hold, files, || change(&file))
+        self.holder.run_with(files, words, hold, || change(&file))
     }
 
     /// Each command that reads images, held at the last block that it reads.

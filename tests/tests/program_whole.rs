@@ -108,7 +108,7 @@ fn meanwhile() {
                 }
             };
             holder
-                .run(line, place.hold(LONG, 925), files, look)
+                .run_with(files, line, place.hold(LONG, 925), look)
                 .expect(0);
             place.expect_alone(&whole);
             fs::write(&output, "old").unwrap();
