@@ -7,8 +7,7 @@ use std::hint::black_box;
 use std::ops::Range;
 
 /// How many numbers the lists have that are long enough for any pull.
-pub const NODES: u32 = 179;
-pub const BLOCKS: u32 = 238;
+pub use harptimber_tests::sizes::{BLOCKS_MOST as BLOCKS, NODES_MOST as NODES};
 
 /// What is lent to a pull: a block and the two lists.
 pub struct Lent {

@@ -10,9 +10,15 @@
  * back by value in a struct whose first field is `answer`, one of the numbers of harptimber_answer.
  * A field that the answer doesn't name is 0.
  *
- * Bytes are lent as a pointer, then a length. What the caller still has to see to: the pointer is
- * never null, also with length 0; that many bytes can be read there, and written if they aren't const;
- * the slices lent to one call don't overlap; and nobody else writes them during the call.
+ * Bytes are lent as a pointer, then a length. What the caller still has to see to:
+ *   - that many bytes can be read there, and written if the pointer isn't to const; with length 0
+ *     nothing is touched, and the pointer may be anything, null too;
+ *   - a slice that isn't const shares no byte with another slice of the call; const ones may overlap
+ *     as they like, so that an image can be compared with itself;
+ *   - nobody writes lent bytes during the call, but the call itself.
+ *
+ * Where an image is a mapped file that is cut short, or whose medium fails, the system raises SIGBUS in
+ * the middle of a call. A host that can't rule that out handles the signal, or lends a copy.
  *
  *     uint8_t block[HARPTIMBER_BLOCK_BYTES];
  *     uint8_t nodes[HARPTIMBER_NODES_BYTES], blocks[HARPTIMBER_BLOCKS_BYTES];
@@ -21,6 +27,8 @@
  *         block, sizeof block, nodes, sizeof nodes, blocks, sizeof blocks);
  *     if (p.answer == HARPTIMBER_DATA)
  *         use(block, p.byte_count);
+ *     else
+ *         puts(harptimber_answer_words(p.answer));
  */
 #ifndef HARPTIMBER_H
 #define HARPTIMBER_H
@@ -32,33 +40,76 @@
 extern "C" {
 #endif
 
-/* How many bytes to lend to a pull: a block, and lists with room for whatever it rests on. */
+/* The version of this header, and of the library that is installed with it. */
+#define HARPTIMBER_VERSION_MAJOR 0
+#define HARPTIMBER_VERSION_MINOR 1
+#define HARPTIMBER_VERSION_PATCH 0
+#define HARPTIMBER_VERSION "0.1.0"
+
 enum {
+    /* Of what is asked: a card's blocks, and a name's bytes. */
     HARPTIMBER_BLOCK_BYTES = 4096,
-    HARPTIMBER_NODES_BYTES = 179 * 4,
-    HARPTIMBER_BLOCKS_BYTES = 238 * 4
+    HARPTIMBER_CARD_BLOCKS_LEAST = 2,
+    HARPTIMBER_CARD_BLOCKS_MOST = 262144,
+    HARPTIMBER_NAME_BYTES_MOST = 255,
+    /* The most that a pull rests on, and the bytes to lend for a list with room for that. */
+    HARPTIMBER_NODES_MOST = 179,
+    HARPTIMBER_BLOCKS_MOST = 238,
+    HARPTIMBER_NODES_BYTES = 4 * HARPTIMBER_NODES_MOST,
+    HARPTIMBER_BLOCKS_BYTES = 4 * HARPTIMBER_BLOCKS_MOST
 };
 
-/* What an answer number means. */
+/* What an answer number means, harptimber_answer_words says. */
 enum harptimber_answer {
-    HARPTIMBER_DATA = 0,            /* done: the other fields hold the result */
-    HARPTIMBER_HOLE = 1,            /* the block is a hole: zeros */
-    HARPTIMBER_NO_NAME = 2,         /* the root directory has no such name */
-    HARPTIMBER_PAST_END = 3,        /* the block index lies past the end */
-    HARPTIMBER_OUT_OF_SHAPE = 4,    /* the call itself is out of shape: a bad name, number or length */
-    HARPTIMBER_NO_SUPERBLOCK = 5,   /* neither copy of the superblock passes */
-    HARPTIMBER_FEATURES = 6,        /* the card has features or a payload, which aren't read */
-    HARPTIMBER_NO_CHECKPOINT = 7,   /* neither checkpoint pack passes */
-    HARPTIMBER_UNREADABLE = 8,      /* the checkpoint pack in use has its maps or journal out of place */
-    HARPTIMBER_NO_NODE = 9,         /* a node number is out of range, or its address is 0 */
-    HARPTIMBER_NODE_OUTSIDE = 10,   /* a node's address lies outside the main area */
-    HARPTIMBER_FOREIGN_NODE = 11,   /* a node block belongs elsewhere */
-    HARPTIMBER_KIND_NOT_READ = 12,  /* an inode of a kind that isn't read */
-    HARPTIMBER_DATA_OUTSIDE = 13,   /* a data address lies outside the main area */
-    HARPTIMBER_MALFORMED_SLOT = 14, /* a directory entry doesn't fit its block */
-    HARPTIMBER_SAME = 15,           /* Compare: the new image gives the same answer */
-    HARPTIMBER_CHANGED = 16         /* Compare: something that the answer rested on has changed */
+    HARPTIMBER_DATA = 0, /* also of the calls that read no file: done */
+    HARPTIMBER_HOLE = 1,
+    HARPTIMBER_NO_NAME = 2,
+    HARPTIMBER_PAST_END = 3,
+    HARPTIMBER_OUT_OF_SHAPE = 4,
+    HARPTIMBER_NO_SUPERBLOCK = 5,
+    HARPTIMBER_FEATURES = 6,
+    HARPTIMBER_NO_CHECKPOINT = 7,
+    HARPTIMBER_UNREADABLE = 8,
+    HARPTIMBER_NO_NODE = 9,
+    HARPTIMBER_NODE_OUTSIDE = 10,
+    HARPTIMBER_FOREIGN_NODE = 11,
+    HARPTIMBER_KIND_NOT_READ = 12,
+    HARPTIMBER_DATA_OUTSIDE = 13,
+    HARPTIMBER_MALFORMED_SLOT = 14,
+    HARPTIMBER_SAME = 15,
+    HARPTIMBER_CHANGED = 16
 };
+
+/* An answer of a pull or a compare in words. */
+static inline const char *harptimber_answer_words(uint32_t answer)
+{
+    static const char *const words[] = {
+        /*  0 */ "data",
+        /*  1 */ "hole: zeros",
+        /*  2 */ "no such name in the root directory",
+        /*  3 */ "past the end of the file",
+        /*  4 */ "out of shape: the image's length, the name or A",
+        /*  5 */ "neither copy of the superblock passes",
+        /*  6 */ "the card has features or a payload, which aren't read",
+        /*  7 */ "neither checkpoint pack passes",
+        /*  8 */ "the checkpoint pack in use has its maps or journal out of place",
+        /*  9 */ "a node number out of range or not in use",
+        /* 10 */ "a node's address lies outside the main area",
+        /* 11 */ "a node block belongs elsewhere",
+        /* 12 */ "an inode of a kind that isn't read",
+        /* 13 */ "a data address lies outside the main area",
+        /* 14 */ "a directory entry doesn't fit its block",
+        /* 15 */ "same",
+        /* 16 */ "changed"};
+    return answer < sizeof words / sizeof *words ? words[answer] : "unknown";
+}
+
+/* Entry `i` of a list, counted from 0: as many as the list's count are there. */
+static inline uint32_t harptimber_list_entry(const uint8_t *list, uint32_t i)
+{
+    const uint8_t *bytes = list + 4 * (size_t)i;
+    return (uint32_t)bytes[0] | (uint32_t)bytes[1] << 8 | (uint32_t)bytes[2] << 16 | (uint32_t)bytes[3] << 24;
+}
 
 /* The result of harptimber_name_hash. */
 struct harptimber_hashed {
@@ -123,8 +174,9 @@ struct harptimber_pulled {
 
 /*
  * Block `index` of a file in the root directory, and what the answer rested on. `block` has exactly
- * 4,096 bytes; `nodes` has room for at least 179 numbers and `blocks` for at least 238, four bytes a
- * number, the lowest byte first (a remainder isn't used); otherwise the answer is 4.
+ * HARPTIMBER_BLOCK_BYTES, `nodes` at least HARPTIMBER_NODES_BYTES and `blocks` at least
+ * HARPTIMBER_BLOCKS_BYTES; otherwise the answer is 4. A list has four bytes a number, the lowest first
+ * (harptimber_list_entry reads one); a remainder isn't used.
  *
  * The block buffer is written with 0 (the file's bytes up to the count, then zeros) and with 1 (zeros),
  * and left untouched by every other answer. With 4 to 8 the lists are untouched and their counts are 0;

@@ -11,8 +11,10 @@
 #include <sys/mman.h>
 #include <unistd.h>
 
+#include "part.h"
 #include "request.h"
 #include "text.h"
+#include "whole.h"
 
 /* The cards that are mapped now; compare has two. */
 static const struct card *mapped[2];
@@ -29,10 +31,11 @@ static void on_bus_error(int number, siginfo_t *info, void *context)
     (void)context;
     const char *message = "harptimber: memory can't be read\n";
     for (int i = 0; i < MOST_CARDS; i++)
-        if (mapped[i] != NULL && (uintptr_t)info->si_addr - (uintptr_t)mapped[i]->bytes < mapped[i]->len)
+        if (mapped[i] != NULL && (uintptr_t)info->si_addr - (uintptr_t)mapped[i]->map < mapped[i]->file_len)
             message = mapped[i]->lost;
     ssize_t written = write(STDERR_FILENO, message, strlen(message));
     (void)written;
+    whole_drop_at_once();
     _exit(REFUSED);
 }
 
@@ -72,7 +75,7 @@ static const char *measure(struct card *card)
         return "is empty";
     if ((uintmax_t)size > SIZE_MAX)
         return "is too big to map";
-    card->len = (size_t)size;
+    card->file_len = (size_t)size;
     return NULL;
 }
 
@@ -88,29 +91,42 @@ static const char *map(struct card *card)
     const char *why = measure(card);
     if (why != NULL)
         return why;
-    void *bytes = mmap(NULL, card->len, PROT_READ, MAP_PRIVATE, card->file, 0);
+    void *bytes = mmap(NULL, card->file_len, PROT_READ, MAP_PRIVATE, card->file, 0);
     if (bytes == MAP_FAILED)
         return errno == ENOMEM ? "is too big to map" : strerror(errno);
-    card->bytes = bytes;
+    card->map = card->bytes = bytes;
+    card->len = card->file_len;
     return NULL;
 }
 
 /* Without O_NONBLOCK, opening a FIFO would wait for a writer. */
-bool card_open(struct card *card, const char *path)
+static bool open_and_map(struct card *card)
 {
-    *card = (struct card){.path = path};
-    card->file = open(path, O_RDONLY | O_NONBLOCK | O_NOCTTY | O_CLOEXEC);
+    card->file = open(card->path, O_RDONLY | O_NONBLOCK | O_NOCTTY | O_CLOEXEC);
     const char *why = card->file < 0 ? strerror(errno) : map(card);
-    if (why == NULL && (card->lost = message_if_lost(path)) == NULL)
+    if (why == NULL && (card->lost = message_if_lost(card->path)) == NULL)
         why = strerror(ENOMEM);
-    if (why != NULL) {
-        complain(path, "%s", why);
+    if (why != NULL)
+        complain(card->path, "%s", why);
+    return why == NULL;
+}
+
+enum status card_open(struct card *card, const struct request *request, const char *path)
+{
+    struct part part;
+    *card = (struct card){.path = path};
+    if (!part_read(&part, request))
+        return MISUSED;
+    if (!open_and_map(card)) {
         card_close(card);
-        return false;
+        return REFUSED;
     }
     mapped[mapped[0] == NULL ? 0 : 1] = card;
     watch_bus_errors();
-    return true;
+    if (part_take(card, &part))
+        return DONE;
+    card_close(card);
+    return MISUSED;
 }
 
 void card_close(struct card *card)
@@ -118,8 +134,8 @@ void card_close(struct card *card)
     for (int i = 0; i < MOST_CARDS; i++)
         if (mapped[i] == card)
             mapped[i] = NULL;
-    if (card->bytes != NULL)
-        munmap((void *)(uintptr_t)card->bytes, card->len);
+    if (card->map != NULL)
+        munmap((void *)(uintptr_t)card->map, card->file_len);
     if (card->file >= 0)
         close(card->file);
     free(card->lost);
@@ -151,6 +167,18 @@ bool card_is(const struct card *card, const struct stat *info)
     return card->info.st_dev == info->st_dev && card->info.st_ino == info->st_ino;
 }
 
+/* Two loop devices may have one file. Partitions of a loop device have its number, and are none themselves. */
+bool card_is_same(const struct card *card, const struct card *other)
+{
+    struct loop_info64 one, two;
+    if (card_is(card, &other->info) || card_is(other, &card->info))
+        return true;
+    bool loops = S_ISBLK(card->info.st_mode) && S_ISBLK(other->info.st_mode) &&
+                 ioctl(card->file, LOOP_GET_STATUS64, &one) == 0 && ioctl(other->file, LOOP_GET_STATUS64, &two) == 0;
+    return loops && one.lo_number != two.lo_number && one.lo_device == two.lo_device && one.lo_inode == two.lo_inode &&
+           one.lo_offset == two.lo_offset;
+}
+
 struct harptimber_pulled card_pull(const struct card *card, const char *name, uint32_t index,
                                    uint8_t *block, struct lists *lists)
 {
@@ -166,6 +194,5 @@ bool is_block(uint32_t answer)
 
 uint32_t list_number(const uint8_t *list, uint32_t i)
 {
-    const uint8_t *bytes = list + 4 * (size_t)i;
-    return (uint32_t)bytes[0] | (uint32_t)bytes[1] << 8 | (uint32_t)bytes[2] << 16 | (uint32_t)bytes[3] << 24;
+    return harptimber_list_entry(list, i);
 }

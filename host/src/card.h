@@ -8,13 +8,17 @@
 #include <sys/stat.h>
 
 #include "harptimber.h"
+#include "request.h"
 
 enum { BLOCK_SIZE = HARPTIMBER_BLOCK_BYTES };
 
+/* `bytes` are the card: all of the mapped file, or the part of it that options choose. */
 struct card {
     const char *path;
     const uint8_t *bytes;
     size_t len;
+    const uint8_t *map; /* the whole file */
+    size_t file_len;
     int file;         /* stays open, for card_is_settled */
     struct stat info; /* as it was when the card was mapped */
     char *lost;       /* what to say if its bytes can't be read any more */
@@ -26,8 +30,11 @@ struct lists {
     uint8_t blocks[HARPTIMBER_BLOCKS_BYTES];
 };
 
-/* Maps a regular file or a block device. If that fails, says why and returns false. */
-bool card_open(struct card *card, const char *path);
+/*
+ * Maps a regular file or a block device, and takes the part of it that the request's options choose. If that fails, says why
+ * and returns what to end with; else DONE.
+ */
+enum status card_open(struct card *card, const struct request *request, const char *path);
 
 void card_close(struct card *card);
 
@@ -40,6 +47,9 @@ bool card_is_settled(const struct card *card);
 
 /* Whether a file is the card itself, or what a loop device that is the card has its bytes from. */
 bool card_is(const struct card *card, const struct stat *info);
+
+/* Whether two cards have their bytes from the same place: a file or device, by whatever path or loop device. */
+bool card_is_same(const struct card *card, const struct card *other);
 
 /* Block `index` of the file `name`, into 4,096 bytes at `block`. */
 struct harptimber_pulled card_pull(const struct card *card, const char *name, uint32_t index,

@@ -72,6 +72,12 @@ static bool copy(struct cat *cat)
     return nothing || write_piece(cat);
 }
 
+/* Whether there is something for whoever reads the output: of a file, all or nothing. */
+static bool has_written(const struct cat *cat)
+{
+    return cat->output_is_open && (cat->answer == HARPTIMBER_PAST_END || !cat->output.waits);
+}
+
 static void show_words(const struct cat *cat)
 {
     if (cat->answer == HARPTIMBER_PAST_END)
@@ -79,8 +85,15 @@ static void show_words(const struct cat *cat)
     show_subject(stderr, cat->card.path);
     show(stderr, cat->name);
     fprintf(stderr, ", block %" PRIu32 ": ", cat->blocks);
-    show_answer(stderr, cat->answer, meaning_of(cat->answer), &cat->card, cat->name);
-    fprintf(stderr, "; %" PRIu64 " bytes were written\n", cat->bytes);
+    struct asked asked = pull_of(&cat->card, cat->name, cat->blocks);
+    show_asked(stderr, cat->answer, meaning_of(cat->answer), &asked);
+    fputs("; ", stderr);
+    if (!has_written(cat)) {
+        fputs("nothing was written\n", stderr);
+        return;
+    }
+    show_count(stderr, cat->bytes, "byte");
+    fprintf(stderr, " %s written\n", cat->bytes == 1 ? "was" : "were");
 }
 
 static void show_json(const struct cat *cat)
@@ -88,25 +101,37 @@ static void show_json(const struct cat *cat)
     bool whole = cat->answer == HARPTIMBER_PAST_END;
     uint32_t answer = whole ? HARPTIMBER_DATA : cat->answer;
     FILE *out = output_is_standard(cat->request->output) ? stderr : stdout;
+    struct asked asked = pull_of(&cat->card, cat->name, cat->blocks);
     struct json json = json_begin(out, "cat", answer, meaning_of(answer));
+    json_asked(&json, answer, &asked);
     json_string(&json, "image", cat->card.path);
     json_name(&json, cat->name);
     json_string(&json, "output", cat->request->output);
-    json_number(&json, "bytes", cat->bytes);
-    json_number(&json, "blocks", cat->blocks);
-    json_number(&json, "holes", cat->holes);
+    bool written = has_written(cat);
+    json_number(&json, "bytes", written ? cat->bytes : 0);
+    json_number(&json, "blocks", written ? cat->blocks : 0);
+    json_number(&json, "holes", written ? cat->holes : 0);
     if (!whole)
         json_number(&json, "index", cat->blocks);
     json_end(&json);
+}
+
+/* Ends the output, which is whole if the file was read to its end. Returns false if there is no more to say. */
+static bool end_output(struct cat *cat, bool written)
+{
+    bool settled = written && card_is_settled(&cat->card);
+    if (settled && cat->output_is_open && cat->answer == HARPTIMBER_PAST_END)
+        return output_close(&cat->output);
+    if (cat->output_is_open)
+        output_drop(&cat->output);
+    return settled;
 }
 
 static enum status cat_and_tell(struct cat *cat)
 {
     bool written = copy(cat);
     progress_end(&cat->progress);
-    if (cat->output_is_open)
-        written = output_close(&cat->output) && written;
-    if (!written || !card_is_settled(&cat->card))
+    if (!end_output(cat, written))
         return REFUSED;
     (cat->request->json ? show_json : show_words)(cat);
     return cat->answer == HARPTIMBER_PAST_END ? DONE : REFUSED;
@@ -121,9 +146,10 @@ enum status run_cat(const struct request *request)
     static struct cat cat; /* large, so not on the stack */
     cat.request = request;
     cat.name = request->words[1];
-    if (!card_open(&cat.card, request->words[0]))
-        return REFUSED;
-    enum status status = cat_and_tell(&cat);
+    enum status status = card_open(&cat.card, request, request->words[0]);
+    if (status != DONE)
+        return status;
+    status = cat_and_tell(&cat);
     card_close(&cat.card);
     return status;
 }

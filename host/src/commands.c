@@ -1,5 +1,6 @@
 #include "commands.h"
 
+#include <limits.h>
 #include <stdio.h>
 #include <string.h>
 
@@ -8,35 +9,60 @@
 const struct program_option options[OPTION_COUNT] = {
     [OUTPUT] = {'o', "output", "FILE", "write the bytes to FILE; - is standard output", FIELD(output)},
     [LISTS] = {0, "lists", NULL, "print the nodes and blocks that the answer rested on", FIELD(lists)},
+    [INDEX] = {0, "index", "N", "compare only block N of each file", FIELD(index)},
+    [QUIET] = {'q', "quiet", NULL, "print nothing: the exit status says it", FIELD(quiet)},
+    [VERBOSE] = {'v', "verbose", NULL, "with several names too, say which blocks, and what changed", FIELD(verbose)},
+    [OFFSET] = {0, "offset", "BYTES", "the card starts so many bytes into the image", FIELD(offset)},
+    [PARTITION] = {0, "partition", "N", "the card is partition N of the image, by its MBR or GPT", FIELD(partition)},
     [JSON] = {0, "json", NULL, "print one JSON object", FIELD(json)},
 };
 
 #define TAKES(option) (1U << (option))
 
+/* What chooses the card in an image; every command that reads one takes it. */
+#define A_PART (TAKES(OFFSET) | TAKES(PARTITION))
+
 const struct command commands[] = {
-    {"pull", "IMAGE NAME INDEX", 3, 3, TAKES(OUTPUT) | TAKES(LISTS) | TAKES(JSON),
+    {"info", "IMAGE", 1, 1, A_PART | TAKES(JSON),
+     "what card it is, and whether it can be read",
+     "Say of the card IMAGE whether it can be read, and if not, why; its label, its size and how its\n"
+     "areas lie; and its checkpoint packs. Of a disk it says which partitions there are.\n",
+     "  0  the card can be read\n"
+     "  2  it can't\n",
+     run_info},
+    {"ls", "IMAGE", 1, 1, A_PART | TAKES(JSON),
+     "the names in the root directory, and what a pull of each answers",
+     "List the names in the root directory of the card IMAGE: each file's size in bytes, its name, and what a\n"
+     "pull of its block 0 answers, which is 3 for an empty file. '.' and '..' are left out.\n",
+     "  0  all names\n"
+     "  2  names may be missing, since the directory is damaged, or the card can't be read\n",
+     run_ls},
+    {"pull", "IMAGE NAME INDEX", 3, 3, TAKES(OUTPUT) | TAKES(LISTS) | A_PART | TAKES(JSON),
      "one block of a file in the root directory",
      "Pull block INDEX of the file NAME from the card IMAGE. Blocks have 4,096 bytes, and a file's\n"
      "first is block 0. The answer is told in words; on a terminal the block's bytes follow.\n",
      "  0  data or a hole\n"
      "  2  there is no such block, or the card can't be read\n",
      run_pull},
-    {"cat", "IMAGE NAME", 2, 2, TAKES(OUTPUT) | TAKES(JSON),
+    {"cat", "IMAGE NAME", 2, 2, TAKES(OUTPUT) | A_PART | TAKES(JSON),
      "a whole file, to standard output",
      "Write the file NAME of the card IMAGE to standard output. Holes are zeros. With --json, -o is\n"
      "needed too.\n",
      "  0  the whole file was written\n"
      "  2  a block was refused; the message says how much was written\n",
      run_cat},
-    {"compare", "KEPT NEW NAME [INDEX]", 3, 4, TAKES(JSON),
-     "whether a block, or all blocks, read from KEPT are still good on NEW",
-     "Say whether block INDEX of the file NAME, or without it every block, read from the card KEPT is\n"
-     "still good on the card NEW, and if not, what changed.\n",
-     "  0  still good\n"
-     "  1  something that the answer rested on has changed\n"
-     "  2  KEPT has no such block, or a card can't be read\n",
+    {"compare", "KEPT NEW NAME..", 3, INT_MAX, TAKES(INDEX) | TAKES(QUIET) | TAKES(VERBOSE) | A_PART | TAKES(JSON),
+     "whether files read from the card KEPT are still good on NEW",
+     "Say for each file NAME whether what was read from the card KEPT is still good on the card NEW: how\n"
+     "many blocks differ, have the same bytes but rest on something that changed, or are the same for\n"
+     "certain. A single name is followed by which blocks, and what changed.\n",
+     "  0  each block is the same, for certain\n"
+     "  1  something that it rests on has changed, its bytes or not\n"
+     "  2  KEPT has no such block, or a card can't be read\n"
+     "  4  neither card has the name\n"
+     "     With several names it is the highest of theirs.\n",
      run_compare},
-    {"node", "IMAGE NUMBER", 2, 2, TAKES(JSON),
+    {"node", "IMAGE NUMBER", 2, 2, A_PART | TAKES(JSON),
      "a node's entry in the node address table",
      "Say what the node address table of the card IMAGE, with its journal, has for node NUMBER.\n",
      "  0  an entry, in use or not\n"

@@ -1,16 +1,33 @@
 /* compare: whether what was read from a kept card is still good on a new one. */
 #include "compare.h"
 
+#include <limits.h>
 #include <stdlib.h>
 #include <string.h>
 
-#include "request.h"
+#include "disk.h"
+#include "progress.h"
 #include "text.h"
 #include "words.h"
 
 bool is_changed(const struct run *run)
 {
     return run->verdict.answer == HARPTIMBER_CHANGED;
+}
+
+uint64_t held_bytes(const struct holding *holding)
+{
+    return holding->inode == NULL ? 0 : disk_inode_of(holding->inode).size;
+}
+
+uint32_t compared_blocks(const struct comparison *c)
+{
+    return c->counts[SAME] + c->counts[SAME_BYTES] + c->counts[DIFFERENT];
+}
+
+bool is_on_neither(const struct comparison *c)
+{
+    return c->had.answer == HARPTIMBER_NO_NAME && c->has.answer == HARPTIMBER_NO_NAME;
 }
 
 /* What the library says of a block: a pull on the kept card, and whether that still holds on the new one. */
@@ -33,13 +50,13 @@ static bool refuse(struct comparison *c, uint32_t answer, uint32_t side)
 static bool find(struct comparison *c, uint32_t index, struct finding *found)
 {
     struct lists *lists = &found->lists;
-    found->pulled = card_pull(&c->kept, c->name, index, found->block, lists);
+    found->pulled = card_pull(c->kept, c->name, index, found->block, lists);
     uint32_t answer = found->pulled.answer;
     if (answer >= HARPTIMBER_OUT_OF_SHAPE && answer <= HARPTIMBER_UNREADABLE) {
-        bool bad_name = answer == HARPTIMBER_OUT_OF_SHAPE && length_is_in_shape(&c->kept);
+        bool bad_name = answer == HARPTIMBER_OUT_OF_SHAPE && length_is_in_shape(c->kept);
         return refuse(c, answer, bad_name ? (uint32_t)NO_SIDE : HARPTIMBER_KEPT);
     }
-    found->verdict = harptimber_compare(c->kept.bytes, c->kept.len, c->new.bytes, c->new.len, lists->nodes,
+    found->verdict = harptimber_compare(c->kept->bytes, c->kept->len, c->new->bytes, c->new->len, lists->nodes,
                                         sizeof lists->nodes, found->pulled.node_count, lists->blocks,
                                         sizeof lists->blocks, found->pulled.block_count);
     answer = found->verdict.answer;
@@ -51,37 +68,90 @@ static bool find(struct comparison *c, uint32_t index, struct finding *found)
 /* Which of the listed nodes the kept card has in the block that differs. */
 static uint32_t node_in_block(const struct comparison *c, const struct finding *found)
 {
-    uint32_t count = found->verdict.kind == HARPTIMBER_BLOCK_DIFFERS ? found->pulled.node_count : 0;
-    for (uint32_t i = 0; i < count; i++) {
+    for (uint32_t i = 0; i < found->pulled.node_count; i++) {
         uint32_t node = list_number(found->lists.nodes, i);
-        struct harptimber_entry entry = harptimber_node_lookup(c->kept.bytes, c->kept.len, node);
+        struct harptimber_entry entry = harptimber_node_lookup(c->kept->bytes, c->kept->len, node);
         if (entry.answer == HARPTIMBER_DATA && entry.address == found->verdict.number)
             return node;
     }
     return 0;
 }
 
-/* Whether a pull on the new card gives the bytes that were found on the kept one. */
-static bool gives_same_bytes(const struct comparison *c, uint32_t index, const struct finding *found)
+/* Whether the block is the root directory's. A pull past the end reads what finds the file, and no data. */
+static bool is_of_directory(const struct comparison *c, uint32_t number)
+{
+    for (uint32_t i = 0; i < c->had.block_count; i++)
+        if (list_number(c->had.lists.blocks, i) == number)
+            return true;
+    return false;
+}
+
+/* Room for one thing more behind so many. */
+static void *grow(void *things, size_t count, size_t size)
+{
+    if ((count & (count - 1)) != 0) /* there is room up to the next power of two */
+        return things;
+    things = reallocarray(things, count == 0 ? 1 : 2 * count, size);
+    if (things == NULL) {
+        complain("compare", "out of memory");
+        exit(REFUSED);
+    }
+    return things;
+}
+
+/* Which ground it is that changed; a new one is added. */
+static size_t find_ground(struct comparison *c, const struct finding *found)
+{
+    struct ground ground = {.kind = found->verdict.kind, .number = found->verdict.number};
+    if (ground.kind == HARPTIMBER_BLOCK_DIFFERS) {
+        ground.node = node_in_block(c, found);
+        if (ground.node == 0 && !is_of_directory(c, ground.number))
+            ground.number = 0;
+    }
+    for (size_t i = c->ground_count; i-- > 0;)
+        if (c->grounds[i].kind == ground.kind && c->grounds[i].number == ground.number)
+            return i;
+    c->grounds = grow(c->grounds, c->ground_count, sizeof *c->grounds);
+    c->grounds[c->ground_count] = ground;
+    return c->ground_count++;
+}
+
+/* Where blocks that were pulled differ. Bytes behind a block's count are zeros, and not the file's. */
+static void find_byte(struct run *run, const struct finding *found, const uint8_t *now, uint32_t now_count)
+{
+    uint32_t count = found->pulled.byte_count, at = 0;
+    while (at < count && at < now_count && found->block[at] == now[at])
+        at++;
+    run->fate = at == count && at == now_count ? SAME_BYTES : DIFFERENT;
+    run->at = at;
+    run->before = at < count ? found->block[at] : NO_BYTE;
+    run->now = at < now_count ? now[at] : NO_BYTE;
+}
+
+/* What the new card has in the place of what changed. */
+static void pull_again(struct comparison *c, const struct finding *found, struct run *run)
 {
     uint8_t block[BLOCK_SIZE];
     struct lists lists;
-    struct harptimber_pulled pulled = card_pull(&c->new, c->name, index, block, &lists);
-    return is_block(pulled.answer) && pulled.byte_count == found->pulled.byte_count &&
-           memcmp(block, found->block, BLOCK_SIZE) == 0;
+    struct harptimber_pulled pulled = card_pull(c->new, c->name, run->first, block, &lists);
+    bool there = is_block(pulled.answer);
+    run->answer = there ? (uint32_t)HARPTIMBER_DATA : pulled.answer;
+    run->fate = DIFFERENT;
+    if (there && is_block(found->pulled.answer))
+        find_byte(run, found, block, pulled.byte_count);
+    run->ground = find_ground(c, found);
 }
 
-static struct run *add_run(struct comparison *c)
+static void add_run(struct comparison *c, const struct run *run)
 {
-    if (c->run_count == c->run_room) {
-        c->run_room = 2 * c->run_room + 16;
-        c->runs = reallocarray(c->runs, c->run_room, sizeof *c->runs);
-        if (c->runs == NULL) {
-            complain("compare", "out of memory");
-            exit(REFUSED);
-        }
+    struct run *last = c->run_count == 0 ? NULL : &c->runs[c->run_count - 1];
+    c->counts[run->fate]++;
+    if (last != NULL && last->fate == run->fate && last->answer == run->answer && last->ground == run->ground) {
+        last->last = run->last;
+        return;
     }
-    return &c->runs[c->run_count++];
+    c->runs = grow(c->runs, c->run_count, sizeof *c->runs);
+    c->runs[c->run_count++] = *run;
 }
 
 /* Returns whether there may be a block behind this one. */
@@ -91,19 +161,14 @@ static bool compare_block(struct comparison *c, uint32_t index)
     if (!find(c, index, &found))
         return false;
     c->last_answer = found.pulled.answer;
-    bool there = is_block(c->last_answer);
-    bool changed = found.verdict.answer == HARPTIMBER_CHANGED;
-    bool same_bytes = there && changed && gives_same_bytes(c, index, &found);
-    struct run *run = there && c->run_count != 0 ? &c->runs[c->run_count - 1] : NULL;
-    if (run == NULL || is_changed(run) != changed || run->same_bytes != same_bytes) {
-        run = there ? add_run(c) : &c->end;
-        *run = (struct run){.first = index, .verdict = found.verdict, .same_bytes = same_bytes};
-        run->node = node_in_block(c, &found);
-    }
-    run->last = index;
-    c->same += there && !changed;
-    c->changed += there && changed;
-    return there;
+    struct run run = {.first = index, .last = index, .fate = SAME, .verdict = found.verdict};
+    if (is_changed(&run))
+        pull_again(c, &found, &run);
+    if (is_block(c->last_answer))
+        add_run(c, &run);
+    else
+        c->end = run;
+    return is_block(c->last_answer);
 }
 
 uint32_t compare_answer(const struct comparison *c)
@@ -111,42 +176,120 @@ uint32_t compare_answer(const struct comparison *c)
     bool behind_last = c->whole && c->last_answer == HARPTIMBER_PAST_END;
     if (c->refused)
         return c->refusal;
-    if (c->changed != 0 || is_changed(&c->end))
+    if (is_on_neither(c))
+        return HARPTIMBER_NO_NAME;
+    if (c->counts[SAME] != compared_blocks(c) || is_changed(&c->end))
         return HARPTIMBER_CHANGED;
     return is_block(c->last_answer) || behind_last ? HARPTIMBER_SAME : c->last_answer;
 }
 
-static enum status compare_and_tell(const struct request *request, struct comparison *c, uint32_t index)
+enum status compare_status(const struct comparison *c)
 {
-    if (c->whole)
-        c->progress = progress_begin(&c->kept, c->name);
-    while (compare_block(c, index) && c->whole)
-        progress_show(&c->progress, ++index);
-    progress_end(&c->progress);
-    if (!card_is_settled(&c->kept) || !card_is_settled(&c->new))
-        return REFUSED;
-    (request->json ? compare_json : compare_words)(c);
     uint32_t answer = compare_answer(c);
+    if (!c->refused && is_on_neither(c))
+        return NOT_FOUND;
     if (answer == HARPTIMBER_SAME)
         return DONE;
     return answer == HARPTIMBER_CHANGED ? CHANGED : REFUSED;
 }
 
-/* Both paths may be the same: each is mapped by itself, so that slices lent to the library don't overlap. */
+static void look(struct holding *holding, const struct card *card, const char *name)
+{
+    uint8_t block[BLOCK_SIZE];
+    struct harptimber_pulled pulled = card_pull(card, name, UINT32_MAX, block, &holding->lists);
+    holding->answer = pulled.answer;
+    holding->block_count = pulled.block_count;
+    holding->inode = disk_file(card, name);
+}
+
+/* For the exit status alone, what comes behind a change says nothing more. */
+static void compare_name(struct comparison *c, uint32_t index, bool quiet)
+{
+    look(&c->had, c->kept, c->name);
+    look(&c->has, c->new, c->name);
+    struct progress progress = {.total = 0};
+    if (c->whole && !quiet)
+        progress = progress_begin(c->kept, c->name);
+    while (compare_block(c, index) && c->whole && !(quiet && compare_status(c) == CHANGED))
+        progress_show(&progress, ++index);
+    progress_end(&progress);
+}
+
+/* With several names, the highest of their statuses. Once a card is refused, other names are no news. */
+static enum status compare_names(const struct request *request, struct comparison *all, size_t count, uint32_t index)
+{
+    enum status status = DONE;
+    size_t done = 0;
+    for (bool opened = true; done < count && opened; done++) {
+        struct comparison *c = &all[done];
+        compare_name(c, index, request->quiet);
+        opened = !c->refused || c->side == NO_SIDE;
+        status = compare_status(c) > status ? compare_status(c) : status;
+    }
+    if (!card_is_settled(all->kept) || !card_is_settled(all->new))
+        return REFUSED;
+    if (request->json)
+        compare_json(all, done, count > 1);
+    else if (!request->quiet)
+        for (size_t i = 0; i < done; i++)
+            compare_words(&all[i], count == 1 || request->verbose);
+    return status;
+}
+
+static enum status compare_cards(const struct request *request, const struct card *kept, const struct card *new,
+                                 uint32_t index)
+{
+    size_t count = (size_t)request->word_count - 2;
+    struct comparison *all = calloc(count, sizeof *all);
+    if (all == NULL) {
+        complain("compare", "out of memory");
+        return REFUSED;
+    }
+    for (size_t i = 0; i < count; i++)
+        all[i] = (struct comparison){
+            .name = request->words[2 + i], .whole = request->index == NULL, .kept = kept, .new = new};
+    enum status status = compare_names(request, all, count, index);
+    for (size_t i = 0; i < count; i++) {
+        free(all[i].runs);
+        free(all[i].grounds);
+    }
+    free(all);
+    return status;
+}
+
+/* A card is always the same as itself: a script that gives it twice has a wrong variable. */
+static bool are_two(const struct card *kept, const struct card *new)
+{
+    if (!card_is_same(kept, new))
+        return true;
+    show_subject(stderr, "compare");
+    fputs("KEPT and NEW are one and the same card, which is always the same as itself: ", stderr);
+    show(stderr, kept->path);
+    fputs(" and ", stderr);
+    show(stderr, new->path);
+    fputc('\n', stderr);
+    misused();
+    return false;
+}
+
 enum status run_compare(const struct request *request)
 {
-    struct comparison c = {.name = request->words[2], .whole = request->word_count == 3};
+    struct card kept, new;
     uint32_t index = 0;
-    if (!c.whole && !read_number(request->words[3], "INDEX", &index))
+    if (request->index != NULL && !read_number(request->index, "--index", &index))
         return MISUSED;
-    if (!card_open(&c.kept, request->words[0]))
-        return REFUSED;
-    enum status status = REFUSED;
-    if (card_open(&c.new, request->words[1])) {
-        status = compare_and_tell(request, &c, index);
-        card_close(&c.new);
+    if (request->quiet && (request->json || request->verbose)) {
+        complain("compare", "-q takes neither --json nor -v with it");
+        return misused();
     }
-    card_close(&c.kept);
-    free(c.runs);
+    enum status status = card_open(&kept, request, request->words[0]);
+    if (status != DONE)
+        return status;
+    status = card_open(&new, request, request->words[1]);
+    if (status == DONE) {
+        status = are_two(&kept, &new) ? compare_cards(request, &kept, &new, index) : MISUSED;
+        card_close(&new);
+    }
+    card_close(&kept);
     return status;
 }

@@ -1,30 +1,62 @@
-/* What a comparison of two cards found, for compare.c to fill in and compare_report.c to print. */
+/* What a comparison of two cards found, for compare.c to fill in, and for words and JSON to be made from. */
 #ifndef COMPARE_H
 #define COMPARE_H
 
-#include "card.h"
-#include "progress.h"
+#include <stdio.h>
 
-/* Blocks that follow each other with the same verdict; what differs is the first one's. */
+#include "card.h"
+#include "request.h"
+
+/* What became of a block: by the library, and where that says "changed", by a pull on the new card. */
+enum fate {
+    SAME,       /* certain */
+    SAME_BYTES, /* something that it rested on changed, but the pull gives the same bytes */
+    DIFFERENT,  /* other bytes, or no block */
+    FATES
+};
+
+/* Something that changed, which blocks rest on: the first difference of each, as the library names it. */
+struct ground {
+    uint32_t kind, number; /* the number is 0 where it is the block's own data */
+    uint32_t node;         /* the node that is in the block that differs; 0 if none is */
+};
+
+/* In a byte's place: the file ends before it. */
+enum { NO_BYTE = -1 };
+
+/* Blocks that follow each other and are alike in fate, ground and answer; the rest is the first one's. */
 struct run {
     uint32_t first, last;
+    enum fate fate;
     struct harptimber_compared verdict;
-    bool same_bytes; /* of changed ones: a pull on the new card gives the same bytes all the same */
-    uint32_t node;   /* the node that is in the block that differs; 0 if none is */
+    size_t ground;   /* where changed: which of the comparison's */
+    uint32_t answer; /* a pull's on the new card; data for a hole too */
+    uint32_t at;     /* where both cards have a block that differs: its first byte that does, */
+    int before, now; /* and what it is */
+};
+
+/* What a card has under the name. */
+struct holding {
+    uint32_t answer;      /* of a pull past the end: 3 if the file can be read so far */
+    struct lists lists;   /* what that rests on: what finds the file, */
+    uint32_t block_count; /* in so many blocks */
+    const uint8_t *inode; /* its block; null if the pull doesn't come to it */
 };
 
 struct comparison {
     const char *name;
     bool whole; /* every block was asked for */
-    struct card kept, new;
-    bool refused;           /* a card doesn't open, or the name is bad: */
-    uint32_t refusal, side; /* the answer, 4 to 8, and whose it is */
+    const struct card *kept, *new;
+    struct holding had, has; /* on these cards */
+    bool refused;            /* a card doesn't open, or the name is bad: */
+    uint32_t refusal, side;  /* the answer, 4 to 8, and whose it is */
     struct run *runs;
-    size_t run_count, run_room;
-    uint32_t same, changed; /* how many blocks */
+    size_t run_count;
+    struct ground *grounds;
+    size_t ground_count;
+    uint32_t counts[FATES]; /* how many blocks */
     uint32_t last_answer;   /* of the last pull: if it is no block, `end` says whether that still holds */
     struct run end;
-    struct progress progress;
 };
 
 /* Beside the sides of harptimber_side: the name is at fault. */
@@ -32,10 +64,26 @@ enum { NO_SIDE = 0 };
 
 bool is_changed(const struct run *run);
 
-/* The answer to the whole question. */
-uint32_t compare_answer(const struct comparison *c);
+/* The file's size; 0 without an inode. */
+uint64_t held_bytes(const struct holding *holding);
 
-void compare_words(const struct comparison *c);
-void compare_json(const struct comparison *c);
+/* How many blocks were compared. */
+uint32_t compared_blocks(const struct comparison *c);
+
+/* Whether neither card has the name. */
+bool is_on_neither(const struct comparison *c);
+
+/* The answer to the whole question, and what the program ends with for it. */
+uint32_t compare_answer(const struct comparison *c);
+enum status compare_status(const struct comparison *c);
+
+/* One line, and with details more, which are indented. */
+void compare_words(const struct comparison *c, bool details);
+
+/* One object: of a single name, or with a list of several. */
+void compare_json(const struct comparison *all, size_t count, bool several);
+
+/* Prints what changed under a run. */
+void show_ground(FILE *out, const struct comparison *c, const struct run *run);
 
 #endif

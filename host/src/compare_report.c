@@ -1,220 +1,335 @@
-/* What a comparison found, in words and as JSON. */
+/* What a comparison found, in words. */
 #include <inttypes.h>
 
 #include "compare.h"
-#include "json.h"
+#include "difference.h"
+#include "disk.h"
 #include "text.h"
 #include "words.h"
-
-enum { ROOT = 3 }; /* the root directory's inode number, on every card that opens */
 
 /* Whose node it is, by the kept card's table; null if that doesn't say. */
 static const char *owner_of_node(const struct comparison *c, uint32_t node)
 {
-    struct harptimber_entry entry = harptimber_node_lookup(c->kept.bytes, c->kept.len, node);
+    struct harptimber_entry entry = harptimber_node_lookup(c->kept->bytes, c->kept->len, node);
     if (entry.answer != HARPTIMBER_DATA || entry.address == 0)
         return NULL;
-    if (node == ROOT)
+    if (node == DISK_ROOT)
         return "the root directory's inode";
-    if (entry.inode == ROOT)
+    if (entry.inode == DISK_ROOT)
         return "a node of the root directory";
     return entry.inode == node ? "the file's inode" : "a node of the file";
 }
 
-/* Whose block it is, of one with no node. A pull past the end reads what finds the file, and no data. */
-static const char *owner_of_block(const struct comparison *c, uint32_t number)
-{
-    uint8_t block[BLOCK_SIZE];
-    struct lists lists;
-    struct harptimber_pulled pulled = card_pull(&c->kept, c->name, UINT32_MAX, block, &lists);
-    for (uint32_t i = 0; i < pulled.block_count; i++)
-        if (list_number(lists.blocks, i) == number)
-            return "the root directory";
-    return "the file's data";
-}
-
-static void show_node_difference(FILE *out, const struct comparison *c, uint32_t node)
+static void show_table_difference(FILE *out, const struct comparison *c, uint32_t node)
 {
     const char *owner = owner_of_node(c, node);
     fprintf(out, "node %" PRIu32, node);
     if (owner != NULL)
         fprintf(out, " (%s)", owner);
-    fputs(" has another table entry (", out);
-    show_entry(out, harptimber_node_lookup(c->kept.bytes, c->kept.len, node));
+    fputs(" has another table entry: ", out);
+    show_entry(out, harptimber_node_lookup(c->kept->bytes, c->kept->len, node));
     fputs(" before; ", out);
-    show_entry(out, harptimber_node_lookup(c->new.bytes, c->new.len, node));
-    fputs(" now)", out);
+    show_entry(out, harptimber_node_lookup(c->new->bytes, c->new->len, node));
+    fputs(" now", out);
 }
 
 /* The main areas are alike where a block differs, so that it lies in both images. */
-static void show_block_difference(FILE *out, const struct comparison *c, const struct run *run)
+static void show_block_difference(FILE *out, const struct comparison *c, const struct ground *ground)
 {
-    const uint8_t *before = c->kept.bytes + (size_t)run->verdict.number * BLOCK_SIZE;
-    const uint8_t *now = c->new.bytes + (size_t)run->verdict.number * BLOCK_SIZE;
-    const char *owner = run->node != 0 ? owner_of_node(c, run->node) : owner_of_block(c, run->verdict.number);
-    fprintf(out, "the card's block %" PRIu32 " (", run->verdict.number);
-    if (run->node != 0)
-        fprintf(out, "node %" PRIu32 "%s", run->node, owner == NULL ? "" : ", ");
-    fputs(owner == NULL ? "" : owner, out);
-    size_t at = 0;
-    while (at < BLOCK_SIZE - 1 && before[at] == now[at])
-        at++;
-    fprintf(out, ") differs, first at byte %zu (0x%02x before, 0x%02x now)", at, (unsigned)before[at],
-            (unsigned)now[at]);
-}
-
-/* The first difference, in plain text. */
-static void show_difference(FILE *out, const struct comparison *c, const struct run *run)
-{
-    if (run->verdict.kind == HARPTIMBER_NODE_DIFFERS)
-        show_node_difference(out, c, run->verdict.number);
-    else if (run->verdict.kind == HARPTIMBER_BLOCK_DIFFERS)
-        show_block_difference(out, c, run);
-    else
-        fputs("the main area lies elsewhere", out);
-}
-
-/* The end of a line: same, or what changed. */
-static void words_verdict(const struct comparison *c, const struct run *run)
-{
-    printf("%s", meaning_of(run->verdict.answer));
-    if (is_changed(run)) {
-        printf(run->same_bytes ? ", though a pull gives the same bytes: " : ": ");
-        show_difference(stdout, c, run);
+    const uint8_t *before = disk_block(c->kept, ground->number), *now = disk_block(c->new, ground->number);
+    if (ground->node == 0) {
+        show_directory_entry(out, before, now);
+        fputs(" in the root directory (", out);
+    } else {
+        const char *owner = owner_of_node(c, ground->node);
+        show_node_fields(out, before, now);
+        fprintf(out, " changed in %s (node %" PRIu32 ", ", owner == NULL ? "a node" : owner, ground->node);
     }
+    fprintf(out, "the card's block %" PRIu32 ")", ground->number);
+}
+
+void show_ground(FILE *out, const struct comparison *c, const struct run *run)
+{
+    const struct ground *ground = &c->grounds[run->ground];
+    if (ground->kind == HARPTIMBER_NODE_DIFFERS)
+        show_table_difference(out, c, ground->number);
+    else if (ground->kind == HARPTIMBER_BOUNDS_DIFFER)
+        fputs("the main area lies elsewhere", out);
+    else if (ground->number == 0)
+        fprintf(out, "the file's data changed%s", run->fate == DIFFERENT ? "" : ", but only behind its end");
+    else
+        show_block_difference(out, c, ground);
+}
+
+/* What a pull on a card answers that gives no block. */
+static void words_answer(const struct comparison *c, const struct card *card, uint32_t index, uint32_t answer)
+{
+    struct asked asked = pull_of(card, c->name, index);
+    printf("on the %s card: ", card == c->kept ? "kept" : "new");
+    show_asked(stdout, answer, meaning_of(answer), &asked);
+}
+
+/* So much of a list is shown. */
+enum { MOST_SHOWN = 10 };
+
+/* Whether a line is about a run; `which` is the line's ground or answer. */
+typedef bool is_told(const struct run *run, uint64_t which);
+
+static bool has_other_bytes(const struct run *run, uint64_t which)
+{
+    (void)which;
+    return run->fate == DIFFERENT && is_block(run->answer);
+}
+
+static bool has_no_block(const struct run *run, uint64_t answer)
+{
+    return run->fate == DIFFERENT && run->answer == answer;
+}
+
+static bool rests_on(const struct run *run, uint64_t ground)
+{
+    return is_changed(run) && run->ground == ground;
+}
+
+static bool has_same_bytes_on(const struct run *run, uint64_t ground)
+{
+    return run->fate == SAME_BYTES && run->ground == ground;
+}
+
+/* The next blocks in a row that a line is about, from run `i` on. Returns false behind the last. */
+static bool next_blocks(const struct comparison *c, is_told *told, uint64_t which, size_t *i, uint32_t range[2])
+{
+    while (*i < c->run_count && !told(&c->runs[*i], which))
+        ++*i;
+    if (*i == c->run_count)
+        return false;
+    range[0] = c->runs[*i].first;
+    do
+        range[1] = c->runs[(*i)++].last;
+    while (*i < c->run_count && told(&c->runs[*i], which));
+    return true;
+}
+
+/* Begins a line with the blocks that it is about: '  blocks 3, 7 to 9: '. Returns the first run; null if there is none. */
+static const struct run *words_blocks(const struct comparison *c, is_told *told, uint64_t which)
+{
+    const struct run *first = NULL;
+    uint64_t blocks = 0, shown = 0;
+    uint32_t range[2];
+    for (size_t i = c->run_count; i-- > 0;)
+        if (told(&c->runs[i], which)) {
+            first = &c->runs[i];
+            blocks += (uint64_t)first->last - first->first + 1;
+        }
+    if (first == NULL)
+        return NULL;
+    printf("  block%s", blocks == 1 ? "" : "s");
+    size_t i = (size_t)(first - c->runs);
+    for (int ranges = 0; ranges < MOST_SHOWN && next_blocks(c, told, which, &i, range); ranges++) {
+        printf("%s %" PRIu32, ranges == 0 ? "" : ",", range[0]);
+        if (range[0] != range[1])
+            printf(" to %" PRIu32, range[1]);
+        shown += (uint64_t)range[1] - range[0] + 1;
+    }
+    if (shown < blocks) {
+        printf(" and ");
+        show_number(stdout, blocks - shown);
+        printf(" more");
+    }
+    printf(": ");
+    return first;
+}
+
+/* A line for each thing that changed. Data is told with the bytes, but for what lies behind the file's end. */
+static void words_grounds(const struct comparison *c)
+{
+    for (size_t i = 0; i < c->ground_count && i < MOST_SHOWN; i++) {
+        bool own_data = c->grounds[i].kind == HARPTIMBER_BLOCK_DIFFERS && c->grounds[i].number == 0;
+        const struct run *run = words_blocks(c, own_data ? has_same_bytes_on : rests_on, i);
+        if (run != NULL) {
+            show_ground(stdout, c, run);
+            printf("\n");
+        }
+    }
+    if (c->ground_count > MOST_SHOWN)
+        printf("  %zu more changes; --json has them all\n", c->ground_count - MOST_SHOWN);
+}
+
+static void words_details(const struct comparison *c)
+{
+    if (is_on_neither(c))
+        return;
+    if (words_blocks(c, has_other_bytes, 0) != NULL)
+        printf("other bytes\n");
+    bool is_there = c->has.answer == HARPTIMBER_PAST_END; /* otherwise that was told */
+    for (uint32_t answer = HARPTIMBER_PAST_END; answer <= HARPTIMBER_MALFORMED_SLOT && is_there; answer++) {
+        const struct run *run = words_blocks(c, has_no_block, answer);
+        if (run != NULL) {
+            words_answer(c, c->new, run->first, answer);
+            printf("\n");
+        }
+    }
+    words_grounds(c);
+    bool told = c->run_count != 0 && c->last_answer == HARPTIMBER_PAST_END;
+    if (!is_changed(&c->end) || told)
+        return;
+    printf("  ");
+    if (c->run_count != 0)
+        printf("block %" PRIu32 ": ", c->end.first);
+    show_ground(stdout, c, &c->end);
     printf("\n");
 }
 
-/* The end of a line on what the kept card has no block for. */
-static void words_still(const struct comparison *c)
+/* How many of the blocks: 'all 6 blocks', '1 of 6 blocks', 'the first block'. */
+static void words_part(const struct comparison *c, uint32_t part)
 {
-    if (is_changed(&c->end))
-        words_verdict(c, &c->end);
-    else
-        printf("the same on the new card\n");
+    uint32_t total = compared_blocks(c);
+    bool all = c->last_answer == HARPTIMBER_PAST_END;
+    if (part == total && total == 1) {
+        printf("the %s block ", all ? "only" : "first");
+        return;
+    }
+    if (part < total) {
+        show_number(stdout, part);
+        printf(" of ");
+    }
+    printf(!all ? "the first " : part == total ? "all " : "");
+    show_count(stdout, total, "block");
+    printf(" ");
 }
 
+static void words_byte(int byte, const char *when)
+{
+    if (byte == NO_BYTE)
+        printf("the end of the file %s", when);
+    else
+        printf("0x%02x %s", (unsigned)byte, when);
+}
+
+/* Where the first bytes differ, if both cards have any there. */
+static void words_first_byte(const struct comparison *c)
+{
+    size_t i = 0;
+    while (i < c->run_count && !has_other_bytes(&c->runs[i], 0))
+        i++;
+    if (i == c->run_count)
+        return;
+    printf(", first at byte %" PRIu64 " of the file (", (uint64_t)c->runs[i].first * BLOCK_SIZE + c->runs[i].at);
+    words_byte(c->runs[i].before, "before, ");
+    words_byte(c->runs[i].now, "now)");
+}
+
+/* How many blocks there are of each fate, what is worse first. */
+static void words_counts(const struct comparison *c)
+{
+    static const char *const verbs[FATES][2] = {
+        [DIFFERENT] = {"differ", "differs"},
+        [SAME_BYTES] = {"have the same bytes but rest on something that changed",
+                        "has the same bytes but rests on something that changed"},
+        [SAME] = {"are the same", "is the same"},
+    };
+    bool follows = false;
+    for (int fate = FATES; fate-- > 0;) {
+        uint32_t count = c->counts[fate];
+        if (count == 0)
+            continue;
+        if (follows) {
+            printf("; ");
+            show_number(stdout, count);
+            printf(" ");
+        } else if (c->whole) {
+            words_part(c, count);
+        }
+        printf("%s", verbs[fate][count == 1]);
+        if (fate == DIFFERENT)
+            words_first_byte(c);
+        follows = true;
+    }
+}
+
+/* What the kept card has no block for, and whether the new one has. */
 static void words_end(const struct comparison *c)
 {
-    show_answer(stdout, c->last_answer, meaning_of(c->last_answer), &c->kept, c->name);
+    words_answer(c, c->kept, c->end.first, c->last_answer);
     printf("; ");
-    words_still(c);
+    if (!is_changed(&c->end))
+        printf("the same on the new card");
+    else if (c->end.answer == c->last_answer)
+        printf("on the new card too, but that rests on something that changed");
+    else
+        words_answer(c, c->new, c->end.first, c->end.answer);
+}
+
+/* Of a file that is on both cards. */
+static void words_both(const struct comparison *c)
+{
+    uint64_t before = held_bytes(&c->had), now = held_bytes(&c->has);
+    bool empty = c->whole && compared_blocks(c) == 0 && c->last_answer == HARPTIMBER_PAST_END;
+    if (before != now) {
+        printf(now > before ? "grown from " : "shrunk from ");
+        show_number(stdout, before);
+        printf(" to ");
+        show_count(stdout, now, "byte");
+        printf(empty ? "" : ": ");
+    } else if (empty) {
+        printf("an empty file on both cards%s", is_changed(&c->end) ? ", but that rests on something that changed" : "");
+    }
+    words_counts(c);
+    if (is_block(c->last_answer) || (c->whole && c->last_answer == HARPTIMBER_PAST_END))
+        return;
+    if (c->whole)
+        printf("%sblock %" PRIu32 ": ", c->run_count == 0 ? "" : "; ", c->end.first);
+    words_end(c);
+}
+
+/* Of a file that can be read on one card alone. */
+static void words_one(const struct comparison *c, const char *what, const struct holding *there, uint32_t answer)
+{
+    bool kept = there == &c->had;
+    printf("%s: ", what);
+    show_count(stdout, held_bytes(there), "byte");
+    printf(" on the %s card; ", kept ? "kept" : "new");
+    words_answer(c, kept ? c->new : c->kept, UINT32_MAX, answer);
+}
+
+static void words_not_both(const struct comparison *c)
+{
+    uint32_t had = c->had.answer, has = c->has.answer;
+    if (is_on_neither(c)) {
+        printf("on neither card: ");
+        show_answer(stdout, had, meaning_of(had), c->kept, c->name);
+    } else if (had == HARPTIMBER_PAST_END) {
+        words_one(c, has == HARPTIMBER_NO_NAME ? "gone" : "no longer readable", &c->had, has);
+    } else if (has == HARPTIMBER_PAST_END) {
+        words_one(c, had == HARPTIMBER_NO_NAME ? "new" : "readable now", &c->has, had);
+    } else {
+        words_end(c);
+    }
 }
 
 /* A card that doesn't open, or a bad name. */
 static void words_refusal(const struct comparison *c)
 {
-    const struct card *card = c->side == HARPTIMBER_FRESH ? &c->new : &c->kept;
+    const struct card *card = c->side == HARPTIMBER_FRESH ? c->new : c->kept;
     show(stdout, c->side == NO_SIDE ? c->name : card->path);
     printf(": ");
     show_answer(stdout, c->refusal, meaning_of(c->refusal), card, c->name);
     printf("\n");
 }
 
-static void words_one(const struct comparison *c)
-{
-    bool there = is_block(c->last_answer);
-    printf(", block %" PRIu32 ": ", there ? c->runs[0].first : c->end.first);
-    if (there)
-        words_verdict(c, &c->runs[0]);
-    else
-        words_end(c);
-}
-
-static void words_runs(const struct comparison *c)
-{
-    for (size_t i = 0; i < c->run_count; i++) {
-        const struct run *run = &c->runs[i];
-        if (run->first == run->last)
-            printf("block %" PRIu32 ": ", run->first);
-        else
-            printf("blocks %" PRIu32 " to %" PRIu32 ": ", run->first, run->last);
-        words_verdict(c, run);
-    }
-}
-
-/* How many blocks are good, and if that isn't all, which. */
-static void words_whole(const struct comparison *c)
-{
-    uint32_t total = c->same + c->changed;
-    bool to_the_end = c->last_answer == HARPTIMBER_PAST_END;
-    bool all_good = compare_answer(c) == HARPTIMBER_SAME;
-    if (total == 0 && to_the_end) {
-        printf(": an empty file; ");
-        words_still(c);
-    } else if (total == 0) {
-        printf(": ");
-        words_end(c);
-    } else if (all_good && total == 1) {
-        printf(": the only block is still good\n");
-    } else if (all_good) {
-        printf(": all %" PRIu32 " blocks are still good\n", total);
-    } else {
-        const char *first = to_the_end ? "" : "the first ";
-        printf(": %" PRIu32 " of %s%" PRIu32 " blocks are still good\n", c->same, first, total);
-        words_runs(c);
-    }
-    if (total != 0 && !to_the_end) {
-        printf("block %" PRIu32 ": ", c->end.first);
-        words_end(c);
-    }
-}
-
-void compare_words(const struct comparison *c)
+void compare_words(const struct comparison *c, bool details)
 {
     if (c->refused) {
         words_refusal(c);
         return;
     }
     show(stdout, c->name);
-    (c->whole ? words_whole : words_one)(c);
-}
-
-static void json_verdict(struct json *json, const struct comparison *c, const struct run *run)
-{
-    json_answer(json, run->verdict.answer, meaning_of(run->verdict.answer));
-    if (!is_changed(run))
-        return;
-    json_number(json, "kind", run->verdict.kind);
-    json_number(json, "number", run->verdict.number);
-    json_open(json, "difference", '"');
-    show_difference(json->out, c, run);
-    json_close(json, '"');
-}
-
-static void json_runs(struct json *json, const struct comparison *c)
-{
-    json_open(json, "runs", '[');
-    for (size_t i = 0; i < c->run_count; i++) {
-        json_open(json, NULL, '{');
-        json_number(json, "first", c->runs[i].first);
-        json_number(json, "last", c->runs[i].last);
-        json_verdict(json, c, &c->runs[i]);
-        if (is_changed(&c->runs[i]))
-            json_flag(json, "same_bytes", c->runs[i].same_bytes);
-        json_close(json, '}');
-    }
-    json_close(json, ']');
-}
-
-void compare_json(const struct comparison *c)
-{
-    uint32_t answer = compare_answer(c);
-    struct json json = json_begin(stdout, "compare", answer, meaning_of(answer));
-    json_string(&json, "kept", c->kept.path);
-    json_string(&json, "new", c->new.path);
-    json_name(&json, c->name);
-    json_number(&json, "same", c->same);
-    json_number(&json, "changed", c->changed);
-    json_runs(&json, c);
-    if (c->refused) {
-        json_number(&json, "side", c->side);
-    } else if (!is_block(c->last_answer)) {
-        json_open(&json, "end", '{');
-        json_number(&json, "index", c->end.first);
-        json_number(&json, "kept", c->last_answer);
-        json_verdict(&json, c, &c->end);
-        json_close(&json, '}');
-    }
-    json_end(&json);
+    if (!c->whole)
+        printf(", block %" PRIu32, c->run_count == 0 ? c->end.first : c->runs[0].first);
+    printf(": ");
+    bool both = c->had.answer == HARPTIMBER_PAST_END && c->has.answer == HARPTIMBER_PAST_END;
+    (both ? words_both : words_not_both)(c);
+    printf("\n");
+    if (details)
+        words_details(c);
 }

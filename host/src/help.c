@@ -1,5 +1,7 @@
 #include "help.h"
 
+#include <string.h>
+
 enum { COMMAND_WIDTH = 29, OPTION_WIDTH = 20, ROOM = 64 };
 
 /* A line on an option: '  -o, --output=FILE  TEXT'. */
@@ -35,7 +37,7 @@ void show_overview(FILE *out)
     show_option(out, 0, "version", NULL, "print the version");
     fputs("Options may stand anywhere; behind -- every word is a name or a number.\n\n"
           "'harptimber COMMAND --help' is that command's own page.\n\n"
-          "Exit status: 0 read or still good, 1 changed, 2 refused, 3 usage.\n", out);
+          "Exit status: 0 read or still good, 1 changed, 2 refused, 3 usage, 4 no such name on either card.\n", out);
 }
 
 void show_page(FILE *out, const struct command *command)
@@ -50,5 +52,7 @@ void show_page(FILE *out, const struct command *command)
     }
     fprintf(out, " %s\n%s\n", command->words, command->text);
     show_options(out, command->takes);
-    fprintf(out, "\nExit status:\n%s  3  usage\n", command->statuses);
+    const char *behind = strstr(command->statuses, "  4  "); /* 3 is every command's, and its place before 4 */
+    int before = (int)(behind == NULL ? strlen(command->statuses) : (size_t)(behind - command->statuses));
+    fprintf(out, "\nExit status:\n%.*s  3  usage\n%s", before, command->statuses, behind == NULL ? "" : behind);
 }

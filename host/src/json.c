@@ -1,6 +1,7 @@
 #include "json.h"
 
 #include <inttypes.h>
+#include <string.h>
 
 #include "text.h"
 
@@ -48,6 +49,12 @@ void json_number(struct json *json, const char *key, uint64_t number)
     fprintf(json->out, "%" PRIu64, number);
 }
 
+void json_null(struct json *json, const char *key)
+{
+    lead(json, key);
+    fputs("null", json->out);
+}
+
 void json_flag(struct json *json, const char *key, bool flag)
 {
     lead(json, key);
@@ -72,12 +79,17 @@ static size_t put_character(FILE *out, const char *text)
     return len;
 }
 
-void json_string(struct json *json, const char *key, const char *text)
+static void put_string(struct json *json, const char *key, const char *text, size_t len)
 {
     json_open(json, key, '"');
-    while (*text != '\0')
-        text += put_character(json->out, text);
+    for (size_t at = 0; at < len;)
+        at += put_character(json->out, text + at);
     json_close(json, '"');
+}
+
+void json_string(struct json *json, const char *key, const char *text)
+{
+    put_string(json, key, text, strlen(text));
 }
 
 void json_answer(struct json *json, uint32_t answer, const char *meaning)
@@ -86,11 +98,16 @@ void json_answer(struct json *json, uint32_t answer, const char *meaning)
     json_string(json, "meaning", meaning);
 }
 
+void json_name_bytes(struct json *json, const char *name, size_t len)
+{
+    put_string(json, "name", name, len);
+    json_open(json, "name_hex", '"');
+    for (size_t i = 0; i < len; i++)
+        fprintf(json->out, "%02x", (unsigned)(uint8_t)name[i]);
+    json_close(json, '"');
+}
+
 void json_name(struct json *json, const char *name)
 {
-    json_string(json, "name", name);
-    json_open(json, "name_hex", '"');
-    for (; *name != '\0'; name++)
-        fprintf(json->out, "%02x", (unsigned)(uint8_t)*name);
-    json_close(json, '"');
+    json_name_bytes(json, name, strlen(name));
 }

@@ -22,6 +22,7 @@ void json_open(struct json *json, const char *key, char bracket);
 void json_close(struct json *json, char bracket);
 
 void json_number(struct json *json, const char *key, uint64_t number);
+void json_null(struct json *json, const char *key);
 void json_flag(struct json *json, const char *key, bool flag);
 void json_string(struct json *json, const char *key, const char *text);
 
@@ -30,5 +31,8 @@ void json_answer(struct json *json, uint32_t answer, const char *meaning);
 
 /* A file's name: as text, and its exact bytes in hexadecimal. */
 void json_name(struct json *json, const char *name);
+
+/* The same for a name that may have zero bytes, and has one more behind its end. */
+void json_name_bytes(struct json *json, const char *name, size_t len);
 
 #endif

@@ -5,16 +5,16 @@
 #include "json.h"
 #include "request.h"
 #include "text.h"
+#include "walk.h"
 #include "words.h"
 
-static void show_lookup(uint32_t answer, const struct card *card, const char *name)
+/* Begins an object for a call with this card and this name, which are null if it takes none. */
+static struct json begin(const char *command, uint32_t answer, const struct card *card, const char *name)
 {
-    show_answer(stdout, answer, lookup_meaning_of(answer), card, name);
-}
-
-static struct json begin(const char *command, uint32_t answer)
-{
-    return json_begin(stdout, command, answer, lookup_meaning_of(answer));
+    bool has_hash = name != NULL && answer == HARPTIMBER_DATA;
+    struct json json = json_begin(stdout, command, answer, has_hash ? "hash" : lookup_meaning_of(answer));
+    json_reason(&json, answer, card, name);
+    return json;
 }
 
 static enum status status_of(uint32_t answer)
@@ -37,7 +37,7 @@ static void node_words(const struct card *card, uint32_t number, struct harptimb
 
 static void node_json(const struct card *card, uint32_t number, struct harptimber_entry entry)
 {
-    struct json json = begin("node", entry.answer);
+    struct json json = begin("node", entry.answer, card, NULL);
     json_string(&json, "image", card->path);
     json_number(&json, "number", number);
     json_number(&json, "inode", entry.inode);
@@ -51,10 +51,11 @@ enum status run_node(const struct request *request)
     uint32_t number;
     if (!read_number(request->words[1], "NUMBER", &number))
         return MISUSED;
-    if (!card_open(&card, request->words[0]))
-        return REFUSED;
+    enum status status = card_open(&card, request, request->words[0]);
+    if (status != DONE)
+        return status;
     struct harptimber_entry entry = harptimber_node_lookup(card.bytes, card.len, number);
-    enum status status = REFUSED;
+    status = REFUSED;
     if (card_is_settled(&card)) {
         (request->json ? node_json : node_words)(&card, number, entry);
         status = status_of(entry.answer);
@@ -63,25 +64,11 @@ enum status run_node(const struct request *request)
     return status;
 }
 
-/* A node on the way to a block's address. */
-struct step {
-    uint32_t place, slot;
-};
-
-static struct step step_of(const struct harptimber_place *place, uint32_t i)
-{
-    const struct step way[] = {{place->place0, place->slot0},
-                               {place->place1, place->slot1},
-                               {place->place2, place->slot2},
-                               {place->place3, place->slot3}};
-    return way[i];
-}
-
 static void place_words(uint32_t addresses, uint32_t index, const struct harptimber_place *place)
 {
     static const char *const kinds[] = {"direct node", "indirect node", "double indirect node"};
     printf("A %" PRIu32 ", block %" PRIu32 ": ", addresses, index);
-    show_lookup(place->answer, NULL, NULL);
+    show_answer(stdout, place->answer, lookup_meaning_of(place->answer), NULL, NULL);
     printf("\n");
     for (uint32_t i = 0; i < place->steps; i++) {
         struct step step = step_of(place, i);
@@ -92,7 +79,7 @@ static void place_words(uint32_t addresses, uint32_t index, const struct harptim
 
 static void place_json(uint32_t addresses, uint32_t index, const struct harptimber_place *place)
 {
-    struct json json = begin("place", place->answer);
+    struct json json = begin("place", place->answer, NULL, NULL);
     json_number(&json, "addresses", addresses);
     json_number(&json, "index", index);
     json_open(&json, "way", '[');
@@ -121,9 +108,10 @@ static void hash_words(const char *name, struct harptimber_hashed hashed)
 {
     show(stdout, name);
     printf(": ");
-    show_lookup(hashed.answer, NULL, name);
     if (hashed.answer == HARPTIMBER_DATA)
-        printf(": hash %08" PRIx32, hashed.hash);
+        printf("hash %08" PRIx32 " (answer %d)", hashed.hash, HARPTIMBER_DATA);
+    else
+        show_answer(stdout, hashed.answer, lookup_meaning_of(hashed.answer), NULL, name);
     printf("\n");
 }
 
@@ -131,7 +119,7 @@ static void hash_json(const char *name, struct harptimber_hashed hashed)
 {
     char hex[9];
     snprintf(hex, sizeof hex, "%08" PRIx32, hashed.hash);
-    struct json json = begin("hash", hashed.answer);
+    struct json json = begin("hash", hashed.answer, NULL, name);
     json_name(&json, name);
     json_number(&json, "hash", hashed.hash);
     json_string(&json, "hash_hex", hex);

@@ -12,27 +12,59 @@ bool output_is_standard(const char *word)
     return word == NULL || strcmp(word, "-") == 0;
 }
 
-/* Why the open file can't be the output; null once it is ready. It is emptied only if it isn't the card. */
-static const char *prepare(int file, const struct card *card)
+/* Why an open file can't be the output; null if it can. */
+static const char *judge(const struct card *card, const struct stat *info)
+{
+    if (card_is(card, info))
+        return "is the card image itself";
+    return S_ISBLK(info->st_mode) ? "is a block device" : NULL; /* which may hold the card */
+}
+
+/* Whether a file is where words go, as /dev/stdout may be. They would be lost in a file that is replaced. */
+static bool has_words(const struct stat *info)
+{
+    struct stat words;
+    for (int file = STDOUT_FILENO; file <= STDERR_FILENO; file++)
+        if (fstat(file, &words) == 0 && words.st_dev == info->st_dev && words.st_ino == info->st_ino)
+            return true;
+    return false;
+}
+
+/* Makes a file ready that is seen once it is whole. `old` is the one that it replaces, or null. Returns why not. */
+static const char *make(struct output *output, const struct stat *old)
+{
+    output->waits = true;
+    const char *why = whole_begin(&output->whole, output->path, old);
+    output->file = why == NULL ? output->whole.file : -1;
+    return why;
+}
+
+/* Makes the open file ready, or one that is to replace it. Returns why not, or null. */
+static const char *prepare(struct output *output, const struct card *card)
 {
     struct stat info;
-    if (fstat(file, &info) != 0)
+    if (fstat(output->file, &info) != 0)
         return strerror(errno);
-    if (card_is(card, &info))
-        return "is the card image itself";
-    if (S_ISBLK(info.st_mode)) /* it may hold the card */
-        return "is a block device";
-    if (file != STDOUT_FILENO && S_ISREG(info.st_mode) && ftruncate(file, 0) != 0)
-        return strerror(errno);
-    return NULL;
+    const char *why = judge(card, &info);
+    if (why != NULL || output->file == STDOUT_FILENO || !S_ISREG(info.st_mode))
+        return why;
+    if (has_words(&info))
+        return ftruncate(output->file, 0) == 0 ? NULL : strerror(errno);
+    close(output->file);
+    return make(output, &info);
 }
 
 bool output_open(struct output *output, const char *word, const struct card *card)
 {
     bool standard = output_is_standard(word);
-    output->path = standard ? "standard output" : word;
-    output->file = standard ? STDOUT_FILENO : open(word, O_WRONLY | O_CREAT | O_NOCTTY | O_CLOEXEC, 0666);
-    const char *why = output->file < 0 ? strerror(errno) : prepare(output->file, card);
+    *output = (struct output){.path = standard ? "standard output" : word, .file = STDOUT_FILENO};
+    if (!standard)
+        output->file = open(word, O_WRONLY | O_NOCTTY | O_CLOEXEC);
+    const char *why;
+    if (output->file >= 0)
+        why = prepare(output, card);
+    else
+        why = errno == ENOENT ? make(output, NULL) : strerror(errno);
     if (why == NULL)
         return true;
     complain(output->path, "%s", why);
@@ -58,10 +90,22 @@ bool output_write(const struct output *output, const uint8_t *bytes, size_t len)
 }
 
 /* Standard output is closed at the program's end. */
-bool output_close(const struct output *output)
+bool output_close(struct output *output)
 {
-    if (output->file == STDOUT_FILENO || close(output->file) == 0)
-        return true;
-    complain(output->path, "%s", strerror(errno));
-    return false;
+    const char *why = NULL;
+    if (output->waits)
+        why = whole_end(&output->whole);
+    else if (output->file != STDOUT_FILENO && close(output->file) != 0)
+        why = strerror(errno);
+    if (why != NULL)
+        complain(output->path, "%s", why);
+    return why == NULL;
+}
+
+void output_drop(struct output *output)
+{
+    if (output->waits)
+        whole_drop(&output->whole);
+    else
+        output_close(output);
 }

@@ -7,10 +7,13 @@
 #include <stdint.h>
 
 #include "card.h"
+#include "whole.h"
 
 struct output {
     const char *path;
     int file;
+    bool waits; /* nobody sees the bytes before all are there: so it is with files, but no others */
+    struct whole whole;
 };
 
 /* Whether -o's word, null without one, means standard output. */
@@ -19,6 +22,9 @@ bool output_is_standard(const char *word);
 /* These three say what went wrong, and return false. The card itself isn't opened to be written. */
 bool output_open(struct output *output, const char *word, const struct card *card);
 bool output_write(const struct output *output, const uint8_t *bytes, size_t len);
-bool output_close(const struct output *output);
+bool output_close(struct output *output);
+
+/* Closes it where not all was written: of what waits, nothing is left. */
+void output_drop(struct output *output);
 
 #endif

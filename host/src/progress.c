@@ -1,6 +1,5 @@
 #include "progress.h"
 
-#include <inttypes.h>
 #include <stdio.h>
 #include <string.h>
 #include <unistd.h>
@@ -55,7 +54,10 @@ void progress_show(struct progress *progress, uint32_t blocks)
         progress->width += show(stderr, progress->name);
         progress->width += fprintf(stderr, ": ");
     }
-    progress->width += fprintf(stderr, "%" PRIu32 " of %" PRIu32 " MiB", blocks / BLOCKS_A_MIB, total);
+    progress->width += show_number(stderr, blocks / BLOCKS_A_MIB);
+    progress->width += fprintf(stderr, " of ");
+    progress->width += show_number(stderr, total);
+    progress->width += fprintf(stderr, " MiB");
     fputc('\r', stderr);
     uint32_t step = progress->total / MOST_SHOWN + 1;
     progress->next = blocks + (step < BLOCKS_A_MIB ? BLOCKS_A_MIB : step);

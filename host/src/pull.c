@@ -24,8 +24,10 @@ static bool write_block(const struct pull *pull, const char *word)
     struct output output;
     if (!output_open(&output, word, pull->card))
         return false;
-    bool written = output_write(&output, pull->block, pull->pulled.byte_count);
-    return output_close(&output) && written;
+    if (output_write(&output, pull->block, pull->pulled.byte_count))
+        return output_close(&output);
+    output_drop(&output);
+    return false;
 }
 
 static void show_list(FILE *out, const char *what, const uint8_t *list, uint32_t count)
@@ -41,7 +43,8 @@ static void show_words(FILE *out, const struct pull *pull, bool lists)
     const struct harptimber_pulled *pulled = &pull->pulled;
     show(out, pull->name);
     fprintf(out, ", block %" PRIu32 ": ", pull->index);
-    show_answer(out, pulled->answer, meaning_of(pulled->answer), pull->card, pull->name);
+    struct asked asked = pull_of(pull->card, pull->name, pull->index);
+    show_asked(out, pulled->answer, meaning_of(pulled->answer), &asked);
     if (is_block(pulled->answer)) {
         fputs(", ", out);
         show_count(out, pulled->byte_count, "byte");
@@ -71,7 +74,9 @@ static void json_list(struct json *json, const char *key, const uint8_t *list, u
 static void show_json(FILE *out, const struct pull *pull)
 {
     const struct harptimber_pulled *pulled = &pull->pulled;
+    struct asked asked = pull_of(pull->card, pull->name, pull->index);
     struct json json = json_begin(out, "pull", pulled->answer, meaning_of(pulled->answer));
+    json_asked(&json, pulled->answer, &asked);
     json_string(&json, "image", pull->card->path);
     json_name(&json, pull->name);
     json_number(&json, "index", pull->index);
@@ -107,9 +112,10 @@ enum status run_pull(const struct request *request)
     struct pull pull = {.card = &card, .name = request->words[1]};
     if (!read_number(request->words[2], "INDEX", &pull.index))
         return MISUSED;
-    if (!card_open(&card, request->words[0]))
-        return REFUSED;
-    enum status status = pull_and_tell(request, &pull);
+    enum status status = card_open(&card, request, request->words[0]);
+    if (status != DONE)
+        return status;
+    status = pull_and_tell(request, &pull);
     card_close(&card);
     return status;
 }

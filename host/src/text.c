@@ -2,6 +2,7 @@
 
 #include <inttypes.h>
 #include <stdarg.h>
+#include <string.h>
 
 size_t utf8_read(const char *text, uint32_t *character)
 {
@@ -34,22 +35,82 @@ bool is_control(uint32_t character)
     return character < 0x20 || (character >= 0x7F && character <= 0x9F);
 }
 
-int show(FILE *out, const char *text)
+/* Prints a character of so many bytes; 0 if they aren't UTF-8. */
+static int show_character(FILE *out, const char *text, size_t len, uint32_t character)
 {
-    int printed = *text == '\0' ? fprintf(out, "''") : 0;
-    while (*text != '\0') {
-        uint32_t character;
-        size_t len = utf8_read(text, &character);
-        bool plain = len != 0 && !is_control(character);
-        for (len = len == 0 ? 1 : len; len != 0; len--, text++)
-            printed += plain ? fprintf(out, "%c", *text) : fprintf(out, "\\x%02X", (unsigned)(uint8_t)*text);
+    if (len != 0 && character == '\\')
+        return fprintf(out, "\\\\");
+    if (len != 0 && !is_control(character))
+        return fprintf(out, "%.*s", (int)len, text);
+    int printed = 0;
+    for (size_t i = 0; i < (len == 0 ? 1 : len); i++)
+        printed += fprintf(out, "\\x%02X", (unsigned)(uint8_t)text[i]);
+    return printed;
+}
+
+int show_bytes(FILE *out, const char *text, size_t len)
+{
+    int printed = len == 0 ? fprintf(out, "''") : 0;
+    for (size_t at = 0; at < len;) {
+        uint32_t character = 0;
+        size_t bytes = utf8_read(text + at, &character);
+        printed += show_character(out, text + at, bytes, character);
+        at += bytes == 0 ? 1 : bytes;
     }
     return printed;
 }
 
+int show(FILE *out, const char *text)
+{
+    return show_bytes(out, text, strlen(text));
+}
+
+const char *number_text(char room[NUMBER_ROOM], uint64_t number)
+{
+    char *at = room + NUMBER_ROOM - 1;
+    *at = '\0';
+    for (int digits = 0; digits == 0 || number != 0; digits++, number /= 10) {
+        if (digits != 0 && digits % 3 == 0)
+            *--at = ',';
+        *--at = (char)('0' + number % 10);
+    }
+    return at;
+}
+
+int show_number(FILE *out, uint64_t number)
+{
+    char room[NUMBER_ROOM];
+    return fprintf(out, "%s", number_text(room, number));
+}
+
+void show_padded(FILE *out, uint64_t number, int width)
+{
+    char room[NUMBER_ROOM];
+    fprintf(out, "%*s", width, number_text(room, number));
+}
+
 void show_count(FILE *out, uint64_t count, const char *thing)
 {
-    fprintf(out, "%" PRIu64 " %s%s", count, thing, count == 1 ? "" : "s");
+    show_number(out, count);
+    fprintf(out, " %s%s", thing, count == 1 ? "" : "s");
+}
+
+void show_size(FILE *out, uint64_t bytes)
+{
+    static const char *const units[] = {"KiB", "MiB", "GiB", "TiB"};
+    int power = 0;
+    while (power < 4 && bytes >> 10 * (power + 1) != 0)
+        power++;
+    if (power == 0) {
+        show_count(out, bytes, "byte");
+        return;
+    }
+    uint64_t whole = bytes >> 10 * power, rest = bytes & (((uint64_t)1 << 10 * power) - 1);
+    uint64_t tenths = rest * 10 >> 10 * power;
+    show_number(out, whole);
+    if (tenths != 0)
+        fprintf(out, ".%" PRIu64, tenths);
+    fprintf(out, " %s", units[power - 1]);
 }
 
 void show_subject(FILE *out, const char *subject)

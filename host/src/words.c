@@ -1,34 +1,19 @@
 #include "words.h"
 
 #include <inttypes.h>
+#include <stdlib.h>
 #include <string.h>
 
+#include "opening.h"
+#include "partitions.h"
+#include "reason.h"
 #include "text.h"
 
-enum { FEWEST_CARD_BLOCKS = 2, MOST_CARD_BLOCKS = 262144, MOST_NAME_BYTES = 255 };
+enum { GIB = 1 << 30 };
 
 const char *meaning_of(uint32_t answer)
 {
-    static const char *const meanings[] = {
-        [HARPTIMBER_DATA] = "data",
-        [HARPTIMBER_HOLE] = "hole: zeros",
-        [HARPTIMBER_NO_NAME] = "no such name in the root directory",
-        [HARPTIMBER_PAST_END] = "past the end of the file",
-        [HARPTIMBER_OUT_OF_SHAPE] = "out of shape: the image's length, the name or A",
-        [HARPTIMBER_NO_SUPERBLOCK] = "neither copy of the superblock passes",
-        [HARPTIMBER_FEATURES] = "the card has features or a payload, which aren't read",
-        [HARPTIMBER_NO_CHECKPOINT] = "neither checkpoint pack passes",
-        [HARPTIMBER_UNREADABLE] = "the checkpoint pack in use has its maps or journal out of place",
-        [HARPTIMBER_NO_NODE] = "a node number out of range or not in use",
-        [HARPTIMBER_NODE_OUTSIDE] = "a node's address lies outside the main area",
-        [HARPTIMBER_FOREIGN_NODE] = "a node block belongs elsewhere",
-        [HARPTIMBER_KIND_NOT_READ] = "an inode of a kind that isn't read: no regular file, or inline",
-        [HARPTIMBER_DATA_OUTSIDE] = "a data address lies outside the main area",
-        [HARPTIMBER_MALFORMED_SLOT] = "a directory entry doesn't fit its block",
-        [HARPTIMBER_SAME] = "same",
-        [HARPTIMBER_CHANGED] = "changed",
-    };
-    return answer < sizeof meanings / sizeof *meanings ? meanings[answer] : "unknown";
+    return harptimber_answer_words(answer);
 }
 
 const char *lookup_meaning_of(uint32_t answer)
@@ -48,76 +33,166 @@ const char *lookup_meaning_of(uint32_t answer)
 bool length_is_in_shape(const struct card *card)
 {
     size_t blocks = card->len / BLOCK_SIZE;
-    return card->len % BLOCK_SIZE == 0 && blocks >= FEWEST_CARD_BLOCKS && blocks <= MOST_CARD_BLOCKS;
+    return card->len % BLOCK_SIZE == 0 && blocks >= HARPTIMBER_CARD_BLOCKS_LEAST &&
+           blocks <= HARPTIMBER_CARD_BLOCKS_MOST;
 }
 
 static void show_bad_length(FILE *out, const struct card *card)
 {
-    size_t blocks = card->len / BLOCK_SIZE;
     fputs("the image has ", out);
     if (card->len % BLOCK_SIZE != 0) {
         show_count(out, card->len, "byte");
         fputs(", which isn't a whole number of 4,096-byte blocks", out);
+    } else if (card->len / BLOCK_SIZE < HARPTIMBER_CARD_BLOCKS_LEAST) {
+        show_count(out, card->len / BLOCK_SIZE, "block");
+        fputs(" of 4,096 bytes; a card has at least 2", out);
     } else {
-        show_count(out, blocks, "block");
-        fputs(blocks < FEWEST_CARD_BLOCKS ? "; a card has at least 2" : "; at most 262,144 are read", out);
+        show_size(out, card->len);
+        if (card->len % GIB != 0) {
+            fputs(" (", out);
+            show_count(out, card->len, "byte");
+            fputs(")", out);
+        }
+        fputs("; at most 1 GiB is read", out);
     }
 }
 
+/* What the file is if it is a disk, and what to do then. Returns whether that was said. */
+static bool show_disk(FILE *out, const struct card *card)
+{
+    struct partitions partitions;
+    partitions_read(&partitions, card->map, card->file_len);
+    if (partitions.table == NULL)
+        return false;
+    fputs("; ", out);
+    show_partitions(out, &partitions);
+    const struct partition *marked = partitions_only_marked(&partitions);
+    if (marked != NULL)
+        fprintf(out, "; --partition %" PRIu32 " takes that one", marked->number);
+    else if (partitions.count != 0)
+        fputs("; --partition N takes one", out);
+    return true;
+}
+
 /* Why a call is out of shape. With neither card nor name it is place's, which has nothing else to refuse. */
-static void show_out_of_shape(FILE *out, const struct card *card, const char *name)
+static void show_out_of_shape(FILE *out, const struct asked *asked)
 {
-    if (card != NULL && !length_is_in_shape(card))
-        show_bad_length(out, card);
-    else if (name == NULL)
-        fputs("A has to be 873 or 923", out);
-    else if (*name == '\0')
+    if (asked->card != NULL && !length_is_in_shape(asked->card)) {
+        show_bad_length(out, asked->card);
+        show_disk(out, asked->card);
+    } else if (asked->name == NULL) {
+        fputs(asked->card == NULL ? "A has to be 873 or 923" : "", out);
+    } else if (asked->len == 0) {
         fputs("the name is empty", out);
-    else if (strlen(name) > MOST_NAME_BYTES)
-        fprintf(out, "the name has %zu bytes; at most 255 are possible", strlen(name));
-    else
-        fprintf(out, "the name has a slash%s", card == NULL ? "" : "; only the root directory is read");
+    } else if (asked->len > HARPTIMBER_NAME_BYTES_MOST) {
+        fputs("the name has ", out);
+        show_count(out, asked->len, "byte");
+        fputs("; at most 255 are possible", out);
+    } else if (memchr(asked->name, '/', asked->len) != NULL) {
+        fprintf(out, "the name has a slash%s", asked->card == NULL ? "" : "; only the root directory is read");
+    } else if (memchr(asked->name, '\0', asked->len) != NULL) {
+        fputs("the name has a zero byte", out);
+    }
 }
 
-/* A number of a superblock copy; the copies start 1,024 bytes into blocks 0 and 1. */
-static uint64_t superblock_number(const struct card *card, size_t copy, size_t at, size_t len)
+/* Why a card doesn't open. */
+static void show_unopened(FILE *out, const struct card *card, uint32_t answer)
 {
-    const uint8_t *bytes = card->bytes + copy * BLOCK_SIZE + 1024 + at;
-    uint64_t number = 0;
-    while (len-- > 0)
-        number = number << 8 | bytes[len];
-    return number;
+    struct opening opening;
+    opening_read(&opening, card);
+    fputs(opening.answer == answer ? opening.why : "", out);
+    bool marked = opening.copies[0].marked || opening.copies[1].marked;
+    if (answer == HARPTIMBER_NO_SUPERBLOCK && !show_disk(out, card) && !marked)
+        fputs("; perhaps it is another file system", out);
 }
 
-/* What may be wrong where no superblock passes. It is a hint alone: the library has judged. */
-static void show_no_superblock(FILE *out, const struct card *card)
+/* A walk that stops elsewhere than the library found no reason. */
+static void show_pull_reason(FILE *out, uint32_t answer, const struct asked *asked)
 {
-    uint64_t blocks = card->len / BLOCK_SIZE, counted = 0;
-    bool marked = false;
-    for (size_t copy = 0; copy < 2; copy++)
-        if (superblock_number(card, copy, 0, 4) == 0xF2F52010) {
-            uint64_t count = superblock_number(card, copy, 36, 8);
-            counted = count > counted ? count : counted;
-            marked = true;
-        }
-    if (!marked)
-        fputs("; no F2FS mark: is it another file system, or a whole disk with partitions?", out);
-    else if (counted > blocks)
-        fprintf(out, "; the superblock counts %" PRIu64 " blocks, the image has %" PRIu64, counted, blocks);
+    struct stop stop = walk_pull(asked->card, (const uint8_t *)asked->name, asked->len, asked->index);
+    if (stop.answer == answer)
+        show_stop(out, &stop, asked->card);
+}
+
+static void show_reason(FILE *out, uint32_t answer, const struct asked *asked)
+{
+    if (answer == HARPTIMBER_OUT_OF_SHAPE)
+        show_out_of_shape(out, asked);
+    else if (answer >= HARPTIMBER_NO_SUPERBLOCK && answer <= HARPTIMBER_UNREADABLE)
+        show_unopened(out, asked->card, answer);
+    else if (asked->is_pull && (answer == HARPTIMBER_PAST_END || answer > HARPTIMBER_UNREADABLE))
+        show_pull_reason(out, answer, asked);
+}
+
+struct asked pull_of(const struct card *card, const char *name, uint32_t index)
+{
+    return (struct asked){.card = card, .name = name, .len = strlen(name), .is_pull = true, .index = index};
+}
+
+/* A call that is no pull. */
+static struct asked call_of(const struct card *card, const char *name)
+{
+    return (struct asked){.card = card, .name = name, .len = name == NULL ? 0 : strlen(name)};
+}
+
+static char *reason_of_asked(uint32_t answer, const struct asked *asked)
+{
+    char *reason = NULL;
+    size_t len = 0;
+    FILE *out = open_memstream(&reason, &len);
+    if (out == NULL)
+        return NULL;
+    show_reason(out, answer, asked);
+    if (fclose(out) == 0 && len != 0)
+        return reason;
+    free(reason);
+    return NULL;
+}
+
+char *reason_of(uint32_t answer, const struct card *card, const char *name)
+{
+    struct asked asked = call_of(card, name);
+    return reason_of_asked(answer, &asked);
+}
+
+/* What is out of shape is told by the reason, instead of all that could be. */
+void show_with_reason(FILE *out, uint32_t answer, const char *meaning, const char *reason)
+{
+    fprintf(out, "%s (answer %" PRIu32 ")", answer == HARPTIMBER_OUT_OF_SHAPE ? "out of shape" : meaning, answer);
+    if (reason != NULL)
+        fprintf(out, ": %s", reason);
+}
+
+void show_asked(FILE *out, uint32_t answer, const char *meaning, const struct asked *asked)
+{
+    char *reason = reason_of_asked(answer, asked);
+    show_with_reason(out, answer, meaning, reason);
+    free(reason);
 }
 
 void show_answer(FILE *out, uint32_t answer, const char *meaning, const struct card *card, const char *name)
 {
-    if (answer == HARPTIMBER_OUT_OF_SHAPE) {
-        fprintf(out, "out of shape (answer %" PRIu32 "): ", answer);
-        show_out_of_shape(out, card, name);
-        return;
-    }
-    fprintf(out, "%s (answer %" PRIu32 ")", meaning, answer);
-    if (answer == HARPTIMBER_NO_SUPERBLOCK)
-        show_no_superblock(out, card);
-    if (answer == HARPTIMBER_KIND_NOT_READ)
-        fputs("; small and empty files usually are", out);
+    struct asked asked = call_of(card, name);
+    show_asked(out, answer, meaning, &asked);
+}
+
+void json_asked_as(struct json *json, const char *key, uint32_t answer, const struct asked *asked)
+{
+    char *reason = reason_of_asked(answer, asked);
+    if (reason != NULL)
+        json_string(json, key, reason);
+    free(reason);
+}
+
+void json_asked(struct json *json, uint32_t answer, const struct asked *asked)
+{
+    json_asked_as(json, "reason", answer, asked);
+}
+
+void json_reason(struct json *json, uint32_t answer, const struct card *card, const char *name)
+{
+    struct asked asked = call_of(card, name);
+    json_asked(json, answer, &asked);
 }
 
 void show_entry(FILE *out, struct harptimber_entry entry)

@@ -6,18 +6,42 @@
 #include <stdio.h>
 
 #include "card.h"
+#include "json.h"
 
 /* What an answer number means. */
 const char *meaning_of(uint32_t answer);
 
-/* The same for node, place and hash, which read no file. */
+/* The same for node and place, which read no file. */
 const char *lookup_meaning_of(uint32_t answer);
 
-/*
- * Prints 'MEANING (answer N)' and, where it helps, why. The call was made with this card and this name,
- * which are null if it takes none.
- */
+/* A call of the library, as far as its words need it. */
+struct asked {
+    const struct card *card; /* null if the call takes none */
+    const char *name;        /* null if the call takes none */
+    size_t len;              /* the name's */
+    bool is_pull;
+    uint32_t index;
+};
+
+/* A pull of a file's block. */
+struct asked pull_of(const struct card *card, const char *name, uint32_t index);
+
+/* Prints 'MEANING (answer N)' and, unless it is null, ': ' and the reason. */
+void show_with_reason(FILE *out, uint32_t answer, const char *meaning, const char *reason);
+
+/* The same with the reason that a call has. */
+void show_asked(FILE *out, uint32_t answer, const char *meaning, const struct asked *asked);
+
+/* The same for a call with this card and this name, which are null if it takes none, that is no pull. */
 void show_answer(FILE *out, uint32_t answer, const char *meaning, const struct card *card, const char *name);
+
+/* Why such a call was answered so, in plain text; null if there is nothing to add. The caller frees it. */
+char *reason_of(uint32_t answer, const struct card *card, const char *name);
+
+/* The reason as a member of a JSON object: under some key, or `reason`. */
+void json_asked_as(struct json *json, const char *key, uint32_t answer, const struct asked *asked);
+void json_asked(struct json *json, uint32_t answer, const struct asked *asked);
+void json_reason(struct json *json, uint32_t answer, const struct card *card, const char *name);
 
 /* Prints what the node address table says of a number. */
 void show_entry(FILE *out, struct harptimber_entry entry);

@@ -24,9 +24,9 @@
 #include "harptimber.h"
 #include "lending.h"
 
-#define BLOCK_SIZE ((size_t)4096)
-#define LEAST_NODES ((size_t)179 * 4)
-#define LEAST_BLOCKS ((size_t)238 * 4)
+#define BLOCK_SIZE ((size_t)HARPTIMBER_BLOCK_BYTES)
+#define LEAST_NODES ((size_t)HARPTIMBER_NODES_BYTES)
+#define LEAST_BLOCKS ((size_t)HARPTIMBER_BLOCKS_BYTES)
 #define COUNT_OF(array) (sizeof(array) / sizeof *(array))
 
 /* What a call is lent and told, and what it returned. Each call takes some of it. */
@@ -120,8 +120,7 @@ static void use(const uint8_t *bytes, size_t len)
 
 static struct slice copied(const char *name, const uint8_t *from, size_t len)
 {
-    struct slice s = lend(name, len);
-    memcpy(s.bytes, from, len);
+    struct slice s = lend_copy(name, from, len);
     seal(&s);
     return s;
 }
@@ -189,7 +188,8 @@ static struct slice list(const char *name, const struct slice *pulled, uint32_t 
 {
     uint8_t bytes[LEAST_BLOCKS + 3] = {0};
     size_t len = 4 * (size_t)count;
-    memcpy(bytes, pulled->bytes, len);
+    if (len != 0)
+        memcpy(bytes, pulled->bytes, len);
     if (beyond->wild && count > 0)
         memset(bytes + len - 4, 0xFF, 4);
     return copied(name, bytes, len + beyond->bytes);
@@ -217,7 +217,7 @@ static void look_up_nodes(const struct call *pull)
     for (uint32_t i = 0; i < pull->pulled.node_count + COUNT_OF(others); i++) {
         struct call c = {.image = pull->image};
         if (i < pull->pulled.node_count)
-            memcpy(&c.index, pull->nodes.bytes + 4 * i, 4);
+            c.index = harptimber_list_entry(pull->nodes.bytes, i);
         else
             c.index = others[i - pull->pulled.node_count];
         stays_inside("node lookup", make_lookup, &c);
@@ -256,6 +256,14 @@ static void expect_odd_compare(const struct call *pull, struct slice fresh, uint
 static const struct beyond nothing;
 static struct slice sound, damaged;
 
+/* How an image compares with itself, by a pull's answer: slices that are only read may be the same one. */
+static uint32_t with_itself(uint32_t answer)
+{
+    if (answer == HARPTIMBER_OUT_OF_SHAPE) /* by its length, or for no list */
+        return ANY;
+    return refused(answer) ? answer : HARPTIMBER_SAME;
+}
+
 /* The pull of one line, on the damaged image and on the sound one. */
 static void run_pull(struct slice name, uint32_t index, uint32_t answer, uint32_t as_kept, uint32_t as_fresh)
 {
@@ -264,6 +272,7 @@ static void run_pull(struct slice name, uint32_t index, uint32_t answer, uint32_
     stays_inside("file place", make_place, &c);
     expect_pull(&c, &least, answer);
     expect_compare(&c, sound, &nothing, as_kept);
+    expect_compare(&c, damaged, &nothing, with_itself(answer));
     expect_odd_compare(&c, sound, as_kept);
     look_up_nodes(&c);
     give_room_back(&c);
@@ -294,8 +303,7 @@ static void run_cut(size_t len, struct slice name, uint32_t index, uint32_t answ
 /* A slice for `told` bytes that has fewer, or that starts a byte early, as the placement can notice. */
 static struct slice shorter(const struct slice *whole, size_t len)
 {
-    struct slice s = lend(whole->name, len);
-    memcpy(s.bytes, whole->bytes, len);
+    struct slice s = lend_copy(whole->name, whole->bytes, len);
     s.len = whole->len;
     if (placement == BEHIND_GUARD)
         s.bytes--;
@@ -305,8 +313,7 @@ static struct slice shorter(const struct slice *whole, size_t len)
 /* The last block that a pull listed: the image is needed up to there. */
 static size_t last_block(const struct call *c)
 {
-    const uint8_t *last = c->blocks.bytes + 4 * (c->pulled.block_count - 1);
-    return last[0] | last[1] << 8 | last[2] << 16 | (size_t)last[3] << 24;
+    return harptimber_list_entry(c->blocks.bytes, c->pulled.block_count - 1);
 }
 
 /* A pull that is told more than there is of one slice, which has to end in a fault. */
@@ -494,7 +501,16 @@ static void expect_fault(const char *what, void (*touch)(void *), uint8_t *at, s
 /* What this test notices: it would pass on anything otherwise. */
 static void test_guards(void)
 {
-    static const size_t lens[] = {1, 255, 715, 716, 952, 955, 4095, 4096, 4097, 8192};
+    static const size_t lens[] = {1,
+                                  255,
+                                  LEAST_NODES - 1,
+                                  LEAST_NODES,
+                                  LEAST_BLOCKS,
+                                  LEAST_BLOCKS + 3,
+                                  BLOCK_SIZE - 1,
+                                  BLOCK_SIZE,
+                                  BLOCK_SIZE + 1,
+                                  2 * BLOCK_SIZE};
     for (size_t i = 0; i < COUNT_OF(lens); i++) {
         size_t len = lens[i];
         struct slice s = lend("slice", len);
@@ -519,10 +535,10 @@ static void test_guards(void)
 /* Names of any length, also told to be a byte longer than they are. */
 static void test_names(void)
 {
-    for (size_t len = 0; len <= 256; len++) {
-        struct call c = {.name = lend("name", len)};
-        memset(c.name.bytes, 'x', len);
-        seal(&c.name);
+    uint8_t letters[256];
+    memset(letters, 'x', sizeof letters);
+    for (size_t len = 0; len <= sizeof letters; len++) {
+        struct call c = {.name = copied("name", letters, len)};
         uint32_t answer = len == 0 || len == 256 ? HARPTIMBER_OUT_OF_SHAPE : HARPTIMBER_DATA;
         if (stays_inside("name hash", make_hash, &c))
             expect("name hash", &c, c.hashed.answer, answer);
@@ -552,12 +568,46 @@ static void test_zeros(void)
     give_back(&name);
 }
 
+/* One slice of a call is no bytes at null. */
+static void expect_null(const char *what, void (*make)(void *), struct call *c, struct slice *slice,
+                        const uint32_t *got, uint32_t answer)
+{
+    struct slice lent = *slice;
+    *slice = (struct slice){.name = lent.name};
+    if (stays_inside(what, make, c))
+        expect(what, c, *got, answer);
+    *slice = lent;
+}
+
+/* No bytes at null, for each slice of each call. Cards that open have such lists too, in a script's pulls. */
+static void test_nulls(void)
+{
+    static const uint8_t zeros[2 * HARPTIMBER_BLOCK_BYTES];
+    struct call c = {.image = copied("image", zeros, sizeof zeros), .name = copied("name", (const uint8_t *)"x", 1)};
+    c.fresh = c.image;
+    lend_room(&c, &least);
+    struct slice *pulled[] = {&c.image, &c.name, &c.block, &c.nodes, &c.blocks};
+    for (size_t i = 0; i < COUNT_OF(pulled); i++)
+        expect_null("pull", make_pull, &c, pulled[i], &c.pulled.answer, HARPTIMBER_OUT_OF_SHAPE);
+    struct slice *images[] = {&c.image, &c.fresh}, *lists[] = {&c.nodes, &c.blocks};
+    for (size_t i = 0; i < 2; i++) {
+        expect_null("compare", make_compare, &c, images[i], &c.compared.answer, HARPTIMBER_OUT_OF_SHAPE);
+        expect_null("compare", make_compare, &c, lists[i], &c.compared.answer, HARPTIMBER_NO_SUPERBLOCK);
+    }
+    expect_null("node lookup", make_lookup, &c, &c.image, &c.entry.answer, HARPTIMBER_OUT_OF_SHAPE);
+    expect_null("name hash", make_hash, &c, &c.name, &c.hashed.answer, HARPTIMBER_OUT_OF_SHAPE);
+    give_room_back(&c);
+    give_back(&c.name);
+    give_back(&c.image);
+}
+
 static void run(int count, char **scripts)
 {
     if (placement != ON_HEAP)
         test_guards();
     test_names();
     test_zeros();
+    test_nulls();
     for (int i = 0; i < count; i++)
         run_script(scripts[i]);
 }

@@ -4,7 +4,8 @@
 
 uint32_t every_call_with_nothing()
 {
-    const uint8_t nothing[1] = {0};
-    return harptimber_name_hash(nothing, 0).hash + harptimber_file_place(923, 0).slot0 +
-           harptimber_node_lookup(nothing, 0, 3).address;
+    uint8_t list[HARPTIMBER_NODES_BYTES] = {0};
+    return harptimber_name_hash(nullptr, 0).hash + harptimber_file_place(923, 0).slot0 +
+           harptimber_node_lookup(nullptr, 0, 3).address + harptimber_list_entry(list, HARPTIMBER_NODES_MOST - 1) +
+           static_cast<uint32_t>(harptimber_answer_words(HARPTIMBER_CHANGED)[0]);
 }

@@ -1,7 +1,8 @@
 /*
  * Memory to lend, of which an access outside is noticed. Right before or right behind a slice lies a
  * page that can't be touched, and a sealed slice can't be written: either ends in a fault, which is
- * caught. On the heap a slice is a malloc'ed block of its exact length, for valgrind.
+ * caught. No bytes lie at such a page too, or at null. On the heap a slice is a malloc'ed block of its
+ * exact length, for valgrind.
  */
 #ifndef LENDING_H
 #define LENDING_H
@@ -36,6 +37,8 @@ static _Noreturn void give_up(const char *why)
 static inline struct slice lend(const char *name, size_t len)
 {
     struct slice s = {.name = name, .len = len};
+    if (placement == BEFORE_GUARD && len == 0)
+        return s; /* null, as hosts pass for an empty list */
     if (placement == ON_HEAP) {
         s.bytes = malloc(len);
         if (s.bytes == NULL)
@@ -49,6 +52,15 @@ static inline struct slice lend(const char *name, size_t len)
     if (s.mapping == MAP_FAILED || mprotect(s.mapping + page, inside, PROT_READ | PROT_WRITE) != 0)
         give_up("no memory between guard pages");
     s.bytes = s.mapping + page + (placement == BEFORE_GUARD ? inside - len : 0);
+    return s;
+}
+
+/* The same with these bytes. */
+static inline struct slice lend_copy(const char *name, const uint8_t *from, size_t len)
+{
+    struct slice s = lend(name, len);
+    if (len != 0)
+        memcpy(s.bytes, from, len);
     return s;
 }
 

@@ -5,8 +5,8 @@
 #include "check.h"
 #include "harptimber.h"
 
-#define BLOCK_SIZE ((size_t)4096)
-#define MOST_BLOCKS ((size_t)262144)
+#define BLOCK_SIZE ((size_t)HARPTIMBER_BLOCK_BYTES)
+#define MOST_BLOCKS ((size_t)HARPTIMBER_CARD_BLOCKS_MOST)
 
 static void expect_refusal(const uint8_t *image, size_t len, uint32_t number, uint32_t answer)
 {

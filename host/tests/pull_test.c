@@ -7,8 +7,10 @@
 
 #define PATTERN 0xA5
 
-static const uint8_t zeros[2 * 4096];
-static uint8_t block[4097], nodes[179 * 4 + 3], blocks[238 * 4 + 3];
+enum { BLOCK = HARPTIMBER_BLOCK_BYTES, NODES = HARPTIMBER_NODES_BYTES, BLOCKS = HARPTIMBER_BLOCKS_BYTES };
+
+static const uint8_t zeros[2 * BLOCK];
+static uint8_t block[BLOCK + 1], nodes[NODES + 3], blocks[BLOCKS + 3];
 
 static int untouched(const uint8_t *bytes, size_t len)
 {
@@ -48,16 +50,16 @@ static void expect_compared(size_t kept_len, size_t fresh_len, uint32_t answer, 
 
 int main(void)
 {
-    expect_refused("road.bin", 4096, 716, 952, HARPTIMBER_NO_SUPERBLOCK);
-    expect_refused("road.bin", 4096, 719, 955, HARPTIMBER_NO_SUPERBLOCK);
-    expect_refused("road.bin", 4095, 716, 952, HARPTIMBER_OUT_OF_SHAPE);
-    expect_refused("road.bin", 4097, 716, 952, HARPTIMBER_OUT_OF_SHAPE);
-    expect_refused("road.bin", 4096, 715, 952, HARPTIMBER_OUT_OF_SHAPE);
-    expect_refused("road.bin", 4096, 716, 951, HARPTIMBER_OUT_OF_SHAPE);
-    expect_refused("", 4096, 716, 952, HARPTIMBER_OUT_OF_SHAPE);
-    expect_refused("a/b", 4096, 716, 952, HARPTIMBER_OUT_OF_SHAPE);
-    expect_compared(4096, 8192, HARPTIMBER_OUT_OF_SHAPE, 0);
-    expect_compared(8192, 4096, HARPTIMBER_OUT_OF_SHAPE, 0);
-    expect_compared(8192, 8192, HARPTIMBER_NO_SUPERBLOCK, 1);
+    expect_refused("road.bin", BLOCK, NODES, BLOCKS, HARPTIMBER_NO_SUPERBLOCK);
+    expect_refused("road.bin", BLOCK, NODES + 3, BLOCKS + 3, HARPTIMBER_NO_SUPERBLOCK);
+    expect_refused("road.bin", BLOCK - 1, NODES, BLOCKS, HARPTIMBER_OUT_OF_SHAPE);
+    expect_refused("road.bin", BLOCK + 1, NODES, BLOCKS, HARPTIMBER_OUT_OF_SHAPE);
+    expect_refused("road.bin", BLOCK, NODES - 1, BLOCKS, HARPTIMBER_OUT_OF_SHAPE);
+    expect_refused("road.bin", BLOCK, NODES, BLOCKS - 1, HARPTIMBER_OUT_OF_SHAPE);
+    expect_refused("", BLOCK, NODES, BLOCKS, HARPTIMBER_OUT_OF_SHAPE);
+    expect_refused("a/b", BLOCK, NODES, BLOCKS, HARPTIMBER_OUT_OF_SHAPE);
+    expect_compared(BLOCK, 2 * BLOCK, HARPTIMBER_OUT_OF_SHAPE, 0);
+    expect_compared(2 * BLOCK, BLOCK, HARPTIMBER_OUT_OF_SHAPE, 0);
+    expect_compared(2 * BLOCK, 2 * BLOCK, HARPTIMBER_NO_SUPERBLOCK, 1);
     return finish();
 }

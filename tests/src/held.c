@@ -1,11 +1,14 @@
 /*
  * Loaded into the program before its other libraries: holds it at the first look at one block of one of the
  * images that it maps, until the other end of a FIFO is closed. So a test can write an image while it is read.
+ * And, if it is told so, it takes from the program the files that have no name, as some file systems do.
  */
 #define _GNU_SOURCE
 #include <dlfcn.h>
+#include <errno.h>
 #include <fcntl.h>
 #include <signal.h>
+#include <stdarg.h>
 #include <stdint.h>
 #include <stdlib.h>
 #include <sys/mman.h>
@@ -49,4 +52,19 @@ void *mmap(void *address, size_t len, int protection, int flags, int file, off_t
     sigaction(SIGSEGV, &action, NULL);
     mprotect(held, BLOCK_SIZE, PROT_NONE);
     return bytes;
+}
+
+int openat(int folder, const char *path, int flags, ...)
+{
+    int (*next)(int, const char *, int, mode_t);
+    *(void **)&next = dlsym(RTLD_NEXT, "openat64");
+    va_list rest;
+    va_start(rest, flags);
+    mode_t mode = (flags & O_CREAT) != 0 || (flags & O_TMPFILE) == O_TMPFILE ? va_arg(rest, mode_t) : 0;
+    va_end(rest);
+    if ((flags & O_TMPFILE) == O_TMPFILE && getenv("HELD_NAMED") != NULL) {
+        errno = EOPNOTSUPP;
+        return -1;
+    }
+    return next(folder, path, flags, mode);
 }

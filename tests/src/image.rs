@@ -7,10 +7,11 @@ use std::ops::Range;
 use std::os::unix::fs::FileExt;
 use std::path::Path;
 
-use crate::knobs::{Areas, Knobs, Pack, MOST_BLOCKS};
+use crate::knobs::{Areas, Knobs, Pack};
 use crate::layout::nat::{NatEntry, ENTRIES_PER_BLOCK, MAP_BYTES_PER_SEGMENT};
 use crate::layout::{checkpoint, footer, journal, nat, superblock};
 use crate::layout::{Field, BLOCK_SIZE, SEGMENT_BLOCKS};
+use crate::sizes::CARD_BLOCKS_MOST;
 use crate::trial::Random;
 
 #[derive(Clone)]
@@ -54,7 +55,7 @@ impl Image {
     /// a gigabyte costs little.
     pub fn largest(knobs: Knobs) -> Image {
         Image::new(&Knobs {
-            spare_image_blocks: MOST_BLOCKS + 1 - knobs.image_blocks(),
+            spare_image_blocks: CARD_BLOCKS_MOST + 1 - knobs.image_blocks(),
             ..knobs
         })
     }

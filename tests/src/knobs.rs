@@ -6,9 +6,6 @@ use crate::layout::nat::{BLOCKS_PER_SEGMENT, ENTRIES_PER_BLOCK, MAP_BYTES_PER_SE
 use crate::layout::superblock::*;
 use crate::layout::{Field, SEGMENT_BLOCKS};
 
-/// The most blocks that an image may have.
-pub const MOST_BLOCKS: u32 = 262_144;
-
 /// A checkpoint pack.
 #[derive(Clone, Debug)]
 pub struct Pack {

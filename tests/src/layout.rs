@@ -202,6 +202,20 @@ pub mod inode {
         I_DIR_LEVEL: 1 at 347,
     }
 
+    // Numbers that only the program's words speak of.
+    pub const I_ADVISE: super::Field = super::Field {
+        name: "I_ADVISE",
+        at: 2,
+        size: 1,
+    };
+    pub const I_FLAGS: super::Field = super::Field {
+        name: "I_FLAGS",
+        at: 80,
+        size: 4,
+    };
+    pub const ADVISE_ENCRYPT: u64 = 0x04;
+    pub const FLAG_COMPRESSED: u64 = 0x04;
+
     /// The file's name as the tools note it here too: its length, and the place of its bytes.
     pub const I_NAMELEN: super::Field = super::Field {
         name: "I_NAMELEN",

@@ -5,10 +5,9 @@ use std::fmt::{Debug, Formatter, Result};
 use std::ops::Range;
 
 use crate::layout::BLOCK_SIZE;
+use crate::sizes::{BLOCKS_MOST, NODES_MOST};
 use crate::trial::Random;
 
-pub const LEAST_NODES: usize = 179;
-pub const LEAST_BLOCKS: usize = 238;
 /// Bytes of a number in a list.
 pub const NUMBER_SIZE: usize = 4;
 
@@ -30,8 +29,8 @@ impl Lens {
     pub fn least() -> Lens {
         Lens {
             block: BLOCK_SIZE,
-            nodes: LEAST_NODES * NUMBER_SIZE,
-            blocks: LEAST_BLOCKS * NUMBER_SIZE,
+            nodes: NODES_MOST as usize * NUMBER_SIZE,
+            blocks: BLOCKS_MOST as usize * NUMBER_SIZE,
         }
     }
 }

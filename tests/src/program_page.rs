@@ -6,10 +6,27 @@ use crate::json::Json;
 use crate::program::host;
 
 /// The keys that each object has.
-const HEAD: [&str; 3] = ["command", "answer", "meaning"];
+const HEAD: [&str; 4] = ["command", "answer", "meaning", "reason"];
 
 /// The keys that each command's JSON may have beside them.
-const KEYS: [(&str, &[&str]); 6] = [
+const KEYS: [(&str, &[&str]); 8] = [
+    (
+        "info",
+        &[
+            "image",
+            "offset",
+            "bytes",
+            "label",
+            "blocks",
+            "features",
+            "areas",
+            "copies",
+            "packs",
+            "table",
+            "partitions",
+        ],
+    ),
+    ("ls", &["image", "complete", "problems", "names"]),
     (
         "pull",
         &[
@@ -31,7 +48,22 @@ const KEYS: [(&str, &[&str]); 6] = [
     (
         "compare",
         &[
-            "kept", "new", "name", "name_hex", "same", "changed", "runs", "end", "side",
+            "kept",
+            "new",
+            "name",
+            "name_hex",
+            "status",
+            "verdict",
+            "kept_size",
+            "new_size",
+            "same",
+            "changed",
+            "same_bytes",
+            "differ",
+            "runs",
+            "end",
+            "side",
+            "files",
         ],
     ),
     ("node", &["image", "number", "inode", "address"]),
@@ -40,7 +72,20 @@ const KEYS: [(&str, &[&str]); 6] = [
 ];
 
 /// Those of the objects inside, by the key under which they stand.
-const INNER_KEYS: [(&str, &[&str]); 3] = [
+const INNER_KEYS: [(&str, &[&str]); 8] = [
+    ("areas", &["area", "first", "segments"]),
+    ("copies", &["passes", "in_use", "reason"]),
+    (
+        "packs",
+        &["passes", "in_use", "reason", "version", "flags", "clean"],
+    ),
+    ("partitions", &["number", "first", "bytes", "marked"]),
+    (
+        "names",
+        &[
+            "name", "name_hex", "inode", "kind", "size", "answer", "meaning", "reason",
+        ],
+    ),
     (
         "runs",
         &[
@@ -51,7 +96,12 @@ const INNER_KEYS: [(&str, &[&str]); 3] = [
             "kind",
             "number",
             "difference",
+            "new_answer",
+            "new_reason",
             "same_bytes",
+            "byte",
+            "before",
+            "now",
         ],
     ),
     (
@@ -59,11 +109,14 @@ const INNER_KEYS: [(&str, &[&str]); 3] = [
         &[
             "index",
             "kept",
+            "kept_reason",
             "answer",
             "meaning",
             "kind",
             "number",
             "difference",
+            "new_answer",
+            "new_reason",
         ],
     ),
     ("way", &["place", "slot"]),
@@ -95,21 +148,19 @@ fn words_of(answer: u32) -> String {
 }
 
 /// What an answer of a command means. Words of their own for some commands stand in a bracket behind the
-/// usual ones: "data (for .., .. and ..: found)".
+/// usual ones: "data (for .., .. and ..: found; for ..: can be read)".
 pub fn meaning(command: &str, answer: u32) -> String {
     let words = words_of(answer);
     let Some((usual, others)) = words.split_once(" (for ") else {
         return words;
     };
     let others = others.strip_suffix(')').expect("a bracket's end");
-    let (commands, own) = others.split_once(": ").expect("words of their own");
-    let mut commands = commands.split([',', ' ']);
-    let words = if commands.any(|of| of == command) {
-        own
-    } else {
-        usual
-    };
-    words.to_string()
+    let own = others.split("; for ").find_map(|part| {
+        let (commands, own) = part.split_once(": ").expect("words of their own");
+        let mut commands = commands.split([',', ' ']);
+        commands.any(|of| of == command).then_some(own)
+    });
+    own.unwrap_or(usual).to_string()
 }
 
 /// A command's own words on JSON name each key, as often as it stands in another object, and nothing else.
@@ -187,6 +238,19 @@ pub fn shown(name: &[u8]) -> String {
         [chunk.valid(), &wrong].concat()
     };
     name.utf8_chunks().map(each).collect()
+}
+
+/// So many things, as words have it: "1 block", "4,096 blocks".
+pub fn counted(count: usize, thing: &str) -> String {
+    let plural = if count == 1 { "" } else { "s" };
+    format!("{} {thing}{plural}", with_commas(count))
+}
+
+pub fn with_commas(count: usize) -> String {
+    let digits = count.to_string();
+    let groups = digits.as_bytes().rchunks(3).rev();
+    let groups = groups.map(|group| std::str::from_utf8(group).expect("digits"));
+    groups.collect::<Vec<_>>().join(",")
 }
 
 /// Data, holes and what was found are read; everything else is refused.

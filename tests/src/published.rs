@@ -1,6 +1,6 @@
 //! Images that the published tools write: mkfs.f2fs and sload.f2fs, which Debian has in f2fs-tools.
 
-use std::ffi::OsStr;
+use std::ffi::{OsStr, OsString};
 use std::fs;
 use std::io::Read;
 use std::os::unix::ffi::OsStrExt;
@@ -47,6 +47,14 @@ impl Scratch {
 
     pub fn path(&self, name: impl AsRef<Path>) -> PathBuf {
         self.0.join(name)
+    }
+
+    /// The names in it, in order.
+    pub fn names(&self) -> Vec<OsString> {
+        let entries = fs::read_dir(self.folder()).unwrap();
+        let mut names: Vec<_> = entries.map(|entry| entry.unwrap().file_name()).collect();
+        names.sort();
+        names
     }
 
     pub fn image_path(&self) -> PathBuf {

@@ -8,7 +8,8 @@ use crate::answers::Answers;
 use crate::card::ROOT;
 use crate::image::Image;
 use crate::layout::BLOCK_SIZE;
-use crate::lent::{Lens, Lent, Pattern, Slice, LEAST_BLOCKS, LEAST_NODES, NUMBER_SIZE};
+use crate::lent::{Lens, Lent, Pattern, Slice, NUMBER_SIZE};
+use crate::sizes::{BLOCKS_MOST, NODES_MOST};
 use crate::trial::Trial;
 use crate::Pulled;
 
@@ -124,8 +125,8 @@ impl Outcome {
         vec![
             ("answer", self.pulled.answer <= 14),
             ("byte count", bytes.contains(&self.pulled.byte_count)),
-            ("node count", nodes.len() <= LEAST_NODES),
-            ("block count", blocks.len() <= LEAST_BLOCKS),
+            ("node count", nodes.len() <= NODES_MOST as usize),
+            ("block count", blocks.len() <= BLOCKS_MOST as usize),
             ("lists of the unopened", opened || blocks.is_empty()),
             ("root in the lists", opened == nodes.contains(&ROOT)),
             ("rising lists", rising(&nodes) && rising(&blocks)),

@@ -2,7 +2,7 @@
 
 use std::fmt::{Debug, Formatter, Result};
 use std::io::{self, Read};
-use std::process::{Child, Command, Stdio};
+use std::process::{Child, Command, ExitStatus, Stdio};
 use std::sync::mpsc::{channel, Receiver};
 use std::thread;
 use std::time::{Duration, Instant};
@@ -123,13 +123,7 @@ impl Running {
         self.read();
         let [out, err] = [self.out.take(), self.err.take()]
             .map(|bytes| bytes.map(|bytes| self.wait(bytes)).unwrap_or_default());
-        let status = loop {
-            match self.child.try_wait().expect("the status of a run") {
-                Some(status) => break status,
-                None if Instant::now() > self.deadline => self.end_by_force(),
-                None => thread::sleep(PAUSE),
-            }
-        };
+        let status = self.status();
         let line = self.line;
         let code = status.code();
         Ran {
@@ -137,6 +131,25 @@ impl Running {
             out,
             err: String::from_utf8_lossy(&err).into_owned(),
             line,
+        }
+    }
+
+    /// Sends it a signal, which has to end it.
+    pub fn end_by(mut self, signal: &str) {
+        let id = self.child.id().to_string();
+        let sent = Command::new("kill").args(["-s", signal, &id]).status();
+        assert!(sent.is_ok_and(|sent| sent.success()), "{signal} is sent");
+        let ended = self.status();
+        assert!(ended.code().is_none(), "{} by {signal}: {ended}", self.line);
+    }
+
+    fn status(&mut self) -> ExitStatus {
+        loop {
+            match self.child.try_wait().expect("the status of a run") {
+                Some(status) => break status,
+                None if Instant::now() > self.deadline => self.end_by_force(),
+                None => thread::sleep(PAUSE),
+            }
         }
     }
 

@@ -4,13 +4,14 @@
 use std::ffi::OsStr;
 use std::fs;
 use std::path::{Path, PathBuf};
-use std::process::{Command, Output};
+use std::process::{Command, Stdio};
 
 use harptimber_tests::card::Card;
 use harptimber_tests::directory::Dentry;
 use harptimber_tests::image::Image;
 use harptimber_tests::knobs::{Knobs, Pack};
 use harptimber_tests::published::Scratch;
+use harptimber_tests::running::ran;
 use harptimber_tests::trial::Random;
 
 fn root() -> PathBuf {
@@ -135,21 +136,52 @@ fn card(byte: u8) -> Image {
     card.image
 }
 
+/// Each step has its own words: which file, and what is wrong with it.
 #[test]
 fn example_runs() {
     let folder = Scratch::new();
     let program = build_example(&folder);
-    let [kept, changed] = ["kept", "changed"].map(|name| folder.path(name));
+    let [kept, changed, empty, zeros, none] =
+        ["kept", "changed", "empty", "zeros", "none"].map(|name| folder.path(name));
     card(b'r').save(&kept);
     card(b's').save(&changed);
-    let run = |fresh: &Path| -> Output {
-        let mut command = Command::new(&program);
-        command.args([&kept, fresh]).output().expect("the example")
-    };
-    for (fresh, status) in [(&kept, 0), (&changed, 1)] {
-        let output = run(fresh);
-        assert_eq!(output.status.code(), Some(status), "{}", fresh.display());
-        assert_eq!(output.stdout, [b'r'; 100], "{}", fresh.display());
+    fs::write(&empty, "").unwrap();
+    fs::write(&zeros, [0; 8192]).unwrap();
+    let road: &[u8] = &[b'r'; 100];
+    for (cards, status, out, err) in [
+        ([&kept, &kept], 0, road, ""),
+        ([&kept, &changed], 1, road, "changed: changed"),
+        ([&kept, &zeros], 2, road, "zeros: neither copy"),
+        ([&zeros, &kept], 2, b"", "zeros: neither copy"),
+        ([&none, &kept], 2, b"", "none: No such file"),
+        ([&kept, &none], 2, b"", "none: No such file"),
+        ([&empty, &kept], 2, b"", "empty: is empty"),
+    ] {
+        let ran = ran(Command::new(&program).args(cards), Stdio::piped()).expect(status);
+        assert_eq!(ran.out, out, "output of {ran:?}");
+        assert!(ran.err.contains(err), "no '{err}' in {ran:?}");
+        assert_eq!(ran.err.lines().count(), usize::from(status != 0), "{ran:?}");
     }
-    assert_eq!(run(&folder.path("none")).status.code(), Some(2));
+    ran(&mut Command::new(&program), Stdio::piped()).expect_message(3, &["usage: "]);
+}
+
+/// The change that the README asks to try is a must-fail edit, so that it is refused in the gate too.
+#[test]
+fn change_to_see_refused() {
+    let readme = read("README.md");
+    let line = readme.lines().find(|line| line.starts_with("    sed -i "));
+    let words: Vec<&str> = line.expect("a change").split('\'').collect();
+    let [_, command, path] = words[..] else {
+        panic!("{words:?}");
+    };
+    let [_, old, new, _] = command.split('/').collect::<Vec<_>>()[..] else {
+        panic!("{command}");
+    };
+    let source = read(path.trim());
+    assert_eq!(source.matches(old).count(), 1, "'{old}' in {path}");
+    let edit = read("crates/compare/must-fail/block_with_itself.edit");
+    let part = |key| edit.lines().find_map(|line| line.strip_prefix(key));
+    let [from, to] = ["old: ", "new: "].map(|key| part(key).expect("a part of an edit"));
+    assert!(source.replace(old, new) == source.replace(from, to));
+    assert!(readme.contains(&format!("`git checkout {}`", path.trim())));
 }

@@ -134,6 +134,16 @@ impl Tight {
         }
     }
 
+    /// A pull that reads no block: the root's number isn't in use.
+    fn no_blocks(&mut self, script: &mut Script) {
+        let sound = self.card.image.clone();
+        self.card.set_entry(ROOT, ROOT, 0);
+        let (_, blocks) = lists(&Call::new(&self.card.image, NAME, 0));
+        assert!(blocks.is_empty(), "{blocks:?}");
+        assert_eq!(script.pull(&sound, &self.card.image, NAME, 0), 9);
+        self.card.image.undo(0);
+    }
+
     /// Entries in the last slots of a directory block at the image's end, that fit and that don't.
     fn slots(&mut self, script: &mut Script) {
         let sound = self.card.image.clone();
@@ -194,6 +204,7 @@ fn tight_card(script: &mut Script) {
     let mut tight = Tight::new();
     tight.pulls(script);
     tight.slots(script);
+    tight.no_blocks(script);
     tight.ends(script);
 }
 
@@ -280,9 +291,9 @@ fn valgrind_on_program() {
     let kept = filled_with(100, "", &[long, (b"short".to_vec(), short.clone())]);
     let mut fresh = kept.clone();
     fresh.set(node_lookup(kept.bytes(), ROOT).address, I_MODE, 0);
-    let [kept, fresh] = [&kept, &fresh].map(CardFile::of);
-    let [kept, fresh] = [kept.path(), fresh.path()];
-    let [kept, fresh] = [kept.as_os_str(), fresh.as_os_str()];
+    let [kept, copy, fresh] = [&kept, &kept, &fresh].map(CardFile::of);
+    let [kept, copy, fresh] = [kept.path(), copy.path(), fresh.path()];
+    let [kept, copy, fresh] = [kept.as_os_str(), copy.as_os_str(), fresh.as_os_str()];
     let word = OsStr::new;
     let read = expect_status(0, &[word("cat"), kept, word("short")]);
     assert!(read == short, "bytes of the file");
@@ -294,7 +305,12 @@ fn valgrind_on_program() {
             &[&options[..], &[image, word("long"), word("873")]].concat(),
         );
     }
-    for (status, new) in [(0, kept), (1, fresh)] {
+    for (status, new) in [(0, copy), (1, fresh)] {
+        let names = [word("short"), word("long")];
+        expect_status(
+            status,
+            &[&[word("compare"), kept, new], &names[..]].concat(),
+        );
         expect_status(status, &[word("compare"), kept, new, word("short")]);
     }
 }

@@ -1,13 +1,14 @@
 //! Node lookup: the image's length, and which of several answers comes first.
 
 use harptimber_tests::image::Image;
-use harptimber_tests::knobs::{self, Knobs};
+use harptimber_tests::knobs::Knobs;
 use harptimber_tests::layout::checkpoint::{CHECKSUM_OFFSET, CKPT_FLAGS, CP_LARGE_NAT_BITMAP_FLAG};
 use harptimber_tests::layout::superblock::{FEATURE, MAGIC};
 use harptimber_tests::layout::BLOCK_SIZE;
 use harptimber_tests::lookups::Lookups;
+use harptimber_tests::sizes::CARD_BLOCKS_MOST;
 
-const MOST_BLOCKS: usize = knobs::MOST_BLOCKS as usize;
+const MOST_BLOCKS: usize = CARD_BLOCKS_MOST as usize;
 const NUMBERS: [u32; 4] = [0, 1, 3, u32::MAX];
 
 /// Looks up numbers in the first `len` bytes; `answer` is that of numbers in range.

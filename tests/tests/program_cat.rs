@@ -3,6 +3,7 @@
 use std::fs;
 use std::sync::Arc;
 
+use harptimber_tests::json::Json;
 use harptimber_tests::layout::BLOCK_SIZE;
 use harptimber_tests::on_disk::{OnDisk, Shared};
 use harptimber_tests::program::run;
@@ -103,7 +104,8 @@ fn json_with_output() {
     }
 }
 
-/// What comes before the block that is refused is written, and the message names that block.
+/// What comes before the block that is refused is on standard output, and the message names that block. A
+/// file isn't made.
 #[test]
 fn refused_on_the_way() {
     let card = shared_card();
@@ -115,21 +117,27 @@ fn refused_on_the_way() {
         "block 2:",
         "(answer 13)",
         &meaning("cat", 13),
-        " 8192 bytes",
+        " 8,192 bytes",
     ] {
         assert!(ran.err.contains(part), "no '{part}' in {ran:?}");
     }
     let output = card.disk.scratch.path("refused_on_the_way");
     let ran = run(&[&"cat", &"--json", &"-o", &output, &path, &OUTSIDE]).expect(2);
-    expect_bytes(OUTSIDE, &fs::read(&output).unwrap(), before);
+    assert!(!output.exists(), "made by {ran:?}");
+    let counts = |json: &Json| ["index", "bytes", "blocks", "holes"].map(|key| json[key].number());
     let json = ran.json();
     expect_head(&json, "cat", 13);
-    let keys = ["index", "bytes", "blocks", "holes"];
-    let counts = keys.map(|key| json[key].number());
-    assert_eq!(counts, [2, 2 * BLOCK_SIZE as u64, 2, 0], "in {json:?}");
+    assert_eq!(counts(&json), [2, 0, 0, 0], "in {json:?}");
+    let ran = run(&[&"cat", &"--json", &"-o", &"-", &path, &OUTSIDE]).expect(2);
+    expect_bytes(OUTSIDE, &ran.out, before);
+    let json = Json::parse(&ran.err).expect("an object");
+    assert_eq!(counts(&json), [2, before.len() as u64, 2, 0], "in {json:?}");
+    let ran = run(&[&"cat", &"-o", &output, &path, &OUTSIDE]);
+    ran.expect_message(2, &["block 2:", "; nothing was written\n"]);
+    assert!(!output.exists(), "made by cat");
 }
 
-/// Refused behind many holes, and at the first block. Then no file is written.
+/// Refused behind many holes, and at the first block. A file stays as it was.
 #[test]
 fn refused() {
     let card = shared_card();
@@ -146,12 +154,7 @@ fn refused() {
         let json = ran.json();
         expect_head(&json, "cat", *answer);
         assert_eq!(json["index"].number(), u64::from(*index), "in {json:?}");
-        let written = fs::read(&kept).unwrap();
-        if *index == 0 {
-            assert_eq!(written, b"kept", "touched by {ran:?}");
-            assert_eq!(json["bytes"].number(), 0, "in {json:?}");
-        } else {
-            assert_eq!(written.len(), *index as usize * BLOCK_SIZE);
-        }
+        assert_eq!(fs::read(&kept).unwrap(), b"kept", "touched by {ran:?}");
+        assert_eq!(json["bytes"].number(), 0, "in {json:?}");
     }
 }

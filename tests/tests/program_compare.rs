@@ -8,24 +8,27 @@ use harptimber_tests::layout::nat::BLOCK_ADDR;
 use harptimber_tests::layout::superblock::SEGMENT_COUNT_MAIN;
 use harptimber_tests::layout::BLOCK_SIZE;
 use harptimber_tests::on_disk::OnDisk;
-use harptimber_tests::program::{run, Words};
+use harptimber_tests::program::{run, Ran, Words};
 use harptimber_tests::program_card::{ProgramCard, EMPTY, LONG, NAMES, OUTSIDE, ROAD};
 use harptimber_tests::program_compares::Expected;
 use harptimber_tests::program_page::{expect_head, expect_name, shown};
 use harptimber_tests::published::{filled_on, File};
+use harptimber_tests::special_build::SpecialBuild;
 use harptimber_tests::trial::Random;
 
 /// A kept card and a new one, which are the same but for what a test changes.
 struct Cards {
     kept: ProgramCard,
     fresh: OnDisk,
+    run: Box<dyn Fn(Words) -> Ran>,
 }
 
 impl Cards {
     fn new() -> Cards {
         let kept = ProgramCard::build();
         let fresh = OnDisk::new(kept.disk.image.clone());
-        Cards { kept, fresh }
+        let run = Box::new(run);
+        Cards { kept, fresh, run }
     }
 
     /// Changes the new image, in memory and in its file.
@@ -71,10 +74,15 @@ impl Cards {
         let expected = Expected::of(images, name, index);
         let paths = [self.kept.disk.path(), self.fresh.path()];
         let index = index.unwrap_or(0);
-        let words: Words = &[&"compare", &"--", &paths[0], &paths[1], &name, &index];
-        let words = &words[..words.len() - usize::from(expected.whole())];
+        let words: Words = &[
+            &"--index", &index, &"compare", &"--", &paths[0], &paths[1], &name,
+        ];
+        let words = &words[2 * usize::from(expected.whole())..];
+        let run = &self.run;
         let in_words = run(words).expect(expected.status);
-        expected.expect_words(in_words.words());
+        expected.expect_words(in_words.words(), true);
+        let quiet = run(&[&[&"-q" as _], words].concat()).expect(expected.status);
+        assert_eq!((quiet.words(), quiet.err.as_str()), ("", ""));
         let as_json = run(&[&[&"--json" as _], words].concat()).expect(expected.status);
         let json = as_json.json();
         expect_head(&json, "compare", expected.answer);
@@ -96,18 +104,6 @@ fn same() {
     }
 }
 
-#[test]
-fn same_path_twice() {
-    let kept = ProgramCard::build();
-    let path = kept.disk.path();
-    let json = run(&[&"compare", &"--json", &path, &path, &ROAD])
-        .expect(0)
-        .json();
-    expect_head(&json, "compare", 15);
-    let image = &kept.disk.image;
-    Expected::of([image, image], ROAD, None).expect_json(&json);
-}
-
 /// Cards that the published tools write before and after a change of two bytes.
 #[test]
 fn published_cards() {
@@ -127,7 +123,7 @@ fn published_cards() {
         let expected = Expected::of(cards, name.as_bytes(), None);
         assert_eq!(expected.status, status, "of {name}");
         let words: Words = &[&"compare", &kept.path(), &fresh.path(), &name];
-        expected.expect_words(run(words).expect(status).words());
+        expected.expect_words(run(words).expect(status).words(), true);
         let ran = run(&[words, &[&"--json"]].concat()).expect(status);
         expected.expect_json(&ran.json());
     }
@@ -188,19 +184,22 @@ fn main_area() {
         image.set(0, SEGMENT_COUNT_MAIN, 2);
         image.set(1, SEGMENT_COUNT_MAIN, 2);
     });
-    for name in [ROAD, OUTSIDE, b"no such name", EMPTY] {
+    for name in [ROAD, OUTSIDE, EMPTY] {
         assert_eq!(cards.expect(name), 1, "of {}", shown(name));
     }
+    assert_eq!(cards.expect(b"no such name"), 4, "on neither card");
 }
 
-/// Where the kept card refuses, that is said; unless something changed.
+/// Where the kept card refuses, that is said; unless something changed. A name that is on neither card is
+/// the question's fault.
 #[test]
 fn refused_by_kept() {
     let mut cards = Cards::new();
     let refused = cards.kept.refused.clone();
-    for (name, index, _) in &refused {
-        assert_eq!(cards.expect(name), 2, "of {}", shown(name));
-        assert_eq!(cards.expect_at(name, Some(*index)), 2);
+    for (name, index, answer) in &refused {
+        let status = if *answer == 2 { 4 } else { 2 };
+        assert_eq!(cards.expect(name), status, "of {}", shown(name));
+        assert_eq!(cards.expect_at(name, Some(*index)), status);
     }
     assert_eq!(cards.expect_at(ROAD, Some(6)), 2, "past the end");
     let blocks = cards.kept.outside.blocks.clone();
@@ -238,4 +237,74 @@ fn empty_file() {
     cards.undo();
     assert_eq!(cards.expect_at(EMPTY, Some(0)), 2, "no block 0");
     assert_eq!(cards.expect_at(EMPTY, None), 0, "still empty");
+}
+
+/// Where damage may strike without making a file so long that a compare takes hours: a size's higher bytes stay.
+fn strike(random: &mut Random, block: u32, inode: bool, image: &mut Image) {
+    let ends = [32, 400, BLOCK_SIZE as u64][random.below(3) as usize];
+    let from_end = random.below(4) == 0;
+    let at = random.below(ends) as usize;
+    let at = if from_end {
+        BLOCK_SIZE - 1 - at % 48
+    } else {
+        at
+    };
+    if !inode || !(18..24).contains(&at) {
+        let byte = [0, 255, random.number() as u8, image.block(block)[at] ^ 1];
+        image.put("damage", block, at, &[byte[random.below(4) as usize]]);
+    }
+}
+
+/// Nodes and directory blocks with a few bytes changed anywhere, on the new card. Returns how often each status came.
+fn damage(cards: &mut Cards, random: &mut Random, rounds: usize) -> [u32; 5] {
+    let [root, road] = [3, cards.kept.file(ROAD).ino].map(|ino| cards.kept.card.inode_block(ino));
+    let node = cards.kept.card.node(cards.kept.file(LONG).ino, 1).block;
+    let directory = cards.kept.card.directory[&0];
+    let data = cards.kept.file(ROAD).blocks[&1];
+    let targets = [
+        (root, true),
+        (road, true),
+        (node, false),
+        (directory, false),
+        (data, false),
+    ];
+    let mut statuses = [0; 5];
+    for _ in 0..rounds {
+        let (block, inode) = targets[random.below(5) as usize];
+        let strikes = 1 + random.below(6);
+        cards.change(|image| (0..strikes).for_each(|_| strike(random, block, inode, image)));
+        // The long file takes long, and has a node of its own.
+        let other: &[u8] = if block == node { LONG } else { b"4097" };
+        for name in [ROAD, other, b"no such name"] {
+            statuses[cards.expect_at(name, None) as usize] += 1;
+        }
+        cards.undo();
+    }
+    println!(
+        "compare of damaged cards: {} inputs compared, statuses {statuses:?}",
+        3 * rounds
+    );
+    statuses
+}
+
+#[test]
+fn damaged() {
+    let mut cards = Cards::new();
+    let statuses = damage(&mut cards, &mut Random::new(41), 40);
+    assert!(
+        [0, 1, 4].iter().all(|&status| statuses[status] > 9),
+        "{statuses:?}"
+    );
+}
+
+#[test]
+fn damaged_under_sanitizers() {
+    let build = SpecialBuild::sanitized();
+    let mut cards = Cards::new();
+    cards.run = Box::new(move |words| build.run(words));
+    let statuses = damage(&mut cards, &mut Random::new(42), 8);
+    assert!(
+        [0, 1, 4].iter().all(|&status| statuses[status] > 1),
+        "{statuses:?}"
+    );
 }

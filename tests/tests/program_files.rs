@@ -2,9 +2,8 @@
 
 use std::fs::{self, File};
 use std::os::unix::ffi::OsStrExt;
-use std::os::unix::fs::{MetadataExt, PermissionsExt};
+use std::os::unix::fs::PermissionsExt;
 use std::path::Path;
-use std::process::{Command, Stdio};
 
 use harptimber_tests::held::make_fifo;
 use harptimber_tests::program::*;
@@ -24,7 +23,7 @@ fn expect_unreadable(bad: &Path, why: &str, run: impl Fn(Words) -> Ran) {
         &[&"cat", &bad, &ROAD],
         &[&"node", &bad, &"3"],
         &[&"compare", &good, &bad, &ROAD],
-        &[&"compare", &bad, &good, &ROAD, &"0"],
+        &[&"compare", &"--index=0", &bad, &good, &ROAD],
         &[&"compare", &"--json", &bad, &bad, &ROAD],
     ];
     for line in lines {
@@ -72,20 +71,6 @@ fn devices() {
     for device in ["/dev/null", "/dev/zero", "/dev/full"] {
         expect_unreadable(Path::new(device), NO_IMAGE, run);
     }
-}
-
-/// As somebody who may not read what isn't theirs to read, as root may.
-fn run_without_privilege(words: Words) -> Ran {
-    let command = command(words);
-    if fs::metadata("/proc/self").unwrap().uid() != 0 {
-        return run(words);
-    }
-    let mut without = Command::new("setpriv");
-    let none = "-dac_override,-dac_read_search";
-    without.arg(format!("--bounding-set={none}"));
-    without.arg(format!("--inh-caps={none}"));
-    without.arg(command.get_program()).args(command.get_args());
-    ran(&mut without, Stdio::piped())
 }
 
 #[test]

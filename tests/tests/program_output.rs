@@ -6,6 +6,7 @@ use std::path::{Path, PathBuf};
 use std::process::{Command, Stdio};
 
 use harptimber_tests::json::Json;
+use harptimber_tests::on_disk::OnDisk;
 use harptimber_tests::program::{ran, run, run_by_shell, run_to, Words};
 use harptimber_tests::program_card::{shared_card, ProgramCard, ROAD};
 
@@ -195,14 +196,15 @@ fn full_standard_error() {
 #[test]
 fn full_standard_output() {
     let card = shared_card();
-    let path = card.disk.path();
+    let other = OnDisk::new(card.disk.image.clone());
+    let [path, new] = [card.disk.path(), other.path()];
     let lines: [Words; 12] = [
         &[&"pull", &path, &ROAD, &"0"],
         &[&"pull", &"--lists", &"--json", &path, &ROAD, &"0"],
         &[&"cat", &path, &ROAD],
         &[&"cat", &path, &"one byte"],
-        &[&"compare", &path, &path, &ROAD],
-        &[&"compare", &"--json", &path, &path, &ROAD],
+        &[&"compare", &path, &new, &ROAD],
+        &[&"compare", &"--json", &path, &new, &ROAD],
         &[&"node", &path, &"3"],
         &[&"place", &"923", &"0"],
         &[&"hash", &"name"],
@@ -257,7 +259,14 @@ fn block_devices() {
     let device = attached.path.clone();
     let read = run(&[&"cat", &device, &ROAD]).expect(0);
     assert!(read.out == card.file(ROAD).bytes(&card.card.image));
-    run(&[&"compare", &image, &device, &ROAD]).expect(0);
+    let other = OnDisk::new(card.disk.image.clone());
+    run(&[&"compare", &other.path(), &device, &ROAD]).expect(0);
+    let again = Loop::attach(&image).expect("a second loop device");
+    let same = [&image, &device, &again.path];
+    for [kept, new] in same.iter().flat_map(|kept| same.map(|new| [*kept, new])) {
+        let ran = run(&[&"compare", kept, new, &ROAD]);
+        ran.expect_message(3, &["one and the same card"]);
+    }
     let itself = "is the card image itself";
     let refused = [
         (&image, &device, "is a block device"),

@@ -82,9 +82,11 @@ fn cat() {
 #[test]
 fn compare() {
     let card = Published::shared();
-    let (path, output) = (card.disk.path(), card.disk.scratch.path("compare"));
+    let other = OnDisk::new(card.disk.image.clone());
+    let (path, new) = (card.disk.path(), other.path());
+    let output = card.disk.scratch.path("compare");
     for (name, _) in SMALL.into_iter().chain([(LARGE, 0)]) {
-        let words: Words = &[&"compare", &path, &path, &name];
+        let words: Words = &[&"compare", &path, &new, &name];
         let said = run(words).expect(0);
         assert_eq!(said.err, "", "progress without a terminal");
         let beside = run_on_terminal(words, Some(&output)).expect(0);
@@ -97,7 +99,9 @@ fn compare() {
             _ => assert_eq!(beside.words(), "", "a small file's progress"),
         }
     }
-    let block: Words = &[&"compare", &path, &path, &LARGE, &"7"];
-    let one = run_on_terminal(block, Some(&output)).expect(0);
-    assert_eq!(one.words(), "", "progress of a single block");
+    for option in ["--index=7", "-q"] {
+        let words: Words = &[&"compare", &option, &path, &new, &LARGE];
+        let ran = run_on_terminal(words, Some(&output)).expect(0);
+        assert_eq!(ran.words(), "", "progress with {option}");
+    }
 }

@@ -6,7 +6,7 @@ use std::sync::Arc;
 
 use harptimber_tests::image::Image;
 use harptimber_tests::json::Json;
-use harptimber_tests::knobs::{Knobs, MOST_BLOCKS};
+use harptimber_tests::knobs::Knobs;
 use harptimber_tests::layout::checkpoint::{CHECKSUM, CKPT_FLAGS, CP_LARGE_NAT_BITMAP_FLAG};
 use harptimber_tests::layout::journal::N_NATS;
 use harptimber_tests::layout::superblock::{
@@ -15,8 +15,9 @@ use harptimber_tests::layout::superblock::{
 use harptimber_tests::layout::{Field, BLOCK_SIZE};
 use harptimber_tests::on_disk::{OnDisk, Shared};
 use harptimber_tests::program::{run, Words};
-use harptimber_tests::program_page::{expect_head, expect_name, meaning};
+use harptimber_tests::program_page::{counted, expect_head, expect_name, meaning, with_commas};
 use harptimber_tests::published::{formatted, Scratch};
+use harptimber_tests::sizes::CARD_BLOCKS_MOST;
 
 const NAME: &[u8] = b"road.bin";
 
@@ -74,22 +75,32 @@ impl Images {
     fn add_lengths(&mut self) {
         let block = BLOCK_SIZE as u64;
         let whole = sound().bytes().len() as u64;
-        let most = u64::from(MOST_BLOCKS) * block;
+        let most = u64::from(CARD_BLOCKS_MOST) * block;
         for len in [1, 2 * block - 1, whole - 1, whole + 1, most + 1] {
-            let bytes = if len == 1 { "byte" } else { "bytes" };
+            let bytes = counted(len as usize, "byte");
             let not_whole = "which isn't a whole number of 4,096-byte blocks";
+            self.add_length(len, 4, &format!(": the image has {bytes}, {not_whole}"));
+        }
+        let few = ": the image has 1 block of 4,096 bytes; a card has at least 2";
+        self.add_length(block, 4, few);
+        let larger = [
+            (most + block, "1 GiB (1,073,745,920 bytes)"),
+            (2 * most, "2 GiB"),
+            (5 * most / 2, "2.5 GiB (2,684,354,560 bytes)"),
+        ];
+        for (len, size) in larger {
             self.add_length(
                 len,
                 4,
-                &format!(": the image has {len} {bytes}, {not_whole}"),
+                &format!(": the image has {size}; at most 1 GiB is read"),
             );
         }
-        let (few, many) = ("a card has at least 2", "at most 262,144 are read");
-        self.add_length(block, 4, &format!(": the image has 1 block; {few}"));
-        let why = format!(": the image has 262145 blocks; {many}");
-        self.add_length(most + block, 4, &why);
         let [count, left] = [whole, whole - block].map(|len| len / block);
-        let why = format!("; the superblock counts {count} blocks, the image has {left}");
+        let counts = [count, left].map(|blocks| with_commas(blocks as usize));
+        let why = format!(
+            ": both copies: it counts {} blocks, the image has {}",
+            counts[0], counts[1]
+        );
         self.add_length(whole - block, 5, &why);
     }
 
@@ -104,26 +115,43 @@ impl Images {
     fn add_damaged(&mut self) {
         let pack = sound().first_block(0);
         let flags = sound().get(pack, CKPT_FLAGS) | u64::from(CP_LARGE_NAT_BITMAP_FLAG);
-        self.add_changed("a feature", 6, "", &[(0, FEATURE, 1)]);
-        self.add_changed("a payload", 6, "", &[(0, CP_PAYLOAD, 1)]);
-        self.add_changed("no checksum", 7, "", &[(pack, CHECKSUM, 1)]);
-        self.add_changed("39 in the journal", 8, "", &[(pack + 1, N_NATS, 39)]);
+        let why = ": features: encrypt";
+        self.add_changed("a feature", 6, why, &[(0, FEATURE, 1)]);
+        let why = ": cp_payload is 1";
+        self.add_changed("a payload", 6, why, &[(0, CP_PAYLOAD, 1)]);
+        let sum = sound().get(pack, CHECKSUM);
+        let why = format!(
+            ": pack 1: the checksum of its first block is 00000001, its bytes make {sum:08x}; \
+             pack 2: its first block is all zeros"
+        );
+        self.add_changed("no checksum", 7, &why, &[(pack, CHECKSUM, 1)]);
+        let why = ": the NAT journal counts 39 entries, at most 38 fit";
+        self.add_changed("39 in the journal", 8, why, &[(pack + 1, N_NATS, 39)]);
         let mut image = sound();
         image.set_sealed(pack, CKPT_FLAGS, flags);
-        self.add("a large map", 8, "", &image);
+        let why = ": large_nat_bitmap is set, which isn't read";
+        self.add("a large map", 8, why, &image);
     }
 
     /// With and without a mark, and with more blocks than there are in the one copy or the other.
     fn add_without_superblock(&mut self) {
-        let no_mark = "; no F2FS mark: is it another file system, or a whole disk with partitions?";
+        let no_mark = ": both copies: no F2FS mark; perhaps it is another file system";
         let fields = [(0, MAGIC, 0), (1, MAGIC, 0)];
         self.add_changed("no mark", 5, no_mark, &fields);
         let fields = [(0, LOG_BLOCKSIZE, 13), (1, LOG_BLOCKSIZE, 13)];
-        self.add_changed("larger blocks", 5, "", &fields);
+        let why = ": both copies: log_blocksize is 13, not 12";
+        self.add_changed("larger blocks", 5, why, &fields);
         let blocks = sound().bytes().len() / BLOCK_SIZE;
         let count = (1 << 33) + 9;
-        let why = format!("; the superblock counts {count} blocks, the image has {blocks}");
         for (copy, other) in [(0, 1), (1, 0)] {
+            let counts = [count, blocks as u64].map(|blocks| with_commas(blocks as usize));
+            let counts = format!(
+                "it counts {} blocks, the image has {}",
+                counts[0], counts[1]
+            );
+            let mut whys = ["no F2FS mark"; 2];
+            whys[copy as usize] = &counts;
+            let why = format!(": copy 1: {}; copy 2: {}", whys[0], whys[1]);
             let name = format!("many blocks by copy {copy}");
             let fields = [(copy, BLOCK_COUNT, count), (other, MAGIC, 0)];
             self.add_changed(&name, 5, &why, &fields);
@@ -131,8 +159,18 @@ impl Images {
     }
 
     fn add_published(&mut self) {
-        for (options, answer) in [("-O extra_attr", 6), ("-i", 7)] {
-            self.add(options, answer, "", &formatted(64, options));
+        let large = "both packs: its first block has checksum_offset 192, not 4092 \
+                     (large_nat_bitmap, by mkfs.f2fs -i)";
+        for (options, answer, why) in [
+            ("-O extra_attr", 6, "features: extra_attr"),
+            ("-i", 7, large),
+        ] {
+            self.add(
+                options,
+                answer,
+                &format!(": {why}"),
+                &formatted(64, options),
+            );
         }
     }
 
@@ -156,7 +194,13 @@ fn refused(command: &'static str, words: Words, answer: u32) -> Json {
 fn as_json() {
     let images = Images::shared();
     let output = images.scratch.path("output");
-    for Unopened { path, answer, .. } in &images.unopened {
+    for Unopened { path, answer, why } in &images.unopened {
+        let refused = |command, words: Words, answer| {
+            let json = refused(command, words, answer);
+            assert_eq!(json["reason"].text(), &why[2..], "in {json:?}");
+            json
+        };
+        refused("info", &[path], *answer);
         let json = refused("pull", &[path, &NAME, &"7"], *answer);
         assert_eq!(json["byte_count"].number(), 0);
         assert_eq!(json["nodes"].list().len() + json["blocks"].list().len(), 0);
@@ -176,12 +220,15 @@ fn as_json() {
 #[test]
 fn in_words() {
     let images = Images::shared();
+    let sound = OnDisk::new(sound());
+    let good = sound.path();
     for Unopened { path, answer, why } in &images.unopened {
-        let lines: [Words; 5] = [
+        let lines: [Words; 6] = [
+            &[&"info", path],
             &[&"pull", path, &NAME, &"0"],
             &[&"pull", &"--lists", path, &NAME, &"0"],
             &[&"node", path, &"3"],
-            &[&"compare", path, path, &NAME],
+            &[&"compare", path, &good, &NAME],
             &[&"cat", path, &NAME],
         ];
         for line in lines {
@@ -191,8 +238,9 @@ fn in_words() {
             let meaning = meaning("pull", *answer);
             let meaning = meaning.split(": ").next().unwrap();
             let part = format!(": {meaning} (answer {answer}){why}");
-            let behind = text.split_once(&part).map(|(_, behind)| behind);
-            let ends = ["\n", "; 0 bytes were written\n"].map(Some);
+            let first = text.lines().next().unwrap();
+            let behind = first.split_once(&part).map(|(_, behind)| behind);
+            let ends = ["", "; nothing was written"].map(Some);
             assert!(ends.contains(&behind), "no '{part}' in {ran:?}");
         }
     }
@@ -200,7 +248,7 @@ fn in_words() {
 
 /// With the side, and no runs.
 fn expect_side(kept: &PathBuf, new: &PathBuf, answer: u32, side: u64) {
-    let lines: [Words; 2] = [&[kept, new, &NAME], &[kept, new, &NAME, &"7"]];
+    let lines: [Words; 2] = [&[kept, new, &NAME], &[&"--index=7", kept, new, &NAME]];
     for line in lines {
         let json = refused("compare", line, answer);
         expect_name(&json, NAME);
@@ -211,7 +259,7 @@ fn expect_side(kept: &PathBuf, new: &PathBuf, answer: u32, side: u64) {
         let ran = run(&[&[&"compare" as _], line].concat()).expect(2);
         let named = [kept, new].map(|path| ran.words().contains(path.to_str().unwrap()));
         assert!(named[side as usize - 1], "not named: {ran:?}");
-        assert!(kept == new || named[0] != named[1], "both named: {ran:?}");
+        assert!(named[0] != named[1], "both named: {ran:?}");
     }
 }
 
@@ -223,7 +271,6 @@ fn sides() {
     for Unopened { path, answer, .. } in &images.unopened {
         expect_side(path, &good, *answer, 1);
         expect_side(&good, path, *answer, 2);
-        expect_side(path, path, *answer, 1);
     }
 }
 
@@ -232,17 +279,20 @@ fn sides() {
 fn both_sides() {
     let images = Images::shared();
     for kept in 4..=8 {
-        for new in 4..=8 {
-            let paths = [kept, new].map(|answer| images.path_with(answer));
-            expect_side(&paths[0], &paths[1], kept, 1);
+        let path = images.path_with(kept);
+        for new in (4..=8).filter(|&new| new != kept) {
+            expect_side(&path, &images.path_with(new), kept, 1);
         }
+        let copy = images.scratch.path("copy");
+        fs::copy(&path, &copy).unwrap();
+        expect_side(&path, &copy, kept, 1);
     }
 }
 
 /// A name that is none, on a card that opens.
 #[test]
 fn bad_names() {
-    let good = OnDisk::new(sound());
+    let [good, other] = [(); 2].map(|()| OnDisk::new(sound()));
     let path = good.path();
     let output = good.scratch.path("output");
     fs::write(&output, "kept").unwrap();
@@ -250,7 +300,7 @@ fn bad_names() {
         let json = refused("pull", &[&path, &name, &"0"], 4);
         expect_name(&json, &name);
         refused("cat", &[&"-o", &output, &path, &name], 4);
-        let json = refused("compare", &[&path, &path, &name], 4);
+        let json = refused("compare", &[&path, &other.path(), &name], 4);
         assert_eq!(json["side"].number(), 0, "side of a name in {json:?}");
     }
     assert_eq!(fs::read(&output).unwrap(), b"kept");

@@ -7,7 +7,9 @@ use harptimber_tests::program::{host, ran, run, Word, Words};
 use harptimber_tests::program_page::{expect_keys_on_page, meaning};
 
 /// Each command with as many words as it needs. The files aren't there: usage comes first.
-const COMMANDS: [(&str, &[&str]); 6] = [
+const COMMANDS: [(&str, &[&str]); 8] = [
+    ("info", &["card.img"]),
+    ("ls", &["card.img"]),
     ("pull", &["card.img", "road.bin", "0"]),
     ("cat", &["card.img", "road.bin"]),
     ("compare", &["kept.img", "new.img", "road.bin"]),
@@ -49,11 +51,10 @@ fn missing_words() {
 #[test]
 fn words_too_many() {
     for (command, words) in COMMANDS {
-        let more: &[&str] = match command {
-            "compare" => &["0", "0"],
-            _ => &["0"],
-        };
-        expect_usage(&[&[command], words, more].concat());
+        // Of names there may be any number.
+        if command != "compare" {
+            expect_usage(&[&[command], words, &["0"]].concat());
+        }
     }
     expect_usage(&["--help=now"]);
 }
@@ -73,10 +74,19 @@ fn unknown_commands_and_options() {
 /// An option of another command.
 #[test]
 fn options_elsewhere() {
-    for command in ["cat", "compare", "node", "place", "hash"] {
+    for command in ["info", "ls", "cat", "compare", "node", "place", "hash"] {
         expect_usage_with(&line_of(command), &["--lists"]);
     }
-    for command in ["compare", "node", "place", "hash"] {
+    for command in ["info", "ls", "pull", "cat", "node", "place", "hash"] {
+        for option in ["-q", "--quiet", "-v", "--verbose", "--index=0"] {
+            expect_usage_with(&line_of(command), &[option]);
+        }
+    }
+    for command in ["place", "hash"] {
+        expect_usage_with(&line_of(command), &["--offset", "0"]);
+        expect_usage_with(&line_of(command), &["--partition=1"]);
+    }
+    for command in ["info", "ls", "compare", "node", "place", "hash"] {
         expect_usage_with(&line_of(command), &["-o", "file"]);
         expect_usage_with(&line_of(command), &["--output=file"]);
     }
@@ -124,11 +134,40 @@ fn no_numbers() {
         for options in [&[][..], &["--json"], &["--"]] {
             let expect = |words: &[&str]| expect_usage(&[options, words].concat());
             expect(&["pull", "card.img", "road.bin", wrong]);
-            expect(&["compare", "kept.img", "new.img", "road.bin", wrong]);
             expect(&["node", "card.img", wrong]);
             expect(&["place", wrong, "0"]);
             expect(&["place", "923", wrong]);
         }
+        for json in [&[][..], &["--json"]] {
+            let index = [
+                "compare", "--index", wrong, "kept.img", "new.img", "road.bin",
+            ];
+            expect_usage(&[json, &index].concat());
+        }
+    }
+}
+
+/// Where the card starts may have 63 bits, and a partition's number 32.
+#[test]
+fn no_numbers_of_parts() {
+    let wide = ["4294967296", "4294967297"];
+    let too_wide = "9223372036854775808";
+    for (command, _) in COMMANDS
+        .iter()
+        .filter(|(of, _)| *of != "place" && *of != "hash")
+    {
+        let offsets = NO_NUMBERS.iter().filter(|wrong| !wide.contains(wrong));
+        for wrong in offsets.chain([&too_wide]) {
+            expect_usage(&[&line_of(command)[..], &["--offset", wrong]].concat());
+        }
+        for wrong in NO_NUMBERS {
+            expect_usage(&[&line_of(command)[..], &["--partition", wrong]].concat());
+        }
+        for option in ["--offset", "--partition"] {
+            expect_usage(&[&line_of(command)[..], &[option]].concat());
+        }
+        let both = ["--offset", "0", "--partition", "1"];
+        expect_usage_with(&line_of(command), &both);
     }
 }
 
@@ -175,18 +214,36 @@ fn help() {
             let named = ran.words().split_whitespace().any(is_word);
             assert!(named, "no {command} in {ran:?}");
         }
-        for option in ["--json", "--lists", "-o", "--version"] {
+        for option in [
+            "--json",
+            "--lists",
+            "--index",
+            "-q",
+            "-v",
+            "-o",
+            "--offset",
+            "--partition",
+            "--version",
+        ] {
             assert!(ran.words().contains(option), "no {option} in {ran:?}");
         }
     }
 }
 
 /// The options of each command's own page, beside --help.
-const PAGES: [(&str, &[&str]); 6] = [
-    ("pull", &["-o", "--lists", "--json"]),
-    ("cat", &["-o", "--json"]),
-    ("compare", &["--json"]),
-    ("node", &["--json"]),
+const PAGES: [(&str, &[&str]); 8] = [
+    ("info", &["--offset", "--partition", "--json"]),
+    ("ls", &["--offset", "--partition", "--json"]),
+    (
+        "pull",
+        &["-o", "--lists", "--offset", "--partition", "--json"],
+    ),
+    ("cat", &["-o", "--offset", "--partition", "--json"]),
+    (
+        "compare",
+        &["--index", "-q", "-v", "--offset", "--partition", "--json"],
+    ),
+    ("node", &["--offset", "--partition", "--json"]),
     ("place", &["--json"]),
     ("hash", &["--json"]),
 ];
@@ -200,7 +257,8 @@ fn own_pages() {
         let usage = format!("Usage: harptimber {command} ");
         assert!(page.words().starts_with(&usage), "of {page:?}");
         assert!(page.words().contains("\nExit status:\n"), "of {page:?}");
-        for option in ["-o", "--lists", "--json"] {
+        let all = ["-o", "--lists", "--index", "-q", "-v", "--offset"];
+        for option in all.into_iter().chain(["--partition", "--json"]) {
             let takes = taken.contains(&option);
             let usage = page.words().lines().next().unwrap();
             assert_eq!(usage.contains(&format!("[{option}")), takes, "{page:?}");

@@ -7,7 +7,7 @@ use std::sync::Arc;
 use std::thread;
 use std::time::{Duration, SystemTime};
 
-use harptimber_tests::held::{Hold, Holder};
+use harptimber_tests::held::{Files, Hold, Holder};
 use harptimber_tests::program::{Ran, Words};
 use harptimber_tests::program_card::{shared_card, ProgramCard, LONG, ROAD};
 use harptimber_tests::published::Scratch;
@@ -46,12 +46,12 @@ impl Images {
     }
 
     /// Does something to the image in which a run is held, long after the last change to it.
-    fn run(&self, words: Words, hold: Hold, change: impl FnOnce(&File)) -> Ran {
+    fn run(&self, words: Words, hold: Hold, files: Files, change: impl FnOnce(&File)) -> Ran {
         let file = File::options().write(true).open(self.path(hold.image));
         let file = file.unwrap();
         file.set_modified(SystemTime::UNIX_EPOCH).unwrap();
         thread::sleep(TICK);
-        self.holder.run(words, hold, || change(&file))
+        self.holder.run_with(files, words, hold, || change(&file))
     }
 
     /// Each command that reads images, held at the last block that it reads.
@@ -72,27 +72,32 @@ impl Images {
         expect(&[&"pull", &"-o", &output, &kept, &ROAD, &"5"], road);
         expect(&[&"cat", &kept, &LONG], long);
         expect(&[&"cat", &"--json", &"-o", &output, &kept, &LONG], long);
+        let block = self.card.card.image.first_block(1);
+        let pack = Hold { image: 0, block };
+        expect(&[&"info", &kept], pack);
+        expect(&[&"info", &"--json", &kept], pack);
         expect(&[&"node", &kept, &ino], table);
         expect(&[&"node", &"--json", &kept, &ino], table);
         for (whole, one) in [(long, road), (on_new(long), on_new(road))] {
             expect(&[&"compare", &kept, &new, &LONG], whole);
             expect(&[&"compare", &"--json", &kept, &new, &LONG], whole);
-            expect(&[&"compare", &kept, &new, &ROAD, &"5"], one);
+            expect(&[&"compare", &"--index=5", &kept, &new, &ROAD], one);
         }
     }
 
-    /// A message that names the image, and no output but what cat has written by then.
-    fn expect_message(&self, words: Words, hold: Hold, message: &str, change: impl FnOnce(&File)) {
-        let ran = self.run(words, hold, change);
+    /// A message that names the image, no file, and nothing on standard output but what cat has written by then.
+    fn expect_message(&self, words: Words, hold: Hold, message: &str, change: impl Fn(&File)) {
         let message = format!("{}: {message}", self.path(hold.image).display());
-        if words[0].word() == "cat" {
-            ran.expect_errors(2, &[&message]);
-        } else {
-            ran.expect_message(2, &[&message]);
-            assert!(!self.output().exists(), "a file by a pull");
+        for files in [Files::AsHere, Files::Named] {
+            let ran = self.run(words, hold, files, &change);
+            if words[0].word() == "cat" {
+                ran.expect_errors(2, &[&message]);
+            } else {
+                ran.expect_message(2, &[&message]);
+            }
+            assert_eq!(self.scratch.names(), ["kept.img", "new.img"], "{files:?}");
+            self.restore(hold.image);
         }
-        // There if cat has written it.
-        let _ = fs::remove_file(self.output());
     }
 
     fn expect_changed(&self, change: impl Fn(&File)) {
@@ -111,8 +116,10 @@ fn write(file: &File) {
 fn nothing() {
     let images = Images::new();
     images.each(|words, hold| {
-        let ran = images.run(words, hold, |_| ()).expect(0);
-        assert!(!ran.err.contains("harptimber: "), "a message of {ran:?}");
+        for files in [Files::AsHere, Files::Named] {
+            let ran = images.run(words, hold, files, |_| ()).expect(0);
+            assert!(!ran.err.contains("harptimber: "), "a message of {ran:?}");
+        }
     });
 }
 
@@ -136,6 +143,5 @@ fn cut() {
     images.each(|words, hold| {
         let message = "can't be read any more: it was cut short, or its medium fails\n";
         images.expect_message(words, hold, message, |file| file.set_len(0).unwrap());
-        images.restore(hold.image);
     });
 }

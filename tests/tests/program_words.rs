@@ -6,9 +6,10 @@ use reference::hash::raw_hash;
 use reference::lookup::node_lookup;
 use reference::place::file_place;
 
+use harptimber_tests::on_disk::OnDisk;
 use harptimber_tests::program::{run, run_on_terminal, Ran, Words};
 use harptimber_tests::program_card::{shared_card, NAMES, REPEATING, ROAD};
-use harptimber_tests::program_page::{meaning, status_of};
+use harptimber_tests::program_page::{counted, meaning, status_of};
 
 /// Runs for words, the first line of which has the answer. A name's control bytes mustn't get through.
 fn words_of(command: &'static str, words: Words, answer: u32) -> Ran {
@@ -28,11 +29,6 @@ fn numbers_of(ran: &Ran, start: &str) -> Option<Vec<u32>> {
     let rest = lines.find_map(|line| line.strip_prefix(start))?;
     let numbers = rest.split_whitespace().map(str::parse);
     Some(numbers.map(|number| number.expect("a number")).collect())
-}
-
-fn counted(count: usize, thing: &str) -> String {
-    let plural = if count == 1 { "" } else { "s" };
-    format!("{count} {thing}{plural}")
 }
 
 #[test]
@@ -60,9 +56,13 @@ fn pulls() {
             0 => "\n".to_string(),
             count => format!(", {}\n", counted(count as usize, "byte")),
         };
-        let said = format!("(answer {answer}){count}");
-        // Why a file is inline may be told too.
-        assert!(ran.words().contains(&said) || answer == 12, "of {ran:?}");
+        // Where a walk stopped, the reason follows.
+        let behind = match answer {
+            3 | 9..=14 => ": ",
+            _ => &count,
+        };
+        let said = format!("(answer {answer}){behind}");
+        assert!(ran.words().contains(&said), "no '{said}' in {ran:?}");
         let words: Words = &[&"--lists", &"--", &path, &name, &index];
         let ran = words_of("pull", words, answer);
         assert_eq!(numbers_of(&ran, "nodes:"), Some(outcome.nodes()));
@@ -125,8 +125,8 @@ fn places() {
 #[test]
 fn hashes() {
     for name in NAMES.into_iter().chain([ROAD, b".", b".."]) {
-        let ran = words_of("hash", &[&"--", &name], 0);
-        let hash = format!("{:08x}\n", raw_hash(name));
+        let ran = run(&[&"hash", &"--", &name]).expect(0);
+        let hash = format!(": hash {:08x} (answer 0)\n", raw_hash(name));
         assert!(ran.words().ends_with(&hash), "no {hash} in {ran:?}");
     }
 }
@@ -136,6 +136,7 @@ fn hashes() {
 fn out_of_shape() {
     let card = shared_card();
     let path = card.disk.path();
+    let other = OnDisk::new(card.disk.image.clone());
     let long = vec![b'x'; 300];
     let slash = "the name has a slash; only the root directory is read";
     let too_long = "the name has 300 bytes; at most 255 are possible";
@@ -146,7 +147,7 @@ fn out_of_shape() {
         (&[&"pull", &path, &"a/b", &"0"], slash),
         (&[&"pull", &path, &"", &"0"], "the name is empty"),
         (&[&"pull", &path, &long, &"0"], too_long),
-        (&[&"compare", &path, &path, &"a/b"], slash),
+        (&[&"compare", &path, &other.path(), &"a/b"], slash),
         (&[&"place", &"5", &"0"], "A has to be 873 or 923"),
         (&[&"place", &"4294967295", &"0"], "A has to be 873 or 923"),
     ];

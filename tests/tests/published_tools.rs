@@ -10,6 +10,7 @@ use harptimber_tests::lookups::Lookups;
 use harptimber_tests::node_lookup;
 use harptimber_tests::published::{filled_with, formatted};
 use harptimber_tests::random_card::pick;
+use harptimber_tests::sizes::CARD_BLOCKS_MOST;
 
 /// The first number past the table.
 fn numbers_of(image: &Image) -> u32 {
@@ -80,7 +81,7 @@ fn formatted_100_mb() {
 #[test]
 fn formatted_1024_mb() {
     let image = expect_fresh("mkfs 1024 MB", 1024, "");
-    assert_eq!(image.areas.block_count, 262_144);
+    assert_eq!(image.areas.block_count, CARD_BLOCKS_MOST);
 }
 
 #[test]

@@ -3,7 +3,7 @@
 use harptimber_tests::card::{Card, ROOT};
 use harptimber_tests::directory::{in_slot, Dentry};
 use harptimber_tests::image::Image;
-use harptimber_tests::knobs::{Knobs, Pack, MOST_BLOCKS};
+use harptimber_tests::knobs::{Knobs, Pack};
 use harptimber_tests::layout::checkpoint::{CHECKSUM_OFFSET, CKPT_FLAGS, CP_LARGE_NAT_BITMAP_FLAG};
 use harptimber_tests::layout::inode::{I_MODE, I_SIZE, S_IFDIR, S_IFREG};
 use harptimber_tests::layout::journal::{MOST_ENTRIES, N_NATS};
@@ -13,6 +13,7 @@ use harptimber_tests::lent::Lens;
 use harptimber_tests::names::good_name;
 use harptimber_tests::pulls::{Call, Pulls};
 use harptimber_tests::scene::{Scene, Setting, NAME};
+use harptimber_tests::sizes::CARD_BLOCKS_MOST;
 use harptimber_tests::trial::Random;
 
 const PLAIN: Setting = Setting {
@@ -62,7 +63,7 @@ fn largest_images() {
     };
     for (knobs, opened) in [(Knobs::sound(), 9), (nothing, 5)] {
         let image = Image::largest(knobs);
-        let by_blocks = [(MOST_BLOCKS, opened), (MOST_BLOCKS + 1, 4)];
+        let by_blocks = [(CARD_BLOCKS_MOST, opened), (CARD_BLOCKS_MOST + 1, 4)];
         for (blocks, answer) in by_blocks {
             expect_at_length(&mut pulls, &image, blocks as usize * BLOCK_SIZE, answer);
         }
@@ -76,7 +77,7 @@ fn lent_lengths() {
     let mut pulls = Pulls::new("pull by lent lengths");
     let image = scene(&mut pulls).card.image;
     let call = Call::new(&image, NAME, 0);
-    let Lens { nodes, blocks, .. } = Lens::least();
+    let least = Lens::least();
     let around = |least| {
         [
             0,
@@ -91,9 +92,9 @@ fn lent_lengths() {
         ]
     };
     for block in [0, 1, 4092, 4095, 4096, 4097, 4100, 8192] {
-        for nodes in around(nodes) {
-            for blocks in around(blocks) {
-                let in_shape = block == 4096 && nodes >= 4 * 179 && blocks >= 4 * 238;
+        for nodes in around(least.nodes) {
+            for blocks in around(least.blocks) {
+                let in_shape = block == 4096 && nodes >= least.nodes && blocks >= least.blocks;
                 let lens = Lens {
                     block,
                     nodes,

@@ -1,0 +1,213 @@
+#define _GNU_SOURCE /* vasprintf */
+#include "listing.h"
+
+#include <errno.h>
+#include <inttypes.h>
+#include <stdarg.h>
+#include <stdlib.h>
+#include <string.h>
+
+#include "reason.h"
+#include "text.h"
+
+/* A directory with more names than this isn't read to its end. */
+enum { MOST_NAMES = 1000000 };
+
+enum { NODE_SLOTS = 1018, INODE_NODES = 5 };
+
+/* Goes on behind something that is wrong, unless there was too much of it already. */
+static void go_on(struct listing *listing)
+{
+    bool noted = listing->problems[listing->problem_count] != NULL;
+    listing->stopped = !noted || ++listing->problem_count == MOST_PROBLEMS;
+    listing->walk.stop = (struct stop){.in_root = true};
+}
+
+/* Notes what the walk stopped at. */
+static void add_stop(struct listing *listing)
+{
+    size_t len = 0;
+    FILE *out = open_memstream(&listing->problems[listing->problem_count], &len);
+    if (out != NULL) {
+        show_stop(out, &listing->walk.stop, listing->walk.card);
+        fclose(out);
+    }
+    go_on(listing);
+}
+
+/* Notes something else that is wrong. */
+__attribute__((format(printf, 2, 3))) static void add_problem(struct listing *listing, const char *format, ...)
+{
+    va_list arguments;
+    va_start(arguments, format);
+    char **problem = &listing->problems[listing->problem_count];
+    if (vasprintf(problem, format, arguments) < 0)
+        *problem = NULL;
+    va_end(arguments);
+    go_on(listing);
+}
+
+static bool add_name(struct listing *listing, const struct dentry *dentry)
+{
+    if (listing->count == listing->room) {
+        size_t room = 2 * listing->room + 64;
+        struct listed *names = reallocarray(listing->names, room, sizeof *names);
+        if (names == NULL)
+            return false;
+        listing->names = names;
+        listing->room = room;
+    }
+    struct listed *listed = &listing->names[listing->count++];
+    *listed = (struct listed){.len = dentry->len, .inode = dentry->inode};
+    memcpy(listed->name, dentry->name, dentry->len);
+    return true;
+}
+
+/* The root directory's entries for itself, which are no files. */
+static bool is_dots(const struct dentry *dentry)
+{
+    return dentry->inode == DISK_ROOT && dentry->len <= 2 && memcmp(dentry->name, "..", dentry->len) == 0;
+}
+
+/* The entries up to the first one that is malformed, which hides the others. */
+static void list_entries(struct listing *listing, const struct dentries *dentries, uint32_t address, uint32_t index)
+{
+    struct dentry dentry;
+    for (uint32_t slot = 0; dentry_from(dentries, slot, &dentry); slot = dentry.slot + slots_of(dentry.len)) {
+        if (dentry.name == NULL) {
+            listing->walk.stop = malformed_at(&dentry, address, index);
+            add_stop(listing);
+            return;
+        }
+        if (listing->count == MOST_NAMES) {
+            add_problem(listing, "there are more than 1,000,000 names");
+            listing->stopped = true;
+            return;
+        }
+        if (!is_dots(&dentry) && !add_name(listing, &dentry)) {
+            add_problem(listing, "%s", strerror(ENOMEM));
+            listing->stopped = true;
+            return;
+        }
+    }
+}
+
+/* A block of entries, by its address. One that is read a second time would list its names twice. */
+static void list_address(struct listing *listing, uint32_t address, uint32_t index)
+{
+    const uint8_t *block = walk_address(&listing->walk, address, index);
+    if (block == NULL) {
+        if (listing->walk.stop.answer != HARPTIMBER_DATA)
+            add_stop(listing);
+        return;
+    }
+    uint8_t bit = (uint8_t)(1 << address % 8);
+    if ((listing->seen[address / 8] & bit) != 0) {
+        add_problem(listing, "the card's block %" PRIu32 " is in the root directory twice", address);
+        return;
+    }
+    listing->seen[address / 8] |= bit;
+    struct dentries dentries = dentries_of_block(block);
+    list_entries(listing, &dentries, address, index);
+}
+
+/* How many blocks, and how many nodes, hang below a node: height 1 holds addresses, the others numbers of nodes. */
+struct subtree {
+    uint32_t height, blocks, nodes;
+};
+
+static const struct subtree subtrees[] = {
+    {0, 1, 0}, {1, NODE_SLOTS, 1}, {2, NODE_SLOTS * NODE_SLOTS, 1 + NODE_SLOTS},
+    {3, NODE_SLOTS * NODE_SLOTS * NODE_SLOTS, 1 + NODE_SLOTS * (1 + NODE_SLOTS)},
+};
+
+/* What hangs below a node. Each node has one place only, so that none is read twice. */
+static void list_node(struct listing *listing, uint32_t number, uint32_t place, uint32_t height, uint32_t index)
+{
+    const uint8_t *node = walk_node(&listing->walk, number, DISK_ROOT, place);
+    if (node == NULL) {
+        add_stop(listing);
+        return;
+    }
+    const struct subtree *below = &subtrees[height - 1];
+    for (uint32_t i = 0; i < NODE_SLOTS && !listing->stopped; i++) {
+        uint32_t number_below = disk32(node + 4 * (size_t)i);
+        if (number_below == 0)
+            continue;
+        if (height == 1)
+            list_address(listing, number_below, index + i);
+        else
+            list_node(listing, number_below, place + 1 + i * below->nodes, height - 1, index + i * below->blocks);
+    }
+}
+
+/* Every block of the root directory, whatever its size and its depth are. */
+static void list_blocks(struct listing *listing, const uint8_t *root)
+{
+    static const uint32_t heights[INODE_NODES] = {1, 1, 2, 2, 3};
+    uint32_t addresses = addresses_of(root), place = 1, index = addresses;
+    for (uint32_t i = 0; i < addresses && !listing->stopped; i++)
+        list_address(listing, disk32(root + DISK_ADDRESSES + 4 * (size_t)i), i);
+    for (size_t i = 0; i < INODE_NODES && !listing->stopped; i++) {
+        uint32_t number = disk32(root + DISK_NODES + 4 * i);
+        if (number != 0)
+            list_node(listing, number, place, heights[i], index);
+        place += subtrees[heights[i]].nodes;
+        index += subtrees[heights[i]].blocks;
+    }
+}
+
+static void list_root(struct listing *listing)
+{
+    const uint8_t *root = walk_node(&listing->walk, DISK_ROOT, DISK_ROOT, 0);
+    if (root == NULL) {
+        add_stop(listing);
+        return;
+    }
+    struct disk_inode inode = disk_inode_of(root);
+    uint32_t address = listing->walk.stop.address;
+    uint8_t marks = inode.inline_flags & DISK_KINDS_NOT_READ;
+    if (inode.mode >> 12 != DISK_DIRECTORY || (marks != 0 && marks != DISK_INLINE_DENTRY)) {
+        listing->walk.stop.answer = HARPTIMBER_KIND_NOT_READ;
+        add_stop(listing);
+    } else if (marks == DISK_INLINE_DENTRY) {
+        struct dentries dentries = dentries_of_inode(root);
+        list_entries(listing, &dentries, address, 0);
+    } else {
+        list_blocks(listing, root);
+    }
+}
+
+static int in_order(const void *one, const void *other)
+{
+    const struct listed *a = one, *b = other;
+    int order = memcmp(a->name, b->name, a->len < b->len ? a->len : b->len);
+    return order != 0 ? order : (a->len > b->len) - (a->len < b->len);
+}
+
+bool listing_read(struct listing *listing, const struct card *card)
+{
+    *listing = (struct listing){.walk = walk_begin(card)};
+    listing->seen = calloc(card->len / BLOCK_SIZE / 8 + 1, 1);
+    if (listing->seen == NULL) {
+        complain(card->path, "%s", strerror(ENOMEM));
+        return false;
+    }
+    list_root(listing);
+    if (listing->count != 0)
+        qsort(listing->names, listing->count, sizeof *listing->names, in_order);
+    return true;
+}
+
+bool listing_is_complete(const struct listing *listing)
+{
+    return listing->problem_count == 0 && !listing->stopped;
+}
+
+void listing_free(struct listing *listing)
+{
+    for (size_t i = 0; i < listing->problem_count; i++)
+        free(listing->problems[i]);
+    free(listing->names);
+    free(listing->seen);
+}

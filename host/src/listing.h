@@ -1,0 +1,32 @@
+/* The names in a card's root directory. They are read in C; nothing of this is proved. */
+#ifndef LISTING_H
+#define LISTING_H
+
+#include "walk.h"
+
+struct listed {
+    char name[256]; /* with zero bytes behind it, and perhaps in it */
+    uint32_t len, inode;
+};
+
+/* So many things that are wrong are told; then the directory isn't read on. */
+enum { MOST_PROBLEMS = 16 };
+
+struct listing {
+    struct walk walk;
+    struct listed *names; /* in the order of their bytes */
+    size_t count, room;
+    char *problems[MOST_PROBLEMS]; /* why names may be missing, in plain text */
+    size_t problem_count;
+    bool stopped;
+    uint8_t *seen; /* a bit for each of the card's blocks that was read as one of entries */
+};
+
+/* Reads the root directory of a card that opens. Returns false, with a message, if there is no memory for it. */
+bool listing_read(struct listing *listing, const struct card *card);
+
+bool listing_is_complete(const struct listing *listing);
+
+void listing_free(struct listing *listing);
+
+#endif

@@ -1,0 +1,277 @@
+#include "opening.h"
+
+#include <inttypes.h>
+#include <stdarg.h>
+#include <stdio.h>
+#include <string.h>
+
+#include "disk.h"
+#include "text.h"
+#include "words.h"
+
+static bool is_zeros(const uint8_t *block)
+{
+    return *block == 0 && memcmp(block, block + 1, BLOCK_SIZE - 1) == 0;
+}
+
+/* Adds words to a reason, as far as there is room. Returns false, for a rule that fails by it. */
+__attribute__((format(printf, 2, 3))) static bool because(char *why, const char *format, ...)
+{
+    size_t len = strlen(why);
+    va_list arguments;
+    va_start(arguments, format);
+    vsnprintf(why + len, WHY_ROOM - len, format, arguments);
+    va_end(arguments);
+    return false;
+}
+
+/* Numbers of a superblock that can be only one. */
+static bool fixed_numbers_pass(const uint8_t *copy, char *why)
+{
+    static const struct {
+        const char *name;
+        size_t at;
+        uint32_t only;
+    } fixed[] = {{"log_blocksize", 16, 12}, {"log_blocks_per_seg", 20, 9}, {"root_ino", 96, 3},
+                 {"node_ino", 100, 1},      {"meta_ino", 104, 2},          {"segment_count_ckpt", 52, 2}};
+    for (size_t i = 0; i < sizeof fixed / sizeof *fixed; i++) {
+        uint32_t number = disk32(copy + fixed[i].at);
+        if (number != fixed[i].only)
+            return because(why, "%s is %" PRIu32 ", not %" PRIu32, fixed[i].name, number, fixed[i].only);
+    }
+    return true;
+}
+
+static bool other_numbers_pass(const uint8_t *copy, char *why)
+{
+    uint32_t sector = disk32(copy + 8), per_block = disk32(copy + 12);
+    uint32_t sit = disk_area_segments(copy, DISK_SIT), nat = disk_area_segments(copy, DISK_NAT);
+    if (sector < 9 || sector > 12)
+        return because(why, "log_sectorsize is %" PRIu32 ", not 9 to 12", sector);
+    if (per_block != 12 - sector)
+        return because(why, "log_sectors_per_block is %" PRIu32 ", not %" PRIu32, per_block, 12 - sector);
+    if (disk32(copy + 24) == 0 || disk32(copy + 28) == 0)
+        return because(why, "%s is 0", disk32(copy + 24) == 0 ? "segs_per_sec" : "secs_per_zone");
+    if (sit < 2 || sit % 2 != 0)
+        return because(why, "segment_count_sit is %" PRIu32 ", not an even number from 2 on", sit);
+    if (nat < 2 || nat % 2 != 0)
+        return because(why, "segment_count_nat is %" PRIu32 ", not an even number from 2 on", nat);
+    return true;
+}
+
+/* Each area starts where the one before ends. */
+static bool areas_pass(const uint8_t *copy, char *why)
+{
+    uint32_t segment0 = disk32(copy + 72), checkpoint = disk_area_first(copy, DISK_CHECKPOINT);
+    if (segment0 < 2)
+        return because(why, "segment0_blkaddr is %" PRIu32 ", but blocks 0 and 1 have the superblock", segment0);
+    if (checkpoint != segment0)
+        return because(why, "cp_blkaddr is %" PRIu32 ", not %" PRIu32 " as segment0_blkaddr is", checkpoint, segment0);
+    for (int area = 1; area < DISK_AREAS; area++) {
+        uint32_t first = disk_area_first(copy, area);
+        uint64_t end = disk_area_end(copy, area - 1);
+        if (first != end)
+            return because(why, "%s is %" PRIu32 ", not %" PRIu64 ", where the %s area ends", disk_areas[area].field, first,
+                           end, disk_areas[area - 1].name);
+    }
+    return true;
+}
+
+static bool ends_pass(const uint8_t *copy, uint64_t image_blocks, char *why)
+{
+    uint64_t main_end = disk_area_end(copy, DISK_MAIN), blocks = disk64(copy + 36);
+    uint64_t segments_end = disk32(copy + 72) + (uint64_t)DISK_SEGMENT_BLOCKS * disk32(copy + 48);
+    if (main_end > segments_end)
+        return because(why, "the main area ends at %" PRIu64 ", the segments of segment_count at %" PRIu64, main_end,
+                       segments_end);
+    if (segments_end > blocks)
+        return because(why, "block_count is %" PRIu64 ", but the segments of segment_count end at %" PRIu64, blocks,
+                       segments_end);
+    char counted[NUMBER_ROOM], there[NUMBER_ROOM];
+    if (blocks > image_blocks)
+        return because(why, "it counts %s blocks, the image has %s", number_text(counted, blocks),
+                       number_text(there, image_blocks));
+    return true;
+}
+
+static void read_copy(struct opening_copy *copy, const struct card *card, uint32_t number)
+{
+    const uint8_t *bytes = disk_superblock(card, number);
+    uint64_t blocks = card->len / BLOCK_SIZE;
+    copy->marked = bytes != NULL && disk32(bytes) == DISK_MARK;
+    if (!copy->marked)
+        copy->passes = because(copy->why, "no F2FS mark");
+    else
+        copy->passes = fixed_numbers_pass(bytes, copy->why) && other_numbers_pass(bytes, copy->why) &&
+                       areas_pass(bytes, copy->why) && ends_pass(bytes, blocks, copy->why);
+}
+
+/* What isn't read. */
+static bool features_pass(const uint8_t *copy, char *why)
+{
+    uint32_t features = disk32(copy + DISK_FEATURES_AT), payload = disk32(copy + DISK_PAYLOAD_AT);
+    if (features != 0) {
+        because(why, "features: ");
+        disk_bit_names(why, WHY_ROOM, disk_features, features);
+    }
+    if (payload != 0)
+        because(why, "%scp_payload is %" PRIu32, features != 0 ? "; " : "", payload);
+    return features == 0 && payload == 0;
+}
+
+enum { CHECKSUM_AT = 4092 };
+
+/* The first or the last block of a pack. */
+static bool checkpoint_block_passes(const uint8_t *block, const char *which, char *why)
+{
+    uint32_t offset = disk32(block + 164), sum = disk32(block + CHECKSUM_AT);
+    bool large_map = (disk32(block + 132) & DISK_LARGE_NAT_MAP) != 0;
+    if (offset != CHECKSUM_AT && is_zeros(block))
+        return because(why, "its %s block is all zeros", which);
+    if (offset != CHECKSUM_AT)
+        return because(why, "its %s block has checksum_offset %" PRIu32 ", not 4092%s", which, offset,
+                       large_map ? " (large_nat_bitmap, by mkfs.f2fs -i)" : "");
+    uint32_t computed = disk_crc32(DISK_MARK, block, CHECKSUM_AT);
+    if (sum != computed)
+        return because(why, "the checksum of its %s block is %08" PRIx32 ", its bytes make %08" PRIx32, which, sum, computed);
+    return true;
+}
+
+static bool pack_passes(struct opening_pack *pack, const struct card *card, uint32_t first)
+{
+    const uint8_t *block = disk_block(card, first);
+    pack->has_first = block != NULL && checkpoint_block_passes(block, "first", pack->why);
+    if (!pack->has_first)
+        return false;
+    pack->version = disk64(block);
+    pack->flags = disk32(block + 132);
+    pack->total = disk32(block + 136);
+    if (pack->total < 2 || pack->total > DISK_SEGMENT_BLOCKS)
+        return because(pack->why, "cp_pack_total_block_count is %" PRIu32 ", not 2 to 512", pack->total);
+    const uint8_t *last = disk_block(card, first + pack->total - 1);
+    if (last == NULL || !checkpoint_block_passes(last, "last", pack->why))
+        return false;
+    if (disk64(last) != pack->version)
+        return because(pack->why, "its first block has version %" PRIu64 ", its last %" PRIu64, pack->version, disk64(last));
+    return true;
+}
+
+/* The two maps, which fit their segments and their block. */
+static bool maps_pass(const uint8_t *superblock, const uint8_t *first, char *why)
+{
+    uint64_t sit = disk32(first + 156), nat = disk32(first + 160);
+    uint64_t sit_wanted = 32 * (uint64_t)disk_area_segments(superblock, DISK_SIT);
+    uint64_t nat_wanted = 32 * (uint64_t)disk_area_segments(superblock, DISK_NAT);
+    if ((disk32(first + 132) & DISK_LARGE_NAT_MAP) != 0)
+        return because(why, "large_nat_bitmap is set, which isn't read");
+    if (sit != sit_wanted)
+        return because(why, "sit_ver_bitmap_bytesize is %" PRIu64 ", not %" PRIu64, sit, sit_wanted);
+    if (nat != nat_wanted)
+        return because(why, "nat_ver_bitmap_bytesize is %" PRIu64 ", not %" PRIu64, nat, nat_wanted);
+    if (192 + sit + nat > CHECKSUM_AT)
+        return because(why, "the maps end at byte %" PRIu64 " of their block, behind 4092", 192 + sit + nat);
+    return true;
+}
+
+/* The block of the NAT journal, counted in its pack, and the journal's first byte there. */
+struct journal_place {
+    uint32_t block;
+    size_t at;
+};
+
+static bool journal_is_in_place(const uint8_t *first, const struct opening_pack *pack, struct journal_place *place, char *why)
+{
+    uint32_t start = disk32(first + 140), total = pack->total;
+    bool clean = (pack->flags & (DISK_UNMOUNT | DISK_FASTBOOT)) != 0;
+    uint32_t from_end = clean ? 7 : 4;
+    *place = (struct journal_place){start, 0};
+    if ((pack->flags & DISK_COMPACT) != 0)
+        return (start >= 1 && start <= total - 2) ||
+               because(why, "the journal block is out of place: cp_pack_start_sum is %" PRIu32 " in a pack of %" PRIu32
+                            " blocks", start, total);
+    *place = (struct journal_place){total - from_end, 3584};
+    return total > from_end ||
+           because(why, "the journal block is out of place: the pack has %" PRIu32 " blocks, and it lies %" PRIu32
+                        " before the end", total, from_end);
+}
+
+static bool pack_is_readable(const struct card *card, const uint8_t *superblock, const struct opening_pack *pack,
+                             uint32_t first, char *why)
+{
+    struct journal_place place;
+    const uint8_t *block = disk_block(card, first);
+    if (!maps_pass(superblock, block, why) || !journal_is_in_place(block, pack, &place, why))
+        return false;
+    const uint8_t *journal = disk_block(card, first + place.block);
+    uint16_t count = journal == NULL ? 0 : disk16(journal + place.at);
+    return count <= 38 || because(why, "the NAT journal counts %" PRIu16 " entries, at most 38 fit", count);
+}
+
+/* Reads both packs, and returns which is in use: the one with the greater version, or the first of two alike. */
+static int read_packs(struct opening *opening, const struct card *card, uint32_t first)
+{
+    struct opening_pack *packs = opening->packs;
+    for (uint32_t i = 0; i < 2; i++)
+        packs[i].passes = pack_passes(&packs[i], card, first + i * DISK_SEGMENT_BLOCKS);
+    if (packs[1].passes && (!packs[0].passes || packs[1].version > packs[0].version))
+        return 1;
+    return packs[0].passes ? 0 : NONE_IN_USE;
+}
+
+/* Of two that fail, the words for each, or once if they are the same. */
+static bool because_both(char *why, const char *thing, const char *both, const char *one, const char *other)
+{
+    if (strcmp(one, other) == 0)
+        return because(why, "%s: %s", both, one);
+    return because(why, "%s 1: %s; %s 2: %s", thing, one, thing, other);
+}
+
+/* What the library answers, by the rules as they are read here. */
+static uint32_t judge(struct opening *opening, const struct card *card)
+{
+    for (uint32_t i = 0; i < 2; i++)
+        read_copy(&opening->copies[i], card, i);
+    const struct opening_copy *copies = opening->copies;
+    opening->copy_in_use = copies[0].passes ? 0 : copies[1].passes ? 1 : NONE_IN_USE;
+    if (!length_is_in_shape(card))
+        return HARPTIMBER_OUT_OF_SHAPE;
+    if (opening->copy_in_use == NONE_IN_USE) {
+        because_both(opening->why, "copy", "both copies", copies[0].why, copies[1].why);
+        return HARPTIMBER_NO_SUPERBLOCK;
+    }
+    const uint8_t *superblock = disk_superblock(card, (uint32_t)opening->copy_in_use);
+    uint32_t first = disk_area_first(superblock, DISK_CHECKPOINT);
+    opening->pack_in_use = read_packs(opening, card, first);
+    if (!features_pass(superblock, opening->why))
+        return HARPTIMBER_FEATURES;
+    const struct opening_pack *packs = opening->packs;
+    if (opening->pack_in_use == NONE_IN_USE) {
+        because_both(opening->why, "pack", "both packs", packs[0].why, packs[1].why);
+        return HARPTIMBER_NO_CHECKPOINT;
+    }
+    const struct opening_pack *used = &packs[opening->pack_in_use];
+    first += (uint32_t)opening->pack_in_use * DISK_SEGMENT_BLOCKS;
+    bool readable = pack_is_readable(card, superblock, used, first, opening->why);
+    return readable ? HARPTIMBER_DATA : HARPTIMBER_UNREADABLE;
+}
+
+void opening_read(struct opening *opening, const struct card *card)
+{
+    *opening = (struct opening){.copy_in_use = NONE_IN_USE, .pack_in_use = NONE_IN_USE};
+    uint32_t judged = judge(opening, card);
+    opening->answer = harptimber_node_lookup(card->bytes, card->len, DISK_ROOT).answer;
+    opening->agrees = judged == opening->answer;
+    if (!opening->agrees)
+        *opening->why = '\0';
+}
+
+const uint8_t *opening_superblock(const struct card *card)
+{
+    for (uint32_t number = 0; number < 2; number++) {
+        struct opening_copy copy = {.passes = false};
+        read_copy(&copy, card, number);
+        if (copy.passes)
+            return disk_superblock(card, number);
+    }
+    return NULL;
+}

@@ -1,0 +1,45 @@
+/*
+ * Why a card opens or doesn't, read in C for what is said to people. The library judges: words that don't lead to its answer
+ * aren't said. The rules are those of the superblock and of the checkpoint, in their order.
+ */
+#ifndef OPENING_H
+#define OPENING_H
+
+#include "card.h"
+
+/* Room for a reason in words. */
+enum { WHY_ROOM = 640 };
+
+/* A copy of the superblock: empty words if it passes. */
+struct opening_copy {
+    bool marked, passes;
+    char why[WHY_ROOM];
+};
+
+/* A checkpoint pack. The version and the flags are there if its first block passes. */
+struct opening_pack {
+    bool passes, has_first;
+    uint64_t version;
+    uint32_t flags, total;
+    char why[WHY_ROOM];
+};
+
+enum { NONE_IN_USE = -1 };
+
+struct opening {
+    uint32_t answer; /* the library's: 0, or 4 to 8 */
+    bool agrees;     /* what was read here leads to that answer; else it isn't worth saying */
+    struct opening_copy copies[2];
+    int copy_in_use;
+    struct opening_pack packs[2]; /* read if a copy is in use */
+    int pack_in_use;
+    char why[WHY_ROOM]; /* of answers 5 to 8: the reason, in plain text; empty if there are no words for it */
+};
+
+/* Asks the library, and finds the words. */
+void opening_read(struct opening *opening, const struct card *card);
+
+/* The copy of the superblock that is in use, by the same rules; null if neither passes. */
+const uint8_t *opening_superblock(const struct card *card);
+
+#endif

@@ -1,0 +1,165 @@
+#include "reason.h"
+
+#include <inttypes.h>
+
+#include "text.h"
+
+const char *kind_of(uint16_t mode)
+{
+    static const char *const kinds[16] = {
+        [1] = "FIFO",         [2] = "character device", [4] = "directory", [6] = "block device",
+        [8] = "regular file", [10] = "symbolic link",   [12] = "socket",
+    };
+    return kinds[mode >> 12] == NULL ? "file of no known kind" : kinds[mode >> 12];
+}
+
+static const char *owner_of(const struct stop *stop)
+{
+    return stop->in_root ? "the root directory" : "the file";
+}
+
+/* 'node 77 (place 1 of the file)'. */
+static void show_node(FILE *out, const struct stop *stop)
+{
+    fprintf(out, "node %" PRIu32 " (", stop->node);
+    if (stop->place == 0)
+        fprintf(out, "%s's inode)", owner_of(stop));
+    else
+        fprintf(out, "place %" PRIu32 " of %s)", stop->place, owner_of(stop));
+}
+
+static void show_main_area(FILE *out, const struct card *card)
+{
+    struct walk walk = walk_begin(card);
+    fprintf(out, "; the main area is blocks %" PRIu64 " to %" PRIu64, walk.main_first, walk.main_end - 1);
+}
+
+static void show_no_node(FILE *out, const struct stop *stop, const struct card *card)
+{
+    struct harptimber_entry entry = harptimber_node_lookup(card->bytes, card->len, stop->node);
+    show_node(out, stop);
+    fputs(entry.answer == HARPTIMBER_DATA ? " isn't in use" : " is out of range", out);
+}
+
+static void show_outside(FILE *out, const struct stop *stop, const struct card *card)
+{
+    if (stop->answer == HARPTIMBER_NODE_OUTSIDE)
+        show_node(out, stop);
+    else
+        fprintf(out, "block %" PRIu32 " of %s", stop->index, owner_of(stop));
+    fprintf(out, " has address %" PRIu32, stop->address);
+    show_main_area(out, card);
+}
+
+/* Which of its numbers make a node block another one's. */
+static void show_foreign(FILE *out, const struct stop *stop, const struct card *card)
+{
+    const uint8_t *node = disk_block(card, stop->address);
+    struct harptimber_entry entry = harptimber_node_lookup(card->bytes, card->len, stop->node);
+    const struct {
+        const char *what;
+        uint32_t found, wanted;
+    } numbers[] = {
+        {"the block's number", disk32(node + DISK_FOOTER_NUMBER), stop->node},
+        {"the block's inode", disk32(node + DISK_FOOTER_INODE), stop->inode},
+        {"the block's place", disk32(node + DISK_FOOTER_FLAG) / 8, stop->place},
+        {"the table's inode", entry.inode, stop->inode},
+    };
+    show_node(out, stop);
+    fprintf(out, " should be in block %" PRIu32, stop->address);
+    const char *between = ", but ";
+    for (size_t i = 0; i < sizeof numbers / sizeof *numbers; i++)
+        if (numbers[i].found != numbers[i].wanted) {
+            fprintf(out, "%s%s is %" PRIu32 ", not %" PRIu32, between, numbers[i].what, numbers[i].found, numbers[i].wanted);
+            between = "; ";
+        }
+}
+
+/* What an inode of the right kind has that keeps it from being read. */
+static void show_marks(FILE *out, const struct disk_inode *inode, bool is_root)
+{
+    const struct {
+        bool is_set;
+        const char *words;
+    } marks[] = {
+        {(inode->inline_flags & DISK_INLINE_DENTRY) != 0,
+         is_root ? "its entries are inline" : "it is marked as an inline directory"},
+        {(inode->inline_flags & DISK_INLINE_DATA) != 0,
+         is_root ? "it is marked as an inline file" : "its bytes are inline; small and empty files usually are inline"},
+        {(inode->inline_flags & DISK_EXTRA_ATTR) != 0, "its inode has extra attributes"},
+        {(inode->advise & DISK_ADVISE_ENCRYPT) != 0, "it is encrypted"},
+        {(inode->flags & DISK_FLAG_COMPRESSED) != 0, "it is compressed"},
+    };
+    const char *between = "";
+    for (size_t i = 0; i < sizeof marks / sizeof *marks; i++)
+        if (marks[i].is_set) {
+            fprintf(out, "%s%s", between, marks[i].words);
+            between = "; ";
+        }
+}
+
+static void show_file_kind(FILE *out, const struct disk_inode *inode)
+{
+    if (inode->mode >> 12 != DISK_REGULAR)
+        fprintf(out, "it is a %s", kind_of(inode->mode));
+    else
+        show_marks(out, inode, false);
+}
+
+static void show_root_kind(FILE *out, const struct disk_inode *inode)
+{
+    fputs("the root directory isn't read: ", out);
+    if (inode->mode >> 12 != DISK_DIRECTORY)
+        fprintf(out, "it is a %s", kind_of(inode->mode));
+    else if ((inode->inline_flags & DISK_KINDS_NOT_READ) != 0)
+        show_marks(out, inode, true);
+    else if (inode->depth > DISK_MOST_DEPTH)
+        fprintf(out, "its depth is %" PRIu32 ", over %d", inode->depth, DISK_MOST_DEPTH);
+    else
+        fprintf(out, "its directory level is %u, not 0", (unsigned)inode->dir_level);
+}
+
+static void show_kind(FILE *out, const struct stop *stop, const struct card *card)
+{
+    struct disk_inode inode = disk_inode_of(disk_block(card, stop->address));
+    if (stop->in_root)
+        show_root_kind(out, &inode);
+    else
+        show_file_kind(out, &inode);
+}
+
+static void show_malformed(FILE *out, const struct stop *stop)
+{
+    fprintf(out, "slot %" PRIu32 " of the card's block %" PRIu32 " (block %" PRIu32 " of the root directory) has a name of ",
+            stop->slot, stop->address, stop->index);
+    show_count(out, stop->len, "byte");
+}
+
+/* How long the file is. */
+static void show_end(FILE *out, const struct stop *stop, const struct card *card)
+{
+    uint64_t size = disk_inode_of(disk_block(card, stop->address)).size;
+    if (size == 0) {
+        fputs("it is empty", out);
+        return;
+    }
+    fputs("it has ", out);
+    show_count(out, size, "byte");
+    fprintf(out, ", so that its last block is %" PRIu64, (size - 1) / BLOCK_SIZE);
+}
+
+void show_stop(FILE *out, const struct stop *stop, const struct card *card)
+{
+    if (stop->answer == HARPTIMBER_PAST_END)
+        show_end(out, stop, card);
+    else if (stop->answer == HARPTIMBER_NO_NODE)
+        show_no_node(out, stop, card);
+    else if (stop->answer == HARPTIMBER_NODE_OUTSIDE || stop->answer == HARPTIMBER_DATA_OUTSIDE)
+        show_outside(out, stop, card);
+    else if (stop->answer == HARPTIMBER_FOREIGN_NODE)
+        show_foreign(out, stop, card);
+    else if (stop->answer == HARPTIMBER_KIND_NOT_READ)
+        show_kind(out, stop, card);
+    else if (stop->answer == HARPTIMBER_MALFORMED_SLOT)
+        show_malformed(out, stop);
+}

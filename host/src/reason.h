@@ -1,0 +1,15 @@
+/* Why a walk through a card stopped, in plain words. */
+#ifndef REASON_H
+#define REASON_H
+
+#include <stdio.h>
+
+#include "walk.h"
+
+/* Prints why; nothing if there is nothing to add to the answer. */
+void show_stop(FILE *out, const struct stop *stop, const struct card *card);
+
+/* What a file's mode says that it is: 'directory', 'symbolic link'. */
+const char *kind_of(uint16_t mode);
+
+#endif

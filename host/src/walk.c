@@ -1,0 +1,216 @@
+#include "walk.h"
+
+#include <string.h>
+
+#include "opening.h"
+
+/* What the library never answers. */
+static const uint32_t NO_ANSWER = UINT32_MAX;
+
+/* The levels from 29 on lie past a file's last block. */
+enum { LEVELS = 29 };
+
+enum { SLOT_BYTES = 8, ENTRY_BYTES = 11, MOST_NAME_BYTES = 255 };
+
+struct walk walk_begin(const struct card *card)
+{
+    struct walk walk = {.card = card, .stop.in_root = true};
+    const uint8_t *superblock = opening_superblock(card);
+    if (superblock != NULL) {
+        walk.main_first = disk_area_first(superblock, DISK_MAIN);
+        walk.main_end = disk_area_end(superblock, DISK_MAIN);
+    }
+    return walk;
+}
+
+static bool is_main(const struct walk *walk, uint32_t address)
+{
+    return address >= walk->main_first && address < walk->main_end;
+}
+
+static bool belongs(const uint8_t *node, const struct stop *at)
+{
+    return disk32(node + DISK_FOOTER_NUMBER) == at->node && disk32(node + DISK_FOOTER_INODE) == at->inode &&
+           disk32(node + DISK_FOOTER_FLAG) / 8 == at->place;
+}
+
+const uint8_t *walk_node(struct walk *walk, uint32_t number, uint32_t inode, uint32_t place)
+{
+    struct harptimber_entry entry = harptimber_node_lookup(walk->card->bytes, walk->card->len, number);
+    struct stop at = {.in_root = walk->stop.in_root, .node = number, .inode = inode, .place = place};
+    at.address = entry.address;
+    const uint8_t *node = disk_block(walk->card, entry.address);
+    if (entry.answer != HARPTIMBER_DATA && entry.answer != HARPTIMBER_NO_NODE)
+        at.answer = NO_ANSWER; /* not on a card that opens */
+    else if (entry.answer == HARPTIMBER_NO_NODE || entry.address == 0)
+        at.answer = HARPTIMBER_NO_NODE;
+    else if (node == NULL || !is_main(walk, entry.address))
+        at.answer = HARPTIMBER_NODE_OUTSIDE;
+    else if (entry.inode != inode || !belongs(node, &at))
+        at.answer = HARPTIMBER_FOREIGN_NODE;
+    walk->stop = at;
+    return at.answer == HARPTIMBER_DATA ? node : NULL;
+}
+
+const uint8_t *walk_address(struct walk *walk, uint32_t address, uint32_t index)
+{
+    if (address == 0 || address == UINT32_MAX)
+        return NULL;
+    const uint8_t *block = disk_block(walk->card, address);
+    if (block != NULL && is_main(walk, address))
+        return block;
+    walk->stop = (struct stop){.answer = HARPTIMBER_DATA_OUTSIDE, .in_root = walk->stop.in_root};
+    walk->stop.index = index;
+    walk->stop.address = address;
+    return NULL;
+}
+
+struct step step_of(const struct harptimber_place *place, uint32_t i)
+{
+    const struct step way[] = {{place->place0, place->slot0},
+                               {place->place1, place->slot1},
+                               {place->place2, place->slot2},
+                               {place->place3, place->slot3}};
+    return way[i];
+}
+
+uint32_t addresses_of(const uint8_t *inode)
+{
+    return (disk_inode_of(inode).inline_flags & DISK_INLINE_XATTR) != 0 ? 873 : 923;
+}
+
+/* A block of the file with this inode; null if it is a hole, or where the walk stops. */
+static const uint8_t *file_block(struct walk *walk, uint32_t number, const uint8_t *inode, uint32_t index)
+{
+    struct harptimber_place place = harptimber_file_place(addresses_of(inode), index);
+    const uint8_t *node = inode, *slots = inode + (place.steps == 1 ? DISK_ADDRESSES : DISK_NODES);
+    if (place.answer != HARPTIMBER_DATA)
+        return NULL;
+    for (uint32_t i = 1; i < place.steps; i++) {
+        uint32_t next = disk32(slots + 4 * step_of(&place, i - 1).slot);
+        node = next == 0 ? NULL : walk_node(walk, next, number, step_of(&place, i).place);
+        if (node == NULL)
+            return NULL;
+        slots = node;
+    }
+    return walk_address(walk, disk32(slots + 4 * step_of(&place, place.steps - 1).slot), index);
+}
+
+uint32_t slots_of(uint32_t len)
+{
+    return (len + SLOT_BYTES - 1) / SLOT_BYTES;
+}
+
+struct dentries dentries_of_block(const uint8_t *block)
+{
+    return (struct dentries){.bytes = block, .slots = 214, .entries_at = 30, .names_at = 2384};
+}
+
+/* Behind the first address, and with room for 50 more kept free at the end: 23 bytes of map, 7 reserved, then as in a block. */
+struct dentries dentries_of_inode(const uint8_t *block)
+{
+    enum { SLOTS = 182 };
+    return (struct dentries){
+        .bytes = block + DISK_ADDRESSES + 4, .slots = SLOTS, .entries_at = 30, .names_at = 30 + SLOTS * ENTRY_BYTES};
+}
+
+bool dentry_from(const struct dentries *dentries, uint32_t slot, struct dentry *dentry)
+{
+    const uint8_t *map = dentries->bytes;
+    while (slot < dentries->slots && (map[slot / 8] >> slot % 8 & 1) == 0)
+        slot++;
+    if (slot >= dentries->slots)
+        return false;
+    const uint8_t *entry = dentries->bytes + dentries->entries_at + (size_t)ENTRY_BYTES * slot;
+    *dentry = (struct dentry){.slot = slot, .hash = disk32(entry), .inode = disk32(entry + 4), .len = disk16(entry + 8)};
+    if (dentry->len >= 1 && dentry->len <= MOST_NAME_BYTES && slots_of(dentry->len) <= dentries->slots - slot)
+        dentry->name = dentries->bytes + dentries->names_at + (size_t)SLOT_BYTES * slot;
+    return true;
+}
+
+struct stop malformed_at(const struct dentry *dentry, uint32_t address, uint32_t index)
+{
+    return (struct stop){
+        .answer = HARPTIMBER_MALFORMED_SLOT,
+        .in_root = true,
+        .index = index,
+        .address = address,
+        .slot = dentry->slot,
+        .len = dentry->len,
+    };
+}
+
+/* What is sought in the root directory. */
+struct sought {
+    const uint8_t *name;
+    size_t len;
+    uint32_t hash;
+};
+
+/* Seeks a name in a block of the root directory. Returns whether the search is over: found, or stopped. */
+static bool seek_in_block(struct walk *walk, const struct sought *sought, const uint8_t *block, uint32_t index, uint32_t *inode)
+{
+    struct dentries dentries = dentries_of_block(block);
+    struct dentry dentry;
+    for (uint32_t slot = 0; dentry_from(&dentries, slot, &dentry); slot = dentry.slot + slots_of(dentry.len)) {
+        if (dentry.name == NULL) {
+            walk->stop = malformed_at(&dentry, (uint32_t)((size_t)(block - walk->card->bytes) / BLOCK_SIZE), index);
+            return true;
+        }
+        *inode = dentry.inode;
+        if (dentry.hash == sought->hash && dentry.len == sought->len && memcmp(dentry.name, sought->name, sought->len) == 0)
+            return true;
+    }
+    return false;
+}
+
+/* Seeks a name by the hash levels of the root directory; false where the walk stops. */
+static bool seek(struct walk *walk, const struct sought *sought, const uint8_t *root, uint32_t *inode)
+{
+    uint32_t depth = disk_inode_of(root).depth;
+    for (uint32_t level = 0; level < depth && level < LEVELS && disk_inode_of(root).size != 0; level++) {
+        uint32_t buckets = 1U << level;
+        uint32_t first = 2 * (buckets - 1 + sought->hash % buckets);
+        for (uint32_t index = first; index < first + 2; index++) {
+            const uint8_t *block = file_block(walk, DISK_ROOT, root, index);
+            bool over = block != NULL && seek_in_block(walk, sought, block, index, inode);
+            if (over || walk->stop.answer != HARPTIMBER_DATA)
+                return walk->stop.answer == HARPTIMBER_DATA;
+        }
+    }
+    walk->stop.answer = HARPTIMBER_NO_NAME;
+    return false;
+}
+
+/* An inode of a kind that is read; null where the walk stops. */
+static const uint8_t *read_inode(struct walk *walk, uint32_t number)
+{
+    const uint8_t *block = walk_node(walk, number, number, 0);
+    if (block == NULL)
+        return NULL;
+    struct disk_inode inode = disk_inode_of(block);
+    bool is_root = walk->stop.in_root;
+    bool kind = inode.mode >> 12 == (is_root ? DISK_DIRECTORY : DISK_REGULAR) &&
+                (inode.inline_flags & DISK_KINDS_NOT_READ) == 0;
+    if (kind && !(is_root && (inode.depth > DISK_MOST_DEPTH || inode.dir_level != 0)))
+        return block;
+    walk->stop.answer = HARPTIMBER_KIND_NOT_READ;
+    return NULL;
+}
+
+struct stop walk_pull(const struct card *card, const uint8_t *name, size_t len, uint32_t index)
+{
+    struct walk walk = walk_begin(card);
+    struct sought sought = {name, len, harptimber_name_hash(name, len).hash};
+    uint32_t number = 0;
+    const uint8_t *inode = read_inode(&walk, DISK_ROOT);
+    if (inode == NULL || !seek(&walk, &sought, inode, &number))
+        return walk.stop;
+    walk.stop.in_root = false;
+    inode = read_inode(&walk, number);
+    if (inode != NULL && (uint64_t)index * BLOCK_SIZE >= disk_inode_of(inode).size)
+        walk.stop.answer = HARPTIMBER_PAST_END;
+    else if (inode != NULL)
+        file_block(&walk, number, inode, index);
+    return walk.stop;
+}
