@@ -15,7 +15,7 @@ use Rattle.place.specs.declared.Step.{Step}
 use Rattle.superblock.specs.declared.Areas.{Areas}
 use Rattle.superblock.specs.declared.Found.{Found}
 use Rattle.superblock.specs.declared.Found.the-variants.{At, Refused}
-use Rattle.superblock.specs.Superblock.{superblockOf, logsPass, unitsPass, countsPass, areasPass, endsPass, fieldsPass, copyPasses}
+use Rattle.superblock.specs.Superblock.{superblockOf, logsPass, unitsPass, countsPass, areasPass, endsPass, fieldsPass, passes}
 use Rattle.superblock.specs.Areas.{found}
 use Rattle.nat.specs.Table.{tableBlock, copyAddress}
 use Rattle.list.specs.Lists.{bytesOf}
@@ -115,6 +115,6 @@ sheet =
     ∷ []
 
 pub bench-sheet : List.map (λ l. l .computed) sheet ≡ List.map (λ l. l .stated) sheet
-unfolding topBit lowBit placeOf le16 le32 le64 sameAt bytesOf superblockOf logsPass unitsPass countsPass areasPass endsPass fieldsPass copyPasses
+unfolding topBit lowBit placeOf le16 le32 le64 sameAt bytesOf superblockOf logsPass unitsPass countsPass areasPass endsPass fieldsPass passes
     found bucketsOf blocksOf firstOf wellFormed matches slotAt slotsFrom afterBlock
 bench-sheet = refl

@@ -1,6 +1,5 @@
 -- The checksum of the pack's block: its first 172 bytes bit by bit, and then 3,920 zeros by squaring. Bit by bit all the way is one
 -- `refl` too, and takes some twenty seconds.
--- Assumes nothing.
 use mathlib.Core.Path.{_≡_, refl, ap, ap₂, _∙_}
 use Prim.Native.Nat.{ℕ}
 use lib.Dec.{lit<}

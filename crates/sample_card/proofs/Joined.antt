@@ -1,5 +1,4 @@
 -- An image joined from whole blocks has just these blocks: so the sample image is the sample card.
--- Assumes nothing.
 use mathlib.Core.Path.{_≡_, refl, ap}
 use mathlib.Core.Bool.{true}
 use mathlib.Core.List.{List, [], _∷_, _++_}

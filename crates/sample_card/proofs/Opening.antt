@@ -1,15 +1,15 @@
 -- What the definitions compute of the card, from its superblock to its volume.
--- Assumes nothing.
 use mathlib.Core.Path.{_≡_, refl}
 use mathlib.Core.Bool.{true, false}
 use Rattle.field.specs.Number.{le16, le32, le64}
 use Rattle.field.specs.Bytes.{sameAt}
 use Rattle.superblock.specs.declared.Found.the-variants.{At}
-use Rattle.superblock.specs.Superblock.{superblockOf, logsPass, unitsPass, countsPass, areasPass, endsPass, fieldsPass, copyPasses}
+use Rattle.superblock.specs.Superblock.{superblockOf, logsPass, unitsPass, countsPass, areasPass, endsPass, fieldsPass, passes}
 use Rattle.superblock.specs.Areas.{found}
 use Rattle.checkpoint.specs.declared.Chosen.the-variants.{Pack}
 use Rattle.checkpoint.specs.declared.Opening.the-variants.{Opened}
-use Rattle.checkpoint.specs.Pack.{blockPasses, packPasses, chosen}
+use Rattle.checkpoint.specs.Pack.{blockPasses, packPasses, chosen, firstPasses, lastPasses}
+use Rattle.checkpoint.specs.Checkpoint.{checkpointOf}
 use Rattle.checkpoint.specs.Journal.{journalIn, journalPlaced, journalAt}
 use Rattle.checkpoint.specs.Volume.{mapsReadable, journalReadable, openPack, opened}
 use Rattle.list.specs.Lists.{bytesOf}
@@ -18,7 +18,7 @@ use Rattle.sample_card.specs.Volume.{areas, volume}
 use Rattle.sample_card.proofs.Checksum.{pack-sum}
 
 areas-found : found card ≡ At areas
-unfolding blocks superblock filled bytesOf le16 le32 le64 sameAt superblockOf logsPass unitsPass countsPass areasPass endsPass fieldsPass copyPasses found
+unfolding blocks superblock filled bytesOf le16 le32 le64 sameAt superblockOf logsPass unitsPass countsPass areasPass endsPass fieldsPass passes found
 areas-found = refl
 
 -- ---- the packs
@@ -29,16 +29,16 @@ unfolding pack filled bytesOf le16 le32 le64
 pack-numbers = (refl, refl, refl, refl)
 
 block-passes : blockPasses pack ≡ true
-unfolding blockPasses
+unfolding blockPasses checkpointOf
 block-passes = rw (pack-numbers .2, pack-numbers .3, pack-sum)
 
 -- the first pack's last block is as its first; of the second pack there is none
 first-passes : packPasses card 2 ≡ true
-unfolding packPasses blocks
+unfolding packPasses firstPasses lastPasses checkpointOf blocks
 first-passes = simp (pack-numbers .0, pack-numbers .1, block-passes)
 
 second-fails : packPasses card 514 ≡ false
-unfolding packPasses blockPasses blocks zeros le16 le32
+unfolding packPasses firstPasses blockPasses checkpointOf blocks zeros le16 le32
 second-fails = refl
 
 first-chosen : chosen card 2 ≡ Pack 2
@@ -47,7 +47,7 @@ first-chosen = rw (first-passes, second-fails)
 
 -- ---- the volume
 pack-opens : openPack card areas 2 ≡ Opened volume
-unfolding blocks pack journal filled bytesOf le16 le32 journalIn journalPlaced journalAt mapsReadable journalReadable openPack
+unfolding blocks pack journal filled bytesOf le16 le32 checkpointOf journalIn journalPlaced journalAt mapsReadable journalReadable openPack
 pack-opens = refl
 
 pub card-opens : opened card ≡ Opened volume

@@ -1,5 +1,4 @@
 -- What the definitions compute of the card once it is open: table answers, and the walks of four pulls.
--- Assumes nothing.
 use mathlib.Core.Path.{_≡_, refl}
 use mathlib.Core.List.{[], _∷_}
 use Rattle.field.specs.Number.{le16, le32, le64}
@@ -9,7 +8,7 @@ use Rattle.name_hash.specs.Hash.{halfRound, round, rounds, tea, pushAll, keyOf,
 use Rattle.place.specs.Place.{placeOf}
 use Rattle.nat.specs.declared.TableAnswer.the-variants.{Entry}
 use Rattle.nat.specs.Entry.{entriesFrom, inJournal}
-use Rattle.nat.specs.Table.{inRange, tableAddress, inTable, tableAnswer}
+use Rattle.nat.specs.Table.{inRange, tableAddress, entryIn, inTable, tableAnswer}
 use Rattle.inode.specs.Inode.{inodeOf, notInline, isDirectory, isRegular, addressesIn, isPast, countIn}
 use Rattle.list.specs.Lists.{bytesOf, insert}
 use Rattle.walk.specs.Walk.{ran, run, bind, ok, stop, onward, andThen}
@@ -25,7 +24,7 @@ use Rattle.sample_card.specs.Volume.{volume}
 
 -- the root's from the journal, the file's from the table
 pub entries : (tableAnswer card volume 3 ≡ Entry 3 3074) × (tableAnswer card volume 4 ≡ Entry 4 3076)
-unfolding blocks pack journal natBlock filled bytesOf le16 le32 topBit entriesFrom inJournal inRange tableAddress inTable tableAnswer
+unfolding blocks pack journal natBlock filled bytesOf le16 le32 topBit entriesFrom inJournal inRange tableAddress entryIn inTable tableAnswer
 entries = (refl, refl)
 
 -- block 1 of the file; its block 0, a hole; block 2, past its end; a name that isn't there
@@ -38,7 +37,7 @@ unfolding
     blocks pack journal natBlock rootInode fileInode dentryBlock filled bytesOf
     le16 le32 le64 topBit lowBit sameAt
     halfRound round rounds tea pushAll keyOf absorb hashOf
-    placeOf entriesFrom inJournal inRange tableAddress inTable tableAnswer
+    placeOf entriesFrom inJournal inRange tableAddress entryIn inTable tableAnswer
     inodeOf notInline isDirectory isRegular addressesIn isPast countIn
     insert run bind onward andThen
     inMain belongs atBlock atEntry nodeWalk isHole dataWalk wayWalk blockWalk

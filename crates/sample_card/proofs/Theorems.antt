@@ -1,6 +1,5 @@
 -- Some card opens, and a pull on it answers 0: the definitions don't refuse everything. Each theorem is stated of the image's bytes,
 -- over the definitions that the contracts cite; all numbers are computed by them, the checksum and the name's hash too.
--- Assumes nothing.
 use Prim.Native.Nat.{ℕ}
 use mathlib.Core.Path.{_≡_, refl, ap, _∙_}
 use mathlib.Core.Bool.{true}

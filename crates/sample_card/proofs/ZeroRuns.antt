@@ -1,5 +1,4 @@
 -- The checksum over a long run of zeros, by squaring: so many steps are a product of 32 digits, and doubling their count squares it.
--- Assumes nothing.
 use mathlib.Core.Path.{_≡_, refl, sym, ap, ap₂, _∙_}
 use Prim.Native.Nat.{ℕ, zero, suc, _+_, _*_, _/_, _%_, _^_, _<_}
 use native.Mathlib.Nat.{mod-lt, mod-one, mod-eq-of-lt, mul-one, one-mul, zero-mul, add-mul, mul-assoc, pow-suc}
