@@ -257,10 +257,10 @@ fn verdict_of(first: Difference) -> Compared
     ensures { λ r. ⌜ r ≡ verdict first ⌝ }
 {
     match first {
-        Difference::Same => numbers_of(15, 0, 0, 0),
-        Difference::BoundsDiffer => numbers_of(16, 0, 1, 0),
-        Difference::NodeDiffers(n) => numbers_of(16, 0, 2, n),
-        Difference::BlockDiffers(b) => numbers_of(16, 0, 3, b),
+        Difference::Same => numbers_of(answer::SAME, 0, 0, 0),
+        Difference::BoundsDiffer => numbers_of(answer::CHANGED, 0, 1, 0),
+        Difference::NodeDiffers(n) => numbers_of(answer::CHANGED, 0, 2, n),
+        Difference::BlockDiffers(b) => numbers_of(answer::CHANGED, 0, 3, b),
     }
 }
 
@@ -282,7 +282,7 @@ fn compare_opened(
         (listing (now (nodes .entry)) «node_count») (listing (now (blocks .entry)) «block_count») ⌝ }
 {
     if !lists_in_shape(v, nodes, node_count, blocks, block_count) {
-        return numbers_of(4, 0, 0, 0);
+        return numbers_of(answer::OUT_OF_SHAPE, 0, 0, 0);
     }
     verdict_of(first_difference(kept, v, fresh, u, nodes, node_count, blocks, block_count))
 }
@@ -302,15 +302,15 @@ pub fn compare(
         (listing (now (blocks .entry)) «block_count») ⌝ }
 {
     if !(superblock::in_shape(kept.len()) & superblock::in_shape(fresh.len())) {
-        return numbers_of(4, 0, 0, 0);
+        return numbers_of(answer::OUT_OF_SHAPE, 0, 0, 0);
     }
     let v = match checkpoint::open(kept) {
         checkpoint::Opening::Opened(v) => v,
-        checkpoint::Opening::Refused(answer) => return numbers_of(answer, 1, 0, 0),
+        checkpoint::Opening::Refused(number) => return numbers_of(number, 1, 0, 0),
     };
     let u = match checkpoint::open(fresh) {
         checkpoint::Opening::Opened(u) => u,
-        checkpoint::Opening::Refused(answer) => return numbers_of(answer, 2, 0, 0),
+        checkpoint::Opening::Refused(number) => return numbers_of(number, 2, 0, 0),
     };
     compare_opened(kept, v, fresh, u, nodes, node_count, blocks, block_count)
 }

@@ -22,8 +22,14 @@ pub extern "C" fn harptimber_name_hash(name: &[u8]) -> NameHash
     ensures { λ r. ⌜ r ≡ nameHash (hashed (now (name .entry))) ⌝ }
 {
     match name_hash::hash_answer(name) {
-        name_hash::Hashed::Hash(hash) => NameHash { answer: 0, hash },
-        name_hash::Hashed::BadName => NameHash { answer: 4, hash: 0 },
+        name_hash::Hashed::Hash(hash) => NameHash {
+            answer: answer::DATA,
+            hash,
+        },
+        name_hash::Hashed::BadName => NameHash {
+            answer: answer::OUT_OF_SHAPE,
+            hash: 0,
+        },
     }
 }
 
@@ -63,9 +69,9 @@ fn placed_by(way: place::Way) -> FilePlace
     ensures { λ r. ⌜ r ≡ placed way ⌝ }
 {
     if way.length == 0 {
-        answer_with(3, way)
+        answer_with(answer::PAST_END, way)
     } else {
-        answer_with(0, way)
+        answer_with(answer::DATA, way)
     }
 }
 
@@ -76,7 +82,7 @@ pub extern "C" fn harptimber_file_place(addresses: u32, index: u32) -> FilePlace
     if (addresses == 873) | (addresses == 923) {
         placed_by(place::find_way(addresses, index))
     } else {
-        answer_with(4, place::no_way())
+        answer_with(answer::OUT_OF_SHAPE, place::no_way())
     }
 }
 
@@ -85,12 +91,12 @@ fn table_numbers(said: nat::TableAnswer) -> nat::Lookup
 {
     match said {
         nat::TableAnswer::OutOfRange => nat::Lookup {
-            answer: 9,
+            answer: answer::NO_NODE,
             inode: 0,
             address: 0,
         },
         nat::TableAnswer::Entry(inode, address) => nat::Lookup {
-            answer: 0,
+            answer: answer::DATA,
             inode,
             address,
         },

@@ -57,8 +57,8 @@ open-requires c κs = search needs
 enum-known-v : tie.Need-enum-known-v
 enum-known-v c = search needs
 
-enum-known-answer : tie.Need-enum-known-answer
-enum-known-answer c = search needs
+enum-known-number : tie.Need-enum-known-number
+enum-known-number c = search needs
 
 numbers-of-requires-2 : tie.Need-numbers-of-requires-2
 numbers-of-requires-2 c κs = search needs
@@ -66,7 +66,7 @@ numbers-of-requires-2 c κs = search needs
 returns-2 : tie.Need-returns-2
 returns-2 c =
     let k = c .before .before .before .before in
-    c .numbers-of2 .ensures ∙ sym (kept-refused _ _ _ _ (in-shape (k .before)) _ (sym (k .«open» .ensures) ∙ c .before .before .answer .given .1))
+    c .numbers-of2 .ensures ∙ sym (kept-refused _ _ _ _ (in-shape (k .before)) _ (sym (k .«open» .ensures) ∙ c .before .before .number .given .1))
 
 open-requires-2 : tie.Need-open-requires-2
 open-requires-2 c κs = search needs
@@ -74,8 +74,8 @@ open-requires-2 c κs = search needs
 enum-known-u : tie.Need-enum-known-u
 enum-known-u c = search needs
 
-enum-known-answer-2 : tie.Need-enum-known-answer-2
-enum-known-answer-2 c = search needs
+enum-known-number-2 : tie.Need-enum-known-number-2
+enum-known-number-2 c = search needs
 
 numbers-of-requires-3 : tie.Need-numbers-of-requires-3
 numbers-of-requires-3 c κs = search needs
@@ -84,7 +84,7 @@ returns-3 : tie.Need-returns-3
 returns-3 c =
     let k = c .before .before .before .before in
     let v : tie.After-v = k .before .before in
-    let refuses = sym (k .open2 .ensures) ∙ c .before .before .answer2 .given .1 in
+    let refuses = sym (k .open2 .ensures) ∙ c .before .before .number2 .given .1 in
     c .numbers-of3 .ensures ∙ sym (fresh-refused _ _ _ _ (in-shape (shape-at v)) _ (kept-opened v) _ refuses)
 
 compare-opened-requires : tie.Need-compare-opened-requires
@@ -107,12 +107,12 @@ compare-spec =
     returns
     open-requires
     enum-known-v
-    enum-known-answer
+    enum-known-number
     numbers-of-requires-2
     returns-2
     open-requires-2
     enum-known-u
-    enum-known-answer-2
+    enum-known-number-2
     numbers-of-requires-3
     returns-3
     compare-opened-requires
