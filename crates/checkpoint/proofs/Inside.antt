@@ -17,7 +17,7 @@ use Rattle.superblock.specs.Areas.{found, AreasIn}
 use Rattle.superblock.specs.declared.Areas.{Areas}
 use Rattle.superblock.specs.declared.Found.{Found}
 use Rattle.superblock.specs.declared.Found.the-variants as f
-use Rattle.superblock.proofs.Finding.{areas-in, found-kinds}
+use Rattle.superblock.proofs.Finding.{areas-in, found-kinds, not-both}
 use Rattle.checkpoint.specs.declared.Checkpoint.{Checkpoint}
 use Rattle.checkpoint.specs.declared.Chosen.{Chosen}
 use Rattle.checkpoint.specs.declared.Chosen.the-variants as c
@@ -81,9 +81,13 @@ module _ (card : Card) (a : Areas) (areas : AreasIn (card .blocks) a) where
       let w = chosen-passes card (a .checkpoint) start e in pack-ends start (w .1) (w .0)
   chosen-ends c.Nothing e = refused 7 (omega arith) (omega arith) refl
 
+-- an opening isn't both
+opens-or-refuses : {o : Opening} {v : Volume} {n : ℕ} → o ≡ Opened v → o ≡ Refused n → ⊥
+opens-or-refuses p q = let z : _≡_ {A = ℕ} 0 1 = cc in omega arith
+
 found-answers : (card : Card) (n : ℕ) → found card ≡ f.Refused n → (5 ≤ n) × (n ≤ 8)
 found-answers card n e =
-    ⊎-elim (λ w. let k = w .2 in let z : _≡_ {A = ℕ} 0 1 = cc in absurd (omega arith))
+    ⊎-elim (λ w. absurd (not-both (w .2) e))
     (⊎-elim (λ w. let same : n ≡ 5 = cc in (omega arith, omega arith)) (λ w. let same : n ≡ 6 = cc in (omega arith, omega arith)))
     (found-kinds card)
 
@@ -97,7 +101,7 @@ opened-ends card = found-ends card (found card) refl
 
 pub volume-in : (card : Card) (v : Volume) → opened card ≡ Opened v → VolumeIn card v
 volume-in card v h =
-    ⊎-elim (λ w. let e = w .3 in let n : _≡_ {A = ℕ} 0 1 = cc in absurd (omega arith))
+    ⊎-elim (λ w. absurd (opens-or-refuses h (w .3)))
     (λ w. let e = w .2 in let same : v ≡ w .0 = cc in rw same (w .1))
     (opened-ends card)
 
@@ -106,7 +110,7 @@ module _ (image : List ℕ) (v : Volume) (h : openedImage image ≡ Opened v) wh
   pub image-shaped : inShape (length image) ≡ true
   image-shaped =
       ⊎-elim (λ p. p)
-      (λ p. let e = shape-refuses image p in let n : _≡_ {A = ℕ} 0 1 = cc in absurd (omega arith))
+      (λ p. absurd (opens-or-refuses h (shape-refuses image p)))
       (either (inShape (length image)))
 
   pub image-volume : VolumeIn (cardOf image) v
@@ -118,7 +122,7 @@ refusals image n h =
     ⊎-elim (λ p.
     let e = shape-opens image p in
     ⊎-elim (λ w. let k = w .3 in let same : n ≡ w .0 = cc in (omega arith, omega arith))
-    (λ w. let k = w .2 in let z : _≡_ {A = ℕ} 0 1 = cc in absurd (omega arith))
+    (λ w. absurd (opens-or-refuses (e ∙ w .2) h))
     (opened-ends (cardOf image)))
     (λ p. let e = shape-refuses image p in let same : n ≡ 4 = cc in (omega arith, omega arith))
     (either (inShape (length image)))

@@ -5,7 +5,7 @@ use mathlib.Core.List.{List}
 use mathlib.Core.Logic.{_⊎_, inl, inr, ⊎-elim}
 use Prim.Native.Nat.{ℕ}
 use native.Mathlib.Omega.{arith}
-use Rattle.field.proofs.Choosing.{either}
+use Rattle.field.proofs.Choosing.{either, clash}
 use Rattle.list.specs.Lists.{AllOf}
 use Rattle.nat.specs.declared.TableAnswer.{TableAnswer}
 use Rattle.walk.specs.Walk.{View}
@@ -75,7 +75,7 @@ module _ (m n : Bounds) (kept fresh : View) (nodes blocks : List ℕ) where
       (searched-ends _ BlockDiffers (blocks-decided (kept .block) (fresh .block)) blocks))
       (λ w. subst Says (sym (e ∙ w .2 _)) (s, w .1))
       (searched-ends _ NodeDiffers (nodes-decided (kept .table) (fresh .table)) nodes))
-      (λ h. subst Says (sym (bounds-differ h)) (λ e. let q = bounds-same e in let z : _≡_ {A = ℕ} 0 1 = cc in omega arith))
+      (λ h. subst Says (sym (bounds-differ h)) (λ e. clash (bounds-same e) h))
       (either (sameBounds m n))
 
   pub difference-same : difference m n kept fresh nodes blocks ≡ Same

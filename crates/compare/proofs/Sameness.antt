@@ -6,6 +6,7 @@ use Prim.Native.Nat.{ℕ}
 use native.Mathlib.Omega.{arith}
 use lib.Dec.{eqb}
 use borrow.Author.Tests.{eqb-true, eq-eqb}
+use Rattle.field.proofs.Choosing.{clash}
 use Rattle.nat.specs.declared.TableAnswer.{TableAnswer}
 use Rattle.nat.specs.declared.TableAnswer.the-variants.{OutOfRange, Entry}
 use Rattle.node.specs.Node.{Bounds}
@@ -26,8 +27,8 @@ bounds-same {m = m} e = rw (← e) (itself (m .start) (m .end))
 
 pub same-answer : (t s : TableAnswer) → sameAnswer t s ≡ true → t ≡ s
 same-answer OutOfRange OutOfRange h = refl
-same-answer OutOfRange (Entry j b) h = absurd (let z : _≡_ {A = ℕ} 0 1 = cc in omega arith)
-same-answer (Entry i a) OutOfRange h = absurd (let z : _≡_ {A = ℕ} 0 1 = cc in omega arith)
+same-answer OutOfRange (Entry j b) h = absurd (clash h refl)
+same-answer (Entry i a) OutOfRange h = absurd (clash h refl)
 same-answer (Entry i a) (Entry j b) h = let t = both _ _ _ _ h in λ k. Entry (t .0 k) (t .1 k)
 
 answer-itself : (t : TableAnswer) → sameAnswer t t ≡ true
@@ -40,8 +41,8 @@ answer-same {t = t} e = rw (← e) (answer-itself t)
 pub same-bytes : (xs ys : List ℕ) → sameBytes xs ys ≡ true → xs ≡ ys
 unfolding sameBytes
 same-bytes [] [] h = refl
-same-bytes [] (y ∷ ys) h = absurd (let z : _≡_ {A = ℕ} 0 1 = cc in omega arith)
-same-bytes (x ∷ xs) [] h = absurd (let z : _≡_ {A = ℕ} 0 1 = cc in omega arith)
+same-bytes [] (y ∷ ys) h = absurd (clash h refl)
+same-bytes (x ∷ xs) [] h = absurd (clash h refl)
 same-bytes (x ∷ xs) (y ∷ ys) h =
     let t = and-eq-true-iff _ _ .0 h in
     λ i. eqb-true x y (t .0) i ∷ same-bytes xs ys (t .1) i

@@ -10,7 +10,7 @@ use lib.ListN.{length}
 use lib.Dec.{leb}
 use borrow.Author.Tests.{lt-ltb, ltb-true, le-leb, leb-true}
 use Rattle.field.specs.Card.{Card}
-use Rattle.field.proofs.Choosing.{needed, needed-le}
+use Rattle.field.proofs.Choosing.{clash, needed, needed-le}
 use Rattle.checkpoint.specs.declared.Volume.{Volume}
 use Rattle.checkpoint.specs.Volume.{VolumeIn}
 use Rattle.list.specs.Lists.{AllOf, Rising, Listed, entries, countFits}
@@ -57,7 +57,7 @@ module _ (m : Bounds) where
   pub test-main : (l : List ℕ) → allInMain m l ≡ true → AllOf (λ b. inMain m b ≡ true) l
   test-main l h =
       ⊎-elim (λ w. w .0)
-      (λ w. let e : allInMain m l ≡ false = w .2 true in let z : _≡_ {A = ℕ} 0 1 = cc in absurd (omega arith))
+      (λ w. absurd (clash h (w .2 true)))
       (searched-ends _ (λ b. false) main-decided l)
 
 in-main : (m : Bounds) (b : ℕ) → inMain m b ≡ true → b < m .end

@@ -5,7 +5,7 @@ use mathlib.Core.List.{List, [], _∷_, _++_}
 use mathlib.Core.Logic.{_⊎_, inl, inr, ⊎-elim}
 use Prim.Native.Nat.{ℕ}
 use native.Mathlib.Omega.{arith}
-use Rattle.field.proofs.Choosing.{either}
+use Rattle.field.proofs.Choosing.{either, clash}
 use Rattle.list.specs.Lists.{AllOf}
 use Rattle.list.specs.Search.{searched}
 
@@ -51,7 +51,7 @@ module _ {A : Type 0} (test : ℕ → Bool) (found : ℕ → A) where
       after = xs;
       list = refl;
       earlier = tt;
-      here = λ p. let q = d .passes x p in let z : _≡_ {A = ℕ} 0 1 = cc in omega arith;
+      here = λ p. clash (d .passes x p) h;
     }
 
     later : {y : ℕ} (x : ℕ) (xs : List ℕ) → test x ≡ true → FirstNot P xs y → FirstNot P (x ∷ xs) y

@@ -18,7 +18,7 @@ use Rattle.walk.proofs.Fits.{fits-start}
 use Rattle.walk.proofs.Written.{left-value, left-counts, left-nodes, left-blocks}
 use Rattle.node.specs.Node.{Bounds, boundsOf}
 use Rattle.pull.specs.Walk.{Block, pullWalk}
-use Rattle.pull.specs.Pull.{mostNodes, mostBlocks, Lent, lending, result, lentInShape, callInShape}
+use Rattle.pull.specs.Pull.{nodesMost, blocksMost, Lent, lending, result, lentInShape, callInShape}
 use Rattle.pull.specs.Pull.{answerOf, countOf, bufferAfter, refusedPull, written, pullRun, pulledFrom, pulled}
 use Rattle.pull.proofs.Sizes.{pull-within}
 
@@ -28,11 +28,11 @@ module _ (lent : Lent) (h : lentInShape lent ≡ true) where
   unfolding lentInShape
   block-room = needed-eq (λ e. rw e refl) h
 
-  nodes-fit : mostNodes ≤ length (lent .nodes) / 4
+  nodes-fit : nodesMost ≤ length (lent .nodes) / 4
   unfolding lentInShape
   nodes-fit = needed-le (λ e. rw (e, and-false) refl) h
 
-  blocks-fit : mostBlocks ≤ length (lent .blocks) / 4
+  blocks-fit : blocksMost ≤ length (lent .blocks) / 4
   unfolding lentInShape
   blocks-fit = needed-le (λ e. rw (e, and-false) refl) h
 

@@ -12,7 +12,7 @@ use Rattle.inode.proofs.Counting.{count-in-block, few-addresses}
 use Rattle.node.specs.Node.{Bounds, inMain}
 use Rattle.node.proofs.Sizes.{Small, node-within, block-within}
 use Rattle.directory.proofs.Sizes.{find-within}
-use Rattle.pull.specs.Pull.{mostNodes, mostBlocks}
+use Rattle.pull.specs.Pull.{nodesMost, blocksMost}
 use Rattle.pull.specs.Walk.{rootIno, Block, atFile, fileWalk, atRoot, rootWalk, pullWalk}
 
 -- "a byte count 1 to 4,096"
@@ -49,6 +49,6 @@ module _ (m : Bounds) where
   unfolding rootWalk
   root-within name = within-then _ (node-within m rootIno rootIno 0) (λ inode _. at-root-within name inode)
 
-  pub pull-within : (name : List ℕ) (index : ℕ) → ToBlock m mostNodes mostBlocks (pullWalk m name index)
+  pub pull-within : (name : List ℕ) (index : ℕ) → ToBlock m nodesMost blocksMost (pullWalk m name index)
   unfolding pullWalk
   pull-within name index = within-then _ (root-within name) (λ ino _. file-within index ino)

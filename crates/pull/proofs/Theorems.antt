@@ -10,6 +10,7 @@ use lib.Dec.{eqb, leb}
 use mathlib.Core.List.{List, [], _∷_, List·Memᴰ, List·Memᴰ·not-nil}
 use lib.ListN.{length}
 use Rattle.field.specs.Card.{Card, cardOf}
+use Rattle.field.proofs.Choosing.{clash}
 use Rattle.checkpoint.specs.declared.Volume.{Volume}
 use Rattle.checkpoint.specs.declared.Opening.{Opening}
 use Rattle.checkpoint.specs.declared.Opening.the-variants.{Opened, Refused}
@@ -24,7 +25,7 @@ use Rattle.list.proofs.Written.{numbers-over}
 use Rattle.node.specs.Node.{boundsOf, inMain, nodeWalk}
 use Rattle.node.specs.Block.{Fetched, hole, held}
 use Rattle.pull.specs.Walk.{rootIno, Block, rootWalk, pullWalk}
-use Rattle.pull.specs.Pull.{mostNodes, mostBlocks, Lent, Result, callInShape, contentAnswer, answerOf, countOf, bufferAfter}
+use Rattle.pull.specs.Pull.{nodesMost, blocksMost, Lent, Result, callInShape, contentAnswer, answerOf, countOf, bufferAfter}
 use Rattle.pull.specs.Pull.{nodesLeft, blocksLeft, refusedPull, written, pullRun, pulled}
 use Rattle.pull.proofs.Sizes.{Counted, ToBlock, pull-within}
 use Rattle.pull.proofs.Results.{call-refused, call-opens}
@@ -42,8 +43,8 @@ ending-inside answer h = go (eqb answer 2) refl (eqb answer 3) refl (leb 9 answe
     go true e b f c g d k t = let is = eqb-true answer 2 e in (omega arith, omega arith, inl (omega arith))
     go false e true f c g d k t = let is = eqb-true answer 3 f in (omega arith, omega arith, inl (omega arith))
     go false e false f true g true k t = let least = leb-true 9 answer g in (omega arith, leb-true answer 14 k, inr (omega arith))
-    go false e false f true g false k t = let z : _≡_ {A = ℕ} 0 1 = cc in absurd (omega arith)
-    go false e false f false g d k t = let z : _≡_ {A = ℕ} 0 1 = cc in absurd (omega arith)
+    go false e false f true g false k t = absurd (clash t refl)
+    go false e false f false g d k t = absurd (clash t refl)
 
 -- a hole or a block: the answer is 0 or 1
 content-few : (f : Fetched) → contentAnswer f ≤ 1
@@ -56,10 +57,10 @@ Answered answer count = (answer ≤ 14) × (answer ≤ 1 → (1 ≤ count) × (c
 
 -- ---- the walk's run, on any card
 module _ (card : Card) (v : Volume) (name : List ℕ) (index : ℕ) where
-  size : ToBlock (boundsOf v) mostNodes mostBlocks (walkOf v name index)
+  size : ToBlock (boundsOf v) nodesMost blocksMost (walkOf v name index)
   size = pull-within (boundsOf v) name index
 
-  run-few : (length (pullRun card v name index .seen .nodes) ≤ mostNodes) × (length (pullRun card v name index .seen .blocks) ≤ mostBlocks)
+  run-few : (length (pullRun card v name index .seen .nodes) ≤ nodesMost) × (length (pullRun card v name index .seen .blocks) ≤ blocksMost)
   unfolding pullRun
   run-few = few-listed (viewOf card v) (walkOf v name index) size
 
@@ -113,10 +114,10 @@ module _ (image name : List ℕ) (index : ℕ) (lent : Lent) where
       go true e (Opened v) f = walked v e f (call-opens image name index lent (Opened v) e f)
 
   -- "at most 179 and 238"
-  pub counts : (pulled image name index lent .numbers .«node_count» ≤ mostNodes) × (pulled image name index lent .numbers .«block_count» ≤ mostBlocks)
+  pub counts : (pulled image name index lent .numbers .«node_count» ≤ nodesMost) × (pulled image name index lent .numbers .«block_count» ≤ blocksMost)
   counts = go ends
     where
-      go : {r : Result} → PullEnds image name index lent r → (r .numbers .«node_count» ≤ mostNodes) × (r .numbers .«block_count» ≤ mostBlocks)
+      go : {r : Result} → PullEnds image name index lent r → (r .numbers .«node_count» ≤ nodesMost) × (r .numbers .«block_count» ≤ blocksMost)
       go (refusal answer p q e) = rw e (omega arith, omega arith)
       go (walked v p q e) = rw e (run-few (cardOf image) v name index)
 

@@ -20,11 +20,11 @@ use Rattle.pull.specs.declared.Pulled.{Pulled}
 use Rattle.pull.specs.Walk.{Block, pullWalk}
 
 -- "at most 179 and 238": the most nodes and blocks that a pull lists
-abbrev pub mostNodes : ℕ
-mostNodes = 179
+abbrev pub nodesMost : ℕ
+nodesMost = 179
 
-abbrev pub mostBlocks : ℕ
-mostBlocks = 238
+abbrev pub blocksMost : ℕ
+blocksMost = 238
 
 -- the memory that a pull is lent: the block buffer, the node list and the block list
 pub record Lent : Type 0 where
@@ -53,7 +53,7 @@ blocksLeft r = listing (r .memory .blocks) (r .numbers .«block_count»)
 -- "a block buffer of exactly 4,096 bytes, a node list of at least 179 and a block list of at least 238 32-bit numbers"
 unfoldable pub lentInShape : Lent → Bool
 lentInShape lent =
-    eqb (length (lent .block)) 4096 && leb mostNodes (length (lent .nodes) / 4) && leb mostBlocks (length (lent .blocks) / 4)
+    eqb (length (lent .block)) 4096 && leb nodesMost (length (lent .nodes) / 4) && leb blocksMost (length (lent .blocks) / 4)
 
 -- 4, "call out of shape": the image, the name and the lent memory
 unfoldable pub callInShape : List ℕ → List ℕ → Lent → Bool

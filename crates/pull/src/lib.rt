@@ -12,13 +12,13 @@ ghost use Rattle.node.specs.Node.{boundsOf};
 ghost use Rattle.node.specs.Found.{DataIn};
 ghost use Rattle.directory.specs.Find.{entryOf};
 ghost use Rattle.pull.specs.Walk.{atFile, fileWalk, blockFound, atRoot, rootWalk, pullWalk};
-ghost use Rattle.pull.specs.Pull.{mostNodes, mostBlocks, lending, result, lentInShape};
+ghost use Rattle.pull.specs.Pull.{nodesMost, blocksMost, lending, result, lentInShape};
 ghost use Rattle.pull.specs.Pull.{answerOf, countOf, bufferAfter, written, pullRun, pulled};
 
 // The most nodes and blocks that a pull lists.
-const MOST_NODES: usize = 179;
+const NODES_MOST: usize = 179;
 
-const MOST_BLOCKS: usize = 238;
+const BLOCKS_MOST: usize = 238;
 
 // A pull's numbers, as they cross to C.
 #[repr(C)]
@@ -269,9 +269,9 @@ fn refused_pull(answer: u32) -> Pulled
 
 // Whether the lent memory is of the lengths that a pull takes.
 fn lent_in_shape(block: usize, nodes: usize, blocks: usize) -> bool
-    ensures { λ r. ⌜ r ≡ (eqb block 4096 && leb mostNodes (nodes / 4) && leb mostBlocks (blocks / 4)) ⌝ }
+    ensures { λ r. ⌜ r ≡ (eqb block 4096 && leb nodesMost (nodes / 4) && leb blocksMost (blocks / 4)) ⌝ }
 {
-    (block == 4096) & (MOST_NODES <= nodes / 4) & (MOST_BLOCKS <= blocks / 4)
+    (block == 4096) & (NODES_MOST <= nodes / 4) & (BLOCKS_MOST <= blocks / 4)
 }
 
 // A pull from an opened card.

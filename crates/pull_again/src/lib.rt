@@ -18,15 +18,15 @@ pub fn pull_again(
     block: &mut [u8],
     nodes: &mut [u8],
     blocks: &mut [u8],
-    new_block: &mut [u8],
-    new_nodes: &mut [u8],
-    new_blocks: &mut [u8],
+    fresh_block: &mut [u8],
+    fresh_nodes: &mut [u8],
+    fresh_blocks: &mut [u8],
 ) -> Again
     ensures { λ r. ⌜ PulledAgain (now (kept .entry)) (now (fresh .entry)) (now (name .entry)) index
         (lending (now (block .entry)) (now (nodes .entry)) (now (blocks .entry)))
-        (lending (now («new_block» .entry)) (now («new_nodes» .entry)) (now («new_blocks» .entry)))
+        (lending (now («fresh_block» .entry)) (now («fresh_nodes» .entry)) (now («fresh_blocks» .entry)))
         (lending (now (block .exit)) (now (nodes .exit)) (now (blocks .exit)))
-        (lending (now («new_block» .exit)) (now («new_nodes» .exit)) (now («new_blocks» .exit))) r ⌝ }
+        (lending (now («fresh_block» .exit)) (now («fresh_nodes» .exit)) (now («fresh_blocks» .exit))) r ⌝ }
 {
     let first = pull::pull(kept, name, index, block, nodes, blocks);
     let compared = compare::compare(
@@ -37,7 +37,7 @@ pub fn pull_again(
         blocks,
         first.block_count,
     );
-    let second = pull::pull(fresh, name, index, new_block, new_nodes, new_blocks);
+    let second = pull::pull(fresh, name, index, fresh_block, fresh_nodes, fresh_blocks);
     Again {
         first,
         compared,

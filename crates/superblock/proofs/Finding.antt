@@ -72,7 +72,7 @@ module _ (card : Card) where
       (λ p. ⊎-elim (λ q. of-copy 1 q (found-second p q)) (λ q. inr (inl (found-none p q))) (either (copyPasses card 1)))
       (either (copyPasses card 0))
 
-not-both : {f : Found} {a : Areas} {n : ℕ} → f ≡ At a → f ≡ Refused n → ⊥
+pub not-both : {f : Found} {a : Areas} {n : ℕ} → f ≡ At a → f ≡ Refused n → ⊥
 not-both p q = let z : _≡_ {A = ℕ} 0 1 = cc in omega arith
 
 pub areas-in : (card : Card) (a : Areas) → found card ≡ At a → AreasIn (card .blocks) a
