@@ -34,11 +34,11 @@ use Rattle.checkpoint.proofs.Reading.{journal-starts, map-inside, journ
 use Rattle.checkpoint.proofs.Ways.{maps-refuse, journal-refuses, pack-opens, shape-refuses, shape-opens}
 
 -- an opening is an answer from 5 to 8, or a volume inside the card
-abbrev Ends : Card → Opening → Type 0
-Ends card o = ((n : ℕ) × (5 ≤ n) × (n ≤ 8) × (o ≡ Refused n)) ⊎ ((v : Volume) × VolumeIn card v × (o ≡ Opened v))
+abbrev OpeningEnds : Card → Opening → Type 0
+OpeningEnds card o = ((n : ℕ) × (5 ≤ n) × (n ≤ 8) × (o ≡ Refused n)) ⊎ ((v : Volume) × VolumeIn card v × (o ≡ Opened v))
 
-refused : {card : Card} {o : Opening} (n : ℕ) → 5 ≤ n → n ≤ 8 → o ≡ Refused n → Ends card o
-refused n l m e = inl (n, l, m, e)
+ends-refused : {card : Card} {o : Opening} (n : ℕ) → 5 ≤ n → n ≤ 8 → o ≡ Refused n → OpeningEnds card o
+ends-refused n l m e = inl (n, l, m, e)
 
 journal-count : (journal : List ℕ) → journalReadable journal ≡ true → le16 journal 0 ≤ 38
 unfolding journalReadable
@@ -62,7 +62,7 @@ module _ (card : Card) (a : Areas) (areas : AreasIn (card .blocks) a) where
           journalStarts = journal-starts header;
         }
 
-    pack-ends : Ends card (openPack card a start)
+    pack-ends : OpeningEnds card (openPack card a start)
     pack-ends =
         ⊎-elim (λ m.
         ⊎-elim (λ j.
@@ -71,15 +71,15 @@ module _ (card : Card) (a : Areas) (areas : AreasIn (card .blocks) a) where
           record { places = places-in m; journalCount = journal-count (journalOf card volume) j },
           pack-opens card a start header refl volume refl m j,
         ))
-        (λ j. refused 8 (omega arith) (omega arith) (journal-refuses card a start header refl volume refl m j))
+        (λ j. ends-refused 8 (omega arith) (omega arith) (journal-refuses card a start header refl volume refl m j))
         (either (journalReadable (journalOf card volume))))
-        (λ m. refused 8 (omega arith) (omega arith) (maps-refuse card a start header refl m))
+        (λ m. ends-refused 8 (omega arith) (omega arith) (maps-refuse card a start header refl m))
         (either (mapsReadable a header))
 
-  chosen-ends : (k : Chosen) → chosen card (a .checkpoint) ≡ k → Ends card (openChosen card a k)
+  chosen-ends : (k : Chosen) → chosen card (a .checkpoint) ≡ k → OpeningEnds card (openChosen card a k)
   chosen-ends (c.Pack start) e =
       let w = chosen-passes card (a .checkpoint) start e in pack-ends start (w .1) (w .0)
-  chosen-ends c.Nothing e = refused 7 (omega arith) (omega arith) refl
+  chosen-ends c.Nothing e = ends-refused 7 (omega arith) (omega arith) refl
 
 -- an opening isn't both
 opens-or-refuses : {o : Opening} {v : Volume} {n : ℕ} → o ≡ Opened v → o ≡ Refused n → ⊥
@@ -91,11 +91,11 @@ found-answers card n e =
     (⊎-elim (λ w. let same : n ≡ 5 = cc in (omega arith, omega arith)) (λ w. let same : n ≡ 6 = cc in (omega arith, omega arith)))
     (found-kinds card)
 
-found-ends : (card : Card) (k : Found) → found card ≡ k → Ends card (openAreas card k)
+found-ends : (card : Card) (k : Found) → found card ≡ k → OpeningEnds card (openAreas card k)
 found-ends card (f.At a) e = chosen-ends card a (areas-in card a e) (chosen card (a .checkpoint)) refl
-found-ends card (f.Refused n) e = let w = found-answers card n e in refused n (w .0) (w .1) refl
+found-ends card (f.Refused n) e = let w = found-answers card n e in ends-refused n (w .0) (w .1) refl
 
-opened-ends : (card : Card) → Ends card (opened card)
+opened-ends : (card : Card) → OpeningEnds card (opened card)
 unfolding opened
 opened-ends card = found-ends card (found card) refl
 

@@ -91,18 +91,18 @@ fits-count l h = let t = leb-true (l .count) (length (l .bytes) / 4) h in omega 
 
 -- what the code tests before it reads a number
 module _ (nodes blocks : Listed) where
-  abbrev pub Counted : Bool
-  Counted = leb 1 (nodes .count) && countFits nodes && countFits blocks
+  abbrev pub CountsFit : Bool
+  CountsFit = leb 1 (nodes .count) && countFits nodes && countFits blocks
 
-  pub counts-held : Counted ≡ true → (4 * nodes .count ≤ length (nodes .bytes)) × (4 * blocks .count ≤ length (blocks .bytes))
+  pub counts-held : CountsFit ≡ true → (4 * nodes .count ≤ length (nodes .bytes)) × (4 * blocks .count ≤ length (blocks .bytes))
   counts-held h = (fits-count nodes (needed (λ p. simp (p, and-false)) h), fits-count blocks (needed (λ p. simp (p, and-false)) h))
 
 module _ (m : Bounds) (nodes blocks : Listed) where
-  pub counts-refuse : Counted nodes blocks ≡ false → listsInShape m nodes blocks ≡ false
+  pub counts-refuse : CountsFit nodes blocks ≡ false → listsInShape m nodes blocks ≡ false
   unfolding listsInShape
   counts-refuse h = rw h
 
-  pub counts-pass : Counted nodes blocks ≡ true → listsInShape m nodes blocks
+  pub counts-pass : CountsFit nodes blocks ≡ true → listsInShape m nodes blocks
       ≡ (isRising (entries nodes) && isRising (entries blocks) && allInMain m (entries blocks))
   unfolding listsInShape
   counts-pass h = rw h

@@ -25,26 +25,28 @@ use Rattle.compare.specs.Difference.{difference}
 use Rattle.compare.specs.Compare.{refused, verdict, compared}
 use Rattle.compare.proofs.Openings.{lists-refused, lists-compared, shape-refused, kept-refused, fresh-refused, compared-opened}
 
--- A compare is out of shape, or an image is refused with its side, or a difference is told.
-pub data Ends (r : Compared) : Type 0 where
-  outOfShape : r ≡ refused 4 0 → Ends r
-  refusal : (answer side : ℕ) → (4 ≤ answer) × (answer ≤ 8) → (side ≡ 1) ⊎ (side ≡ 2) → r ≡ refused answer side → Ends r
-  told : (d : Difference) → r ≡ verdict d → Ends r
+-- A compare is out of shape, or an image is refused with its side, or both open, the lists are in shape and a difference is told.
+pub data CompareEnds (kept fresh : List ℕ) (nodes blocks : Listed) (r : Compared) : Type 0 where
+  outOfShape : r ≡ refused 4 0 → CompareEnds kept fresh nodes blocks r
+  refusal : (answer side : ℕ) → (4 ≤ answer) × (answer ≤ 8) → (side ≡ 1) ⊎ (side ≡ 2) → r ≡ refused answer side
+      → CompareEnds kept fresh nodes blocks r
+  told : (v u : Volume) → openedImage kept ≡ Opened v → openedImage fresh ≡ Opened u → listsInShape (boundsOf v) nodes blocks ≡ true
+      → (d : Difference) → r ≡ verdict d → CompareEnds kept fresh nodes blocks r
 
 module _ (kept fresh : List ℕ) (nodes blocks : Listed) where
-  both : (v u : Volume) → openedImage kept ≡ Opened v → openedImage fresh ≡ Opened u → Ends (compared kept fresh nodes blocks)
+  both : (v u : Volume) → openedImage kept ≡ Opened v → openedImage fresh ≡ Opened u → CompareEnds kept fresh nodes blocks (compared kept fresh nodes blocks)
   both v u e f =
       let is = compared-opened kept fresh nodes blocks v u e f in
-      ⊎-elim (λ h. told (difference (boundsOf v) (boundsOf u) (viewOf (cardOf kept) v) (viewOf (cardOf fresh) u) (entries nodes) (entries blocks))
+      ⊎-elim (λ h. told v u e f h (difference (boundsOf v) (boundsOf u) (viewOf (cardOf kept) v) (viewOf (cardOf fresh) u) (entries nodes) (entries blocks))
       (is ∙ lists-compared (cardOf kept) v (cardOf fresh) u nodes blocks h))
       (λ h. outOfShape (is ∙ lists-refused (cardOf kept) v (cardOf fresh) u nodes blocks h))
       (either (listsInShape (boundsOf v) nodes blocks))
 
-  pub ends : Ends (compared kept fresh nodes blocks)
+  pub ends : CompareEnds kept fresh nodes blocks (compared kept fresh nodes blocks)
   ends = go (inShape (length kept) && inShape (length fresh)) refl (openedImage kept) refl (openedImage fresh) refl
     where
       go : (b : Bool) → (inShape (length kept) && inShape (length fresh)) ≡ b → (o : Opening) → openedImage kept ≡ o
-          → (p : Opening) → openedImage fresh ≡ p → Ends (compared kept fresh nodes blocks)
+          → (p : Opening) → openedImage fresh ≡ p → CompareEnds kept fresh nodes blocks (compared kept fresh nodes blocks)
       go false h o e p f = outOfShape (shape-refused kept fresh nodes blocks h)
       go true h (Refused answer) e p f = refusal answer 1 (refusals kept answer e) (inl refl) (kept-refused kept fresh nodes blocks h answer e)
       go true h (Opened v) e (Refused answer) f = refusal answer 2 (refusals fresh answer f) (inr refl) (fresh-refused kept fresh nodes blocks h v e answer f)
@@ -61,7 +63,7 @@ module _ (kept fresh : List ℕ) (nodes blocks : Listed) where
       ended (NodeDiffers n) = (omega arith, omega arith)
       ended (BlockDiffers b) = (omega arith, omega arith)
 
-      go : {r : Compared} → Ends r → ((4 ≤ r .answer) × (r .answer ≤ 8)) ⊎ ((15 ≤ r .answer) × (r .answer ≤ 16))
+      go : {r : Compared} → CompareEnds kept fresh nodes blocks r → ((4 ≤ r .answer) × (r .answer ≤ 8)) ⊎ ((15 ≤ r .answer) × (r .answer ≤ 16))
       go (outOfShape e) = rw e (inl (omega arith, omega arith))
       go (refusal answer side few s e) = rw e (inl few)
-      go (told d e) = rw e (inr (ended d))
+      go (told v u p q s d e) = rw e (inr (ended d))

@@ -17,7 +17,7 @@ crossing answer way =
     let node : ℕ → Step = λ k. getD (way .steps) k (step 0 0) in
     record {
       answer = answer;
-      steps = way .length;
+      steps = way .count;
       place0 = node 0 .number;
       slot0 = node 0 .slot;
       place1 = node 1 .number;
@@ -30,7 +30,7 @@ crossing answer way =
 
 -- an index with no way is past the last
 abbrev pub placed : Way → FilePlace
-placed way = crossing (choose (eqb (way .length) 0) 3 0) way
+placed way = crossing (choose (eqb (way .count) 0) 3 0) way
 
 unfoldable pub filePlace : ℕ → ℕ → FilePlace
 filePlace A index = choose (eqb A 873 || eqb A 923) (placed (inArray (wayOf (placeOf A index)))) (crossing 4 (inArray []))

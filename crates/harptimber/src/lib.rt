@@ -53,7 +53,7 @@ fn answer_with(answer: u32, way: place::Way) -> FilePlace
     let nodes = way.steps;
     FilePlace {
         answer,
-        steps: way.length,
+        steps: way.count,
         place0: nodes[0].number,
         slot0: nodes[0].slot,
         place1: nodes[1].number,
@@ -68,7 +68,7 @@ fn answer_with(answer: u32, way: place::Way) -> FilePlace
 fn placed_by(way: place::Way) -> FilePlace
     ensures { λ r. ⌜ r ≡ placed way ⌝ }
 {
-    if way.length == 0 {
+    if way.count == 0 {
         answer_with(answer::PAST_END, way)
     } else {
         answer_with(answer::DATA, way)

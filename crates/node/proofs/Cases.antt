@@ -102,15 +102,15 @@ module _ (m : Bounds) (ino : ℕ) (inode : List ℕ) where
 
   -- the same of the way that the code found
   module _ (A index : ℕ) {w : Way} (e : w ≡ inArray (wayOf (placeOf A index))) where
-    pub fetch-none : w .length ≡ 0 → blockWalk m ino inode A index ≡ done (ok hole)
+    pub fetch-none : w .count ≡ 0 → blockWalk m ino inode A index ≡ done (ok hole)
     unfolding blockWalk
     fetch-none l = way-none _ (rw e at l)
 
-    pub fetch-address : {n : ℕ} → w .length ≡ 1 → n ≡ le32 inode (360 + 4 * slotAt w 0) → blockWalk m ino inode A index ≡ dataWalk m n
+    pub fetch-address : {n : ℕ} → w .count ≡ 1 → n ≡ le32 inode (360 + 4 * slotAt w 0) → blockWalk m ino inode A index ≡ dataWalk m n
     unfolding blockWalk
     fetch-address l f = way-address _ (rw e at l) ∙ rw (f, e)
 
-    pub fetch-number : {n : ℕ} → (w .length ≡ 0 → ⊥) → (w .length ≡ 1 → ⊥) → n ≡ le32 inode (4052 + 4 * slotAt w 0)
+    pub fetch-number : {n : ℕ} → (w .count ≡ 0 → ⊥) → (w .count ≡ 1 → ⊥) → n ≡ le32 inode (4052 + 4 * slotAt w 0)
         → blockWalk m ino inode A index ≡ followWalk m ino (drop 1 (stepsOf w)) n
     unfolding blockWalk
     fetch-number l o f = way-number _ (rw e at l) (rw e at o) ∙ rw (f, way-steps A index e, e)

@@ -176,18 +176,18 @@ fn follow(
     requires { ⌜ Fits (imageView (now image) v) (followWalk (boundsOf v) ino (afterInode way) number)
         (lists (now nodes) (now blocks) counts) ⌝ }
     requires { ⌜ VolumeIn (cardOf (now image)) v ⌝ }
-    requires { ⌜ WayIn (way .steps) (way .length) ⌝ }
+    requires { ⌜ WayIn (way .steps) (way .count) ⌝ }
     ensures { λ r. ⌜ Walked (imageView (now (image .entry)) v) (followWalk (boundsOf v) ino (afterInode way) number)
         (lists (now (nodes .entry)) (now (blocks .entry)) counts) (dataOf (cardOf (now (image .entry))) (r .data))
         (lists (now (nodes .exit)) (now (blocks .exit)) (r .counts)) ⌝ }
     ensures { λ r. ⌜ DataIn (cardOf (now (image .entry))) (r .data) ⌝ }
 {
     let steps = way.steps;
-    let length = way.length as usize;
+    let count = way.count as usize;
     let mut listed = counts;
     let mut next = number;
     let mut i: usize = 1;
-    while i < length {
+    while i < count {
         if next == 0 {
             return DataStep {
                 data: Data::Hole,
@@ -233,7 +233,7 @@ pub fn data_block(
     ensures { λ r. ⌜ DataIn (cardOf (now (image .entry))) (r .data) ⌝ }
 {
     let way = place::find_way(file.addresses, index);
-    if way.length == 0 {
+    if way.count == 0 {
         return DataStep {
             data: Data::Hole,
             counts,
@@ -243,7 +243,7 @@ pub fn data_block(
     let first = steps[0];
     let slot = first.slot as usize;
     let inode = field::block_at(image, file.inode);
-    if way.length == 1 {
+    if way.count == 1 {
         let address = field::get32(inode, 360 + 4 * slot);
         return data_at(image, v, nodes, blocks, counts, address);
     }

@@ -15,7 +15,7 @@ use Rattle.place.proofs.Inverse.{slots-in}
 
 -- the steps of a way in the code's array
 abbrev pub stepsOf : Way → List Step
-stepsOf w = take (w .length) (w .steps)
+stepsOf w = take (w .count) (w .steps)
 
 -- the slot of a step of the array
 abbrev pub slotAt : Way → ℕ → ℕ
@@ -28,7 +28,7 @@ steps-back (Indirect n k s) = refl
 steps-back (Double n k s) = refl
 steps-back Past = refl
 
-few : (p : Place) → (inArray (wayOf p) .length ≤ 4) × (length (inArray (wayOf p) .steps) ≡ 4)
+few : (p : Place) → (inArray (wayOf p) .count ≤ 4) × (length (inArray (wayOf p) .steps) ≡ 4)
 few (Inode s) = (omega arith, refl)
 few (Direct n s) = (omega arith, refl)
 few (Indirect n k s) = (omega arith, refl)
@@ -36,7 +36,7 @@ few (Double n k s) = (omega arith, refl)
 few Past = (omega arith, refl)
 
 -- the slots of the nodes on the way
-node-slots : (A : ℕ) (p : Place) → SlotsIn A p → (k : ℕ) → 1 ≤ k → k < inArray (wayOf p) .length → slotAt (inArray (wayOf p)) k < 1018
+node-slots : (A : ℕ) (p : Place) → SlotsIn A p → (k : ℕ) → 1 ≤ k → k < inArray (wayOf p) .count → slotAt (inArray (wayOf p)) k < 1018
 node-slots A (Inode s) h k a b = absurd (omega arith)
 node-slots A (Direct n s) h zero a b = absurd (omega arith)
 node-slots A (Direct n s) h (suc zero) a b = h .1
@@ -53,14 +53,14 @@ node-slots A (Double n m s) h (suc (suc (suc (suc k)))) a b = absurd (omega arit
 node-slots A Past h k a b = absurd (omega arith)
 
 -- the slot in the inode: of an address, where that is all of the way, or of a node number
-inode-slot : (A : ℕ) (p : Place) → SlotsIn A p → inArray (wayOf p) .length ≡ 1 → slotAt (inArray (wayOf p)) 0 < A
+inode-slot : (A : ℕ) (p : Place) → SlotsIn A p → inArray (wayOf p) .count ≡ 1 → slotAt (inArray (wayOf p)) 0 < A
 inode-slot A (Inode s) h e = h
 inode-slot A (Direct n s) h e = absurd (omega arith)
 inode-slot A (Indirect n k s) h e = absurd (omega arith)
 inode-slot A (Double n k s) h e = absurd (omega arith)
 inode-slot A Past h e = absurd (omega arith)
 
-number-slot : (A : ℕ) (p : Place) → SlotsIn A p → 2 ≤ inArray (wayOf p) .length → slotAt (inArray (wayOf p)) 0 < 5
+number-slot : (A : ℕ) (p : Place) → SlotsIn A p → 2 ≤ inArray (wayOf p) .count → slotAt (inArray (wayOf p)) 0 < 5
 number-slot A (Inode s) h e = absurd (omega arith)
 number-slot A (Direct n s) h e = omega arith
 number-slot A (Indirect n k s) h e = omega arith
@@ -72,14 +72,14 @@ module _ (A index : ℕ) {w : Way} (e : w ≡ inArray (wayOf (placeOf A index)))
   pub way-steps : stepsOf w ≡ wayOf (placeOf A index)
   way-steps = ap stepsOf e ∙ steps-back (placeOf A index)
 
-  pub way-few : (w .length ≤ 4) × (length (w .steps) ≡ 4)
+  pub way-few : (w .count ≤ 4) × (length (w .steps) ≡ 4)
   way-few = rw e (few (placeOf A index))
 
-  pub way-node-slots : (k : ℕ) → 1 ≤ k → k < w .length → slotAt w k < 1018
+  pub way-node-slots : (k : ℕ) → 1 ≤ k → k < w .count → slotAt w k < 1018
   way-node-slots = rw e (node-slots A (placeOf A index) (slots-in A index))
 
-  pub way-inode-slot : w .length ≡ 1 → slotAt w 0 < A
+  pub way-inode-slot : w .count ≡ 1 → slotAt w 0 < A
   way-inode-slot = rw e (inode-slot A (placeOf A index) (slots-in A index))
 
-  pub way-number-slot : 2 ≤ w .length → slotAt w 0 < 5
+  pub way-number-slot : 2 ≤ w .count → slotAt w 0 < 5
   way-number-slot = rw e (number-slot A (placeOf A index) (slots-in A index))

@@ -22,4 +22,4 @@ wayOf Past = []
 
 -- a way in the code's array of four steps, with zeros behind it
 abbrev pub inArray : List Step → Way
-inArray way = record { length = length way; steps = take 4 (way ++ replicate 4 (step 0 0)) }
+inArray way = record { count = length way; steps = take 4 (way ++ replicate 4 (step 0 0)) }

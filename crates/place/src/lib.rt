@@ -26,7 +26,7 @@ pub struct Step {
 
 // The nodes on the way, the inode first. There are none where the index is past the last.
 pub struct Way {
-    pub length: u32,
+    pub count: u32,
     pub steps: [Step; 4],
 }
 
@@ -64,7 +64,7 @@ pub fn no_way() -> Way
 {
     let none = node(0, 0);
     Way {
-        length: 0,
+        count: 0,
         steps: [none, none, none, none],
     }
 }
@@ -76,15 +76,15 @@ pub fn find_way(addresses: u32, index: u32) -> Way
     let none = node(0, 0);
     match find_place(addresses, index) {
         Place::Inode(s) => Way {
-            length: 1,
+            count: 1,
             steps: [node(0, s), none, none, none],
         },
         Place::Direct(n, s) => Way {
-            length: 2,
+            count: 2,
             steps: [node(0, n), node(1 + n, s), none, none],
         },
         Place::Indirect(n, k, s) => Way {
-            length: 3,
+            count: 3,
             steps: [
                 node(0, 2 + n),
                 node(3 + 1019 * n, k),
@@ -93,7 +93,7 @@ pub fn find_way(addresses: u32, index: u32) -> Way
             ],
         },
         Place::Double(n, k, s) => Way {
-            length: 4,
+            count: 4,
             steps: [
                 node(0, 4),
                 node(2041, n),

@@ -27,7 +27,8 @@ use Rattle.compare.specs.Lists.{listsInShape}
 use Rattle.compare.specs.declared.Compared.{Compared}
 use Rattle.compare.specs.Compare.{compared}
 use Rattle.compare.proofs.Shapes.{ListsFit, lists-in-shape, in-shape-lists}
-use Rattle.compare.proofs.Openings.{lists-refused, shape-refused, kept-refused, fresh-refused, compared-opened}
+use Rattle.compare.proofs.Theorems.{CompareEnds, outOfShape, told}
+use Rattle.compare.proofs.Theorems as compare
 use Rattle.node.specs.Block.{Fetched, hole, held}
 use Rattle.pull_again.specs.Demand.{PastOpening, SameOn, SamePull}
 
@@ -114,28 +115,12 @@ pub record Opens (kept fresh : List ℕ) (nodes blocks : Listed) : Type 0 where
   pub some : 1 ≤ nodes .count
 
 pub same-opens : (kept fresh : List ℕ) (nodes blocks : Listed) → compared kept fresh nodes blocks .answer ≡ 15 → Opens kept fresh nodes blocks
-same-opens kept fresh nodes blocks e = go (inShape (length kept) && inShape (length fresh)) refl (openedImage kept) refl (openedImage fresh) refl
+same-opens kept fresh nodes blocks e = go (compare.ends kept fresh nodes blocks) e
   where
-    -- another answer is not 15
-    other : {c : Compared} → compared kept fresh nodes blocks ≡ c → (c .answer ≡ 15 → ⊥) → ⊥
-    other f g = g (ap (λ (c : Compared). c .answer) (sym f) ∙ e)
-
-    listed : (v u : Volume) → openedImage kept ≡ Opened v → openedImage fresh ≡ Opened u
-        → (b : Bool) → listsInShape (boundsOf v) nodes blocks ≡ b → Opens kept fresh nodes blocks
-    listed v u p q true l = record { v = v; u = u; keptOpens = p; freshOpens = q; some = in-shape-lists _ _ _ l .some }
-    listed v u p q false l =
-        absurd (other (compared-opened kept fresh nodes blocks v u p q ∙ lists-refused (cardOf kept) v (cardOf fresh) u nodes blocks l) (λ f. omega arith))
-
-    go : (b : Bool) → inShape (length kept) && inShape (length fresh) ≡ b
-        → (o : Opening) → openedImage kept ≡ o → (o' : Opening) → openedImage fresh ≡ o' → Opens kept fresh nodes blocks
-    go false s o p o' q = absurd (other (shape-refused kept fresh nodes blocks s) (λ f. omega arith))
-    go true s (Refused n) p o' q =
-        let few = refusals kept n p in
-        absurd (other (kept-refused kept fresh nodes blocks s n p) (λ f. omega arith))
-    go true s (Opened v) p (Refused n) q =
-        let few = refusals fresh n q in
-        absurd (other (fresh-refused kept fresh nodes blocks s v p n q) (λ f. omega arith))
-    go true s (Opened v) p (Opened u) q = listed v u p q (listsInShape (boundsOf v) nodes blocks) refl
+    go : {r : Compared} → CompareEnds kept fresh nodes blocks r → r .answer ≡ 15 → Opens kept fresh nodes blocks
+    go (outOfShape f) a = let n = ap (λ (c : Compared). c .answer) f in absurd (omega arith)
+    go (compare.refusal answer side few s f) a = let n = ap (λ (c : Compared). c .answer) f in absurd (omega arith)
+    go (told v u p q l d f) a = record { v = v; u = u; keptOpens = p; freshOpens = q; some = in-shape-lists _ _ _ l .some }
 
 -- a pull with a node listed got past opening
 pub some-past : (image name : List ℕ) (index : ℕ) (lent : Lent) → 1 ≤ nodesLeft (pulled image name index lent) .count

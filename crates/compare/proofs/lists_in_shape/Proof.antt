@@ -6,13 +6,13 @@ use denote.Ref.{now}
 use borrow.Author.Tests.{not-true, not-false}
 use borrow.Author.Needs.{needs}
 use Rattle.list.specs.Lists.{listing}
-use Rattle.compare.proofs.Shapes.{Counted, counts-refuse, counts-pass, counts-held}
+use Rattle.compare.proofs.Shapes.{CountsFit, counts-refuse, counts-pass, counts-held}
 use Rattle.compare.proofs.lists_in_shape.Statement.{statement}
 use Rattle.compare.proofs.lists_in_shape.Tie as tie
 
 -- the counts passed, so each list is held by its slice
 passed : (k : tie.Else1) → let a = k .before .before .before .before .args in
-    Counted (listing (now (a .nodes)) (a .node-count)) (listing (now (a .blocks)) (a .block-count)) ≡ true
+    CountsFit (listing (now (a .nodes)) (a .node-count)) (listing (now (a .blocks)) (a .block-count)) ≡ true
 passed k = sym (k .before .counts-fit .ensures) ∙ not-false _ (k .if1 .left)
 
 held : (k : tie.Else1) → let a = k .before .before .before .before .args in
