@@ -8,6 +8,7 @@
 #include <unistd.h>
 
 #include "commands.h"
+#include "harptimber.h"
 #include "help.h"
 #include "text.h"
 

@@ -1,39 +1,13 @@
 //! Safe wrappers over the archive's C functions, with structs as in host/include/harptimber.h, and
 //! what the tests share.
 
-pub mod answers;
-pub mod card;
-pub mod compares;
-pub mod damage;
-pub mod directory;
-pub mod disks;
-pub mod guard_script;
-pub mod held;
-pub mod image;
-pub mod json;
-pub mod knobs;
-pub mod layout;
-pub mod lent;
-pub mod lookups;
-pub mod names;
-pub mod on_disk;
-pub mod outside;
+pub mod calls;
+pub mod cards;
 pub mod program;
-pub mod program_card;
-pub mod program_compare_words;
-pub mod program_compares;
-pub mod program_page;
-pub mod published;
-pub mod pulls;
-pub mod random_card;
-pub mod random_files;
 pub mod running;
-pub mod scene;
 pub mod sizes;
-pub mod special_build;
-pub mod tree;
+pub mod tools;
 pub mod trial;
-pub mod walk_damage;
 
 /// The result of `name_hash`.
 #[repr(C)]

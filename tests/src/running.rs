@@ -7,10 +7,10 @@ use std::sync::mpsc::{channel, Receiver};
 use std::thread;
 use std::time::{Duration, Instant};
 
-use crate::json::Json;
+use crate::program::json::Json;
 
 /// So long may a run take, if nothing else is said.
-const LIMIT: Duration = Duration::from_secs(20);
+const LIMIT: Duration = Duration::from_secs(300);
 
 /// Between two looks at whether a run has ended that has closed its output.
 const PAUSE: Duration = Duration::from_micros(100);

@@ -1,4 +1,4 @@
-//! The sizes of calls, under the names of host/include/harptimber.h. tests/header.rs holds them to it.
+//! The sizes of calls, under the names of host/include/harptimber.h. tests/documents/header.rs holds them to it.
 
 /// The most blocks that a card may have.
 pub const CARD_BLOCKS_MOST: u32 = 262_144;

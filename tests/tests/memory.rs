@@ -4,23 +4,23 @@
 use std::ffi::OsStr;
 use std::process::Command;
 
-use harptimber_tests::card::{Card, ROOT};
-use harptimber_tests::damage::Damage;
-use harptimber_tests::directory::{in_slot, Dentry};
-use harptimber_tests::guard_script::Script;
-use harptimber_tests::knobs::Knobs;
-use harptimber_tests::layout::dentry::{NAME_LEN, NR_DENTRY_IN_BLOCK};
-use harptimber_tests::layout::inode::{ADDRESSES, I_MODE};
-use harptimber_tests::layout::BLOCK_SIZE;
+use harptimber_tests::calls::guard_script::Script;
+use harptimber_tests::calls::pulls::{lists, Call};
+use harptimber_tests::cards::card::{Card, ROOT};
+use harptimber_tests::cards::damage::Damage;
+use harptimber_tests::cards::directory::{in_slot, Dentry};
+use harptimber_tests::cards::knobs::Knobs;
+use harptimber_tests::cards::layout::dentry::{NAME_LEN, NR_DENTRY_IN_BLOCK};
+use harptimber_tests::cards::layout::inode::{ADDRESSES, I_MODE};
+use harptimber_tests::cards::layout::BLOCK_SIZE;
+use harptimber_tests::cards::random::pick;
+use harptimber_tests::cards::random_files::{any_target, random_files, RandomFiles};
+use harptimber_tests::cards::walk_damage::{strike_block, strike_either};
 use harptimber_tests::node_lookup;
-use harptimber_tests::outside::CardFile;
 use harptimber_tests::program::{built, program};
-use harptimber_tests::published::{contents, filled_with, ran, File};
-use harptimber_tests::pulls::{lists, Call};
-use harptimber_tests::random_card::pick;
-use harptimber_tests::random_files::{any_target, random_files, RandomFiles};
+use harptimber_tests::tools::outside::CardFile;
+use harptimber_tests::tools::published::{contents, filled_with, ran, File};
 use harptimber_tests::trial::Random;
-use harptimber_tests::walk_damage::{strike_block, strike_either};
 
 fn guarded() -> Command {
     Command::new(built("guard_test"))

@@ -2,7 +2,7 @@
 //! is. `ratios` runs it for its table: the archive with the checksum alone can't be linked beside the
 //! library's.
 
-#[path = "../../../tests/tests/crc32_export/mod.rs"]
+#[path = "../../../tests/tests/checksum/crc32_export/mod.rs"]
 mod crc32_export;
 
 use harptimber_bench::grid::{contender, Grid, Often};

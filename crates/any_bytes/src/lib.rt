@@ -1,6 +1,6 @@
 // "Any bytes may come as an image, name or list .. and nobody has checked anything beforehand": each exported call, made with
-// whatever comes by a function that knows nothing of it and asks nothing. A `requires` on a call would leave its caller here
-// unproved. tests/ sees to it that no call of the C header is missing.
+// whatever comes by a function that knows nothing of it and asks nothing. A precondition on a call would leave its caller here
+// unproved. A test sees to it that no call of the C header is missing.
 
 pub fn name_hash(name: &[u8]) -> harptimber::NameHash {
     harptimber::harptimber_name_hash(name)

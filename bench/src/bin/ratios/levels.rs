@@ -5,10 +5,10 @@ use crate::cards::PULLS;
 use harptimber_bench::agreed::Agreed;
 use harptimber_bench::grid::Grid;
 use harptimber_bench::pulls::{pulling, Lent};
-use harptimber_tests::card::Card;
-use harptimber_tests::directory::{Dentry, BUCKET_BLOCKS};
-use harptimber_tests::knobs::{Knobs, Pack};
-use harptimber_tests::layout::dentry::NR_DENTRY_IN_BLOCK;
+use harptimber_tests::cards::card::Card;
+use harptimber_tests::cards::directory::{Dentry, BUCKET_BLOCKS};
+use harptimber_tests::cards::knobs::{Knobs, Pack};
+use harptimber_tests::cards::layout::dentry::NR_DENTRY_IN_BLOCK;
 use harptimber_tests::trial::Random;
 use reference::hash::raw_hash;
 

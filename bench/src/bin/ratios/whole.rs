@@ -4,7 +4,7 @@ use crate::cards::*;
 use harptimber_bench::agreed::Agreed;
 use harptimber_bench::grid::{contender, Contender, Grid, Often};
 use harptimber_bench::pulls;
-use harptimber_tests::published::File;
+use harptimber_tests::tools::published::File;
 use std::env;
 use std::hint::black_box;
 use std::path::{Path, PathBuf};

@@ -1,0 +1,195 @@
+//! Compares in the library, compared with the reference's and with what the paper says. Whenever one
+//! says "same", the pull from the new card has to give what the pull from the kept one gave.
+
+use std::fmt::{Debug, Formatter, Result};
+
+use crate::calls::answers::Answers;
+use crate::calls::lent::{Lent, NUMBER_SIZE};
+use crate::calls::pulls::{Call, Outcome};
+use crate::cards::image::Image;
+use crate::trial::Trial;
+use crate::Compared;
+
+pub const SAME: Compared = refused(15, 0);
+pub const OUT_OF_SHAPE: Compared = refused(4, 0);
+
+/// A mismatch shows so many numbers of a list.
+const SHOWN: usize = 12;
+
+pub const fn refused(answer: u32, side: u32) -> Compared {
+    Compared {
+        answer,
+        side,
+        kind: 0,
+        number: 0,
+    }
+}
+
+pub fn changed(kind: u32, number: u32) -> Compared {
+    Compared {
+        kind,
+        number,
+        ..refused(16, 0)
+    }
+}
+
+/// The bytes of a list.
+pub fn stored(numbers: &[u32]) -> Vec<u8> {
+    let stored = numbers.iter().map(|number| number.to_le_bytes());
+    stored.flatten().collect()
+}
+
+/// Two lists with their counts, as they are lent to a compare.
+#[derive(Clone, Copy)]
+pub struct Lists<'a> {
+    pub nodes: &'a [u8],
+    pub node_count: u32,
+    pub blocks: &'a [u8],
+    pub block_count: u32,
+}
+
+impl<'a> Lists<'a> {
+    /// With counts of as many numbers as the slices have.
+    pub fn whole(nodes: &'a [u8], blocks: &'a [u8]) -> Lists<'a> {
+        let count = |list: &[u8]| (list.len() / NUMBER_SIZE) as u32;
+        Lists {
+            nodes,
+            node_count: count(nodes),
+            blocks,
+            block_count: count(blocks),
+        }
+    }
+}
+
+impl Debug for Lists<'_> {
+    fn fmt(&self, f: &mut Formatter) -> Result {
+        let lists = [
+            (self.node_count, self.nodes),
+            (self.block_count, self.blocks),
+        ];
+        for (count, list) in lists {
+            let numbers = list.chunks_exact(NUMBER_SIZE).take(SHOWN);
+            let shown: Vec<_> = numbers
+                .map(|le| u32::from_le_bytes(le.try_into().unwrap()))
+                .collect();
+            write!(f, "{count} in {} bytes {shown:?}.. ", list.len())?;
+        }
+        Ok(())
+    }
+}
+
+/// A pull from a card that is kept.
+pub struct Kept<'a> {
+    pub call: Call<'a>,
+    pub outcome: Outcome,
+}
+
+impl<'a> Kept<'a> {
+    pub fn new(image: &'a Image, name: &'a [u8], index: u32) -> Kept<'a> {
+        let call = Call::new(image, name, index);
+        let outcome = Outcome::of(crate::pull, &call, Lent::least());
+        Kept { call, outcome }
+    }
+
+    /// As the pull left them, with what the memory held behind them.
+    pub fn lists(&self) -> Lists<'_> {
+        Lists {
+            nodes: self.outcome.lent.nodes.bytes(),
+            node_count: self.outcome.pulled.node_count,
+            blocks: self.outcome.lent.blocks.bytes(),
+            block_count: self.outcome.pulled.block_count,
+        }
+    }
+}
+
+pub struct Compares {
+    pub trial: Trial,
+    /// Answer, side and kind.
+    answers: Answers<(u32, u32, u32)>,
+}
+
+impl Compares {
+    pub fn new(name: &'static str) -> Compares {
+        Compares {
+            trial: Trial::new(name),
+            answers: Answers::default(),
+        }
+    }
+
+    /// Compares on what a pull stood on, with the reference.
+    pub fn compare(&mut self, kept: &Kept, fresh: &Image) {
+        let (library, reference) = self.both([kept.call.bytes, fresh.bytes()], kept.lists());
+        let input = ("new", fresh, "kept", &kept.call);
+        self.trial.compare(input, library, reference);
+        if library == SAME {
+            self.pull_again(kept, fresh);
+        }
+    }
+
+    /// The same, also with what the paper says.
+    pub fn expect(&mut self, kept: &Kept, fresh: &Image, paper: Compared) {
+        let input = ("new", fresh, "kept", &kept.call);
+        let cards = [kept.call.bytes, fresh.bytes()];
+        let library = self.expect_in(input, cards, kept.lists(), paper);
+        if library == SAME {
+            self.pull_again(kept, fresh);
+        }
+    }
+
+    /// Compares any bytes on any lists; `input` says what the bytes are.
+    pub fn expect_in(
+        &mut self,
+        input: impl Debug,
+        cards: [&[u8]; 2],
+        lists: Lists,
+        paper: Compared,
+    ) -> Compared {
+        let (library, reference) = self.both(cards, lists);
+        self.trial.compare(
+            (lists, input),
+            (library, "by the paper", library),
+            (reference, "by the paper", paper),
+        );
+        library
+    }
+
+    /// What the library says, and what the reference does.
+    fn both(&mut self, [kept, fresh]: [&[u8]; 2], lists: Lists) -> (Compared, Compared) {
+        let Lists {
+            nodes,
+            node_count,
+            blocks,
+            block_count,
+        } = lists;
+        let library = crate::compare(kept, fresh, nodes, node_count, blocks, block_count);
+        self.answers
+            .note((library.answer, library.side, library.kind));
+        let reference =
+            reference::compare::compare(kept, fresh, nodes, node_count, blocks, block_count);
+        (library, by_reference(reference))
+    }
+
+    /// Pulls from the new card, into other memory.
+    fn pull_again(&mut self, kept: &Kept, fresh: &Image) {
+        let call = Call::new(fresh, kept.call.name, kept.call.index);
+        let again = Outcome::of(crate::pull, &call, Lent::longer(&mut self.trial.random));
+        let input = ("pull again, beside the kept card's", &call);
+        self.trial
+            .compare(input, again.result(), kept.outcome.result());
+    }
+
+    /// Ends the trial, in which each of these has to have come up: answer, side and kind.
+    pub fn finish(self, at_least: u64, answers: &[(u32, u32, u32)]) {
+        self.trial.finish(at_least);
+        self.answers.finish(answers);
+    }
+}
+
+fn by_reference(compared: reference::compare::Compared) -> Compared {
+    Compared {
+        answer: compared.answer,
+        side: compared.side,
+        kind: compared.kind,
+        number: compared.number,
+    }
+}

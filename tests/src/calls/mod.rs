@@ -1,0 +1,8 @@
+//! Calls of the archive, beside the reference's and what the paper says.
+
+pub mod answers;
+pub mod compares;
+pub mod guard_script;
+pub mod lent;
+pub mod lookups;
+pub mod pulls;

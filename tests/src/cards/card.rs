@@ -1,0 +1,253 @@
+//! A card with files in it. Nodes get their numbers and blocks in no order, so that the lists of a
+//! pull have to be sorted, and what nothing decides is junk.
+
+use std::collections::BTreeMap;
+
+use crate::cards::image::Image;
+use crate::cards::knobs::{Knobs, Pack};
+use crate::cards::layout::inode::*;
+use crate::cards::layout::journal::JournalEntry;
+use crate::cards::layout::nat::{NatEntry, ENTRIES_PER_BLOCK};
+use crate::cards::layout::{footer, slots, Field};
+use crate::cards::random::shuffle;
+use crate::cards::tree::{self, Step};
+use crate::trial::Random;
+
+pub const ROOT: u32 = 3;
+
+/// A node's number and block.
+#[derive(Clone, Copy, Debug, PartialEq, Eq)]
+pub struct Node {
+    pub nid: u32,
+    pub block: u32,
+}
+
+/// A node on the way to a block of a file, and the slot in it that leads on.
+#[derive(Clone, Copy, Debug)]
+pub struct Passage {
+    pub node: Node,
+    pub place: u32,
+    pub slot: Field,
+}
+
+pub struct Card {
+    pub image: Image,
+    /// Numbers below it may be those of nodes.
+    pub node_numbers: u32,
+    pub which_pack: usize,
+    pub pack: Pack,
+    pub random: Random,
+    /// By inode number and place.
+    nodes: BTreeMap<(u32, u32), Node>,
+    /// Blocks of the root directory by their index.
+    pub directory: BTreeMap<u32, u32>,
+    free_blocks: Vec<u32>,
+    /// Whether unneeded slots of nodes stay junk; otherwise they are holes.
+    junk_slots: bool,
+}
+
+impl Card {
+    pub fn new(knobs: Knobs, random: Random) -> Card {
+        Card::over(knobs, random, false)
+    }
+
+    /// With junk in each slot that isn't needed, so that a step aside doesn't end in a hole.
+    pub fn with_junk_slots(knobs: Knobs, random: Random) -> Card {
+        Card::over(knobs, random, true)
+    }
+
+    fn over(mut knobs: Knobs, mut random: Random, junk_slots: bool) -> Card {
+        knobs.junk.get_or_insert(random.number());
+        for pack in knobs.packs.iter_mut().flatten() {
+            // Entries for nodes come later.
+            pack.journal.clear();
+        }
+        let (which_pack, pack) = knobs.pack_in_use();
+        let areas = knobs.areas();
+        // The first and the last block are left to the tests.
+        let mut free_blocks: Vec<u32> = (areas.main + 1..areas.main_end - 1).collect();
+        shuffle(&mut random, &mut free_blocks);
+        Card {
+            image: Image::new(&knobs),
+            node_numbers: knobs.node_numbers(),
+            which_pack,
+            pack: pack.clone(),
+            random,
+            nodes: BTreeMap::new(),
+            directory: BTreeMap::new(),
+            free_blocks,
+            junk_slots,
+        }
+    }
+
+    /// A block of the main area that nothing uses.
+    pub fn free_block(&mut self) -> u32 {
+        self.free_blocks.pop().expect("room in the main area")
+    }
+
+    /// A node number that nothing uses.
+    pub fn free_number(&mut self) -> u32 {
+        loop {
+            let past_root = u64::from(self.node_numbers - ROOT - 1);
+            let nid = ROOT + 1 + self.random.below(past_root) as u32;
+            if self.nodes.values().all(|node| node.nid != nid) {
+                return nid;
+            }
+        }
+    }
+}
+
+/// Nodes and the table.
+impl Card {
+    fn add_node(&mut self, nid: u32, ino: u32, place: u32) -> Node {
+        let block = self.free_block();
+        self.image.put_footer(block, nid, ino, place);
+        if !self.junk_slots {
+            let from = if place == 0 { slots::I_ADDR.at } else { 0 };
+            let zeros = vec![0; footer::NID.at - from];
+            self.image.put("slots", block, from, &zeros);
+        }
+        self.set_entry(nid, ino, block);
+        let node = Node { nid, block };
+        self.nodes.insert((ino, place), node);
+        node
+    }
+
+    /// Where the table has a number, in the copy that is in use.
+    pub fn entry_place(&self, nid: u32) -> (u32, usize) {
+        let copy = self.pack.nat_copy(nid / ENTRIES_PER_BLOCK);
+        self.image.nat_place(nid, copy)
+    }
+
+    /// Writes a table entry in the copy in use; the other copy leads elsewhere.
+    pub fn set_entry(&mut self, nid: u32, ino: u32, block_addr: u32) {
+        let copy = self.pack.nat_copy(nid / ENTRIES_PER_BLOCK);
+        let entry = NatEntry {
+            version: self.random.number() as u8,
+            ino,
+            block_addr,
+        };
+        self.image.set_nat_entry(nid, copy, entry);
+        self.image.set_nat_entry(nid, 1 - copy, elsewhere(entry));
+    }
+
+    /// Moves table entries to the journal. The table's lead elsewhere then.
+    pub fn journal(&mut self, numbers: &[u32]) {
+        let mut entries = Vec::new();
+        for &nid in numbers {
+            let copy = self.pack.nat_copy(nid / ENTRIES_PER_BLOCK);
+            let entry = self.image.nat_entry(nid, copy);
+            entries.push(JournalEntry { nid, entry });
+            self.image.set_nat_entry(nid, copy, elsewhere(entry));
+        }
+        let (block, at) = self.pack.journal_place().expect("a journal");
+        let block = self.image.first_block(self.which_pack) + block;
+        self.image.put_journal(block, at, &entries);
+    }
+}
+
+fn elsewhere(entry: NatEntry) -> NatEntry {
+    NatEntry {
+        ino: entry.ino ^ 1,
+        block_addr: entry.block_addr ^ 1,
+        ..entry
+    }
+}
+
+/// Files.
+impl Card {
+    /// A directory or a regular file. What the fields leave out is junk.
+    pub fn add_inode(&mut self, ino: u32, fields: &[(Field, u64)]) -> u32 {
+        let block = self.add_node(ino, ino, 0).block;
+        self.image.set_all(block, fields);
+        block
+    }
+
+    pub fn add_root(&mut self, inline: u64, depth: u32) -> u32 {
+        let fields = [
+            (I_MODE, S_IFDIR | 0o755),
+            (I_INLINE, inline),
+            (I_SIZE, 4096),
+            (I_CURRENT_DEPTH, u64::from(depth)),
+            (I_DIR_LEVEL, 0),
+        ];
+        self.add_inode(ROOT, &fields)
+    }
+
+    /// A file without blocks. Depth and level, which only a directory is asked for, are junk.
+    pub fn add_file(&mut self, inline: u64, size: u64) -> u32 {
+        let ino = self.free_number();
+        let fields = [
+            (I_MODE, S_IFREG | 0o644),
+            (I_INLINE, inline),
+            (I_SIZE, size),
+        ];
+        self.add_inode(ino, &fields);
+        ino
+    }
+
+    /// The node at this place of a file, which has to be there.
+    pub fn node(&self, ino: u32, place: u32) -> Node {
+        self.nodes[&(ino, place)]
+    }
+
+    pub fn inode_block(&self, ino: u32) -> u32 {
+        self.node(ino, 0).block
+    }
+
+    pub fn addresses(&self, ino: u32) -> u32 {
+        match self.image.get(self.inode_block(ino), I_INLINE) & INLINE_XATTR {
+            0 => ADDRESSES,
+            _ => ADDRESSES_WITH_XATTR,
+        }
+    }
+
+    /// The way to a block's address. Nodes that are missing on it are made.
+    pub fn way(&mut self, ino: u32, index: u32) -> Vec<Passage> {
+        let steps = tree::way(self.addresses(ino), index);
+        let mut way: Vec<Passage> = Vec::new();
+        for (n, step) in steps.iter().enumerate() {
+            let node = match self.nodes.get(&(ino, step.place)) {
+                Some(&node) => node,
+                None => self.add_below(ino, step.place, way[n - 1]),
+            };
+            way.push(Passage {
+                node,
+                place: step.place,
+                slot: slot_field(step, n + 1 == steps.len()),
+            });
+        }
+        way
+    }
+
+    fn add_below(&mut self, ino: u32, place: u32, above: Passage) -> Node {
+        let nid = self.free_number();
+        let node = self.add_node(nid, ino, place);
+        self.image.set(above.node.block, above.slot, u64::from(nid));
+        node
+    }
+
+    pub fn set_address(&mut self, ino: u32, index: u32, address: u32) {
+        let way = self.way(ino, index);
+        let last = way[way.len() - 1];
+        self.image
+            .set(last.node.block, last.slot, u64::from(address));
+    }
+
+    /// Gives a file a block of junk.
+    pub fn add_block(&mut self, ino: u32, index: u32) -> u32 {
+        let block = self.free_block();
+        self.set_address(ino, index, block);
+        block
+    }
+}
+
+/// The slot that a step takes in its node, which is the way's last or leads on to another.
+pub fn slot_field(step: &Step, last: bool) -> Field {
+    let first = match (step.place, last) {
+        (0, true) => slots::I_ADDR,
+        (0, false) => slots::I_NID,
+        _ => slots::ADDR_OR_NID,
+    };
+    first.moved(step.slot * slots::SIZE)
+}

@@ -1,0 +1,134 @@
+//! Random damage to the numbers that a rule consults.
+
+use std::ops::Range;
+
+use crate::cards::image::Image;
+use crate::cards::knobs::Pack;
+use crate::cards::layout::checkpoint::*;
+use crate::cards::layout::{journal, superblock, Field};
+use crate::cards::random::pick;
+use crate::trial::Random;
+
+/// Numbers at or beside a bound of some rule.
+const BOUNDS: [u64; 16] = [
+    1, 2, 3, 4, 5, 7, 8, 38, 39, 64, 191, 192, 512, 513, 4091, 4092,
+];
+
+/// Where a sound image can be damaged.
+pub struct Damage {
+    /// First and last blocks of the packs.
+    checkpoints: Vec<u32>,
+    /// The block of each pack's journal, and the journal's first byte.
+    journals: Vec<(u32, usize)>,
+    /// Where the maps are in a pack's first block.
+    maps: Range<usize>,
+}
+
+impl Damage {
+    pub fn of(image: &Image) -> Damage {
+        let mut damage = Damage {
+            checkpoints: Vec::new(),
+            journals: Vec::new(),
+            maps: SIT_NAT_VERSION_BITMAP..SIT_NAT_VERSION_BITMAP,
+        };
+        for which in (0..2).filter(|&which| has_pack(image, which)) {
+            damage.add_pack(image, which);
+        }
+        damage
+    }
+
+    fn add_pack(&mut self, image: &Image, which: usize) {
+        let first = image.first_block(which);
+        self.checkpoints.extend([first, image.last_block(which)]);
+        let number = |field| image.get(first, field) as u32;
+        let sizes = number(SIT_VER_BITMAP_BYTESIZE) + number(NAT_VER_BITMAP_BYTESIZE);
+        self.maps.end = self.maps.start + sizes as usize;
+        let pack = Pack {
+            total: number(CP_PACK_TOTAL_BLOCK_COUNT),
+            flags: number(CKPT_FLAGS),
+            start_sum: number(CP_PACK_START_SUM),
+            ..Pack::compact(0)
+        };
+        let (block, at) = pack.journal_place().expect("a sound pack has a journal");
+        self.journals.push((first + block, at));
+    }
+
+    /// Gives one number, in one or several of the blocks that have it, a new value. The checksums
+    /// of most checkpoint blocks are made right again.
+    pub fn strike(&self, image: &mut Image, random: &mut Random) {
+        let places = self.places(random);
+        let sure = pick(random, &places);
+        let value = damaged(image, sure, random);
+        for place in places {
+            if place == sure || random.below(2) == 0 {
+                let (block, field) = place;
+                image.set(block, field, value);
+                if self.checkpoints.contains(&block) && random.below(4) > 0 {
+                    image.seal(block);
+                }
+            }
+        }
+    }
+
+    /// A random number that a rule consults, in each block that has it.
+    fn places(&self, random: &mut Random) -> Vec<(u32, Field)> {
+        match random.below(8) {
+            0..=2 => in_each(&[0, 1], pick(random, superblock::ALL)),
+            3..=5 => in_each(&self.checkpoints, pick(random, ALL)),
+            6 => in_each(&self.checkpoints, self.map_byte(random)),
+            _ => self.in_journals(random),
+        }
+    }
+
+    fn map_byte(&self, random: &mut Random) -> Field {
+        Field {
+            name: "byte of a map",
+            at: self.maps.start + random.below(self.maps.len() as u64) as usize,
+            size: 1,
+        }
+    }
+
+    /// The count, or a number of some entry.
+    fn in_journals(&self, random: &mut Random) -> Vec<(u32, Field)> {
+        let entry = random.below(journal::MOST_ENTRIES as u64) as usize;
+        let field = match pick(random, journal::ALL) {
+            journal::N_NATS => journal::N_NATS,
+            field => field.moved(entry * journal::ENTRY_SIZE),
+        };
+        let place = |&(block, at): &(u32, usize)| (block, field.moved(at));
+        self.journals.iter().map(place).collect()
+    }
+}
+
+/// Whether a pack is there: anything else, junk too, hasn't the checksum offset.
+fn has_pack(image: &Image, which: usize) -> bool {
+    image.get(image.first_block(which), CHECKSUM_OFFSET) == CHECKSUM.at as u64
+}
+
+fn in_each(blocks: &[u32], field: Field) -> Vec<(u32, Field)> {
+    blocks.iter().map(|&block| (block, field)).collect()
+}
+
+/// A new value for a number of a superblock, a checkpoint or a journal.
+fn damaged(image: &Image, (block, field): (u32, Field), random: &mut Random) -> u64 {
+    let siblings = if block < 2 { superblock::ALL } else { ALL };
+    let of_sibling = image.get(block, pick(random, siblings));
+    let likely = [of_sibling, pick(random, &BOUNDS)];
+    altered(random, image.get(block, field), field, &likely)
+}
+
+/// A new value for a number, of a kind that rules may take wrongly; one in three is a likely one.
+pub fn altered(random: &mut Random, old: u64, field: Field, likely: &[u64]) -> u64 {
+    match random.below(12) {
+        0 => 0,
+        1 => field.greatest(),
+        2 => old.wrapping_add(1),
+        3 => old.wrapping_sub(1),
+        4 => old ^ 1 << random.below(8 * field.size as u64),
+        5 => random.number(),
+        // 512 times this wraps to 512 times the old value in 32 bits.
+        6 => old.wrapping_add((1 + random.below(511)) << 23),
+        7 => random.below(600),
+        _ => pick(random, likely),
+    }
+}

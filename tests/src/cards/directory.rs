@@ -1,0 +1,142 @@
+//! The root directory of a card: entries, and the blocks of its hash levels.
+
+use reference::hash::raw_hash;
+
+use crate::cards::card::{Card, ROOT};
+use crate::cards::image::Image;
+use crate::cards::layout::dentry::*;
+use crate::cards::layout::Field;
+
+/// Levels that lie below the last index of a file, at least with their first buckets.
+pub const LEVELS: u32 = 29;
+/// Blocks of a bucket in each of them.
+pub const BUCKET_BLOCKS: u32 = 2;
+
+/// An entry as it is stored; it needn't be as it should.
+#[derive(Clone, Debug)]
+pub struct Dentry {
+    pub hash: u32,
+    pub ino: u32,
+    pub len: usize,
+    pub name: Vec<u8>,
+}
+
+impl Dentry {
+    pub fn new(name: &[u8], ino: u32) -> Dentry {
+        Dentry {
+            hash: raw_hash(name),
+            ino,
+            len: name.len(),
+            name: name.to_vec(),
+        }
+    }
+
+    /// An entry for another name that has the hash of this one.
+    pub fn under_hash_of(self, name: &[u8]) -> Dentry {
+        Dentry {
+            hash: raw_hash(name),
+            ..self
+        }
+    }
+
+    pub fn slots(&self) -> usize {
+        self.len.div_ceil(SLOT_LEN)
+    }
+}
+
+/// A field of a slot's entry.
+pub fn in_slot(field: Field, slot: usize) -> Field {
+    field.moved(slot * ENTRY_SIZE)
+}
+
+/// The byte of the map that has a slot's bit.
+pub fn map_byte(slot: usize) -> Field {
+    Field {
+        name: "directory map",
+        at: slot / 8,
+        size: 1,
+    }
+}
+
+/// The index of a block of the bucket that a hash leads to.
+pub fn bucket_index(level: u32, hash: u32, nth: u32) -> u32 {
+    let buckets = 1 << level;
+    // Below it lie 1 + 2 + 4 + .. buckets, which is one less than its own.
+    BUCKET_BLOCKS * (buckets - 1 + hash % buckets) + nth
+}
+
+/// Directory blocks.
+impl Image {
+    /// Clears every slot. The map's last bits, which belong to no slot, are set.
+    pub fn clear_slots(&mut self, block: u32) {
+        let mut map = [0; MAP_BYTES];
+        map[MAP_BYTES - 1] = !0 << (NR_DENTRY_IN_BLOCK % 8);
+        self.put("directory map", block, 0, &map);
+    }
+
+    pub fn slot_bit(&self, block: u32, slot: usize) -> bool {
+        self.get(block, map_byte(slot)) >> (slot % 8) & 1 == 1
+    }
+
+    pub fn set_slot_bit(&mut self, block: u32, slot: usize, set: bool) {
+        let bit = 1 << (slot % 8);
+        let others = self.get(block, map_byte(slot)) & !bit;
+        let byte = if set { others | bit } else { others };
+        self.set(block, map_byte(slot), byte);
+    }
+
+    /// Sets or clears the bit of each slot of an entry, as Linux does.
+    pub fn set_slot_bits(&mut self, block: u32, slot: usize, slots: usize, set: bool) {
+        for slot in slot..NR_DENTRY_IN_BLOCK.min(slot + slots) {
+            self.set_slot_bit(block, slot, set);
+        }
+    }
+
+    /// Writes an entry with its bits. Of a name that is too long for the block only the start is
+    /// written.
+    pub fn put_dentry(&mut self, block: u32, slot: usize, dentry: &Dentry) {
+        self.set(block, in_slot(HASH_CODE, slot), u64::from(dentry.hash));
+        self.set(block, in_slot(INO, slot), u64::from(dentry.ino));
+        self.set(block, in_slot(NAME_LEN, slot), dentry.len as u64);
+        self.set_slot_bits(block, slot, dentry.slots().max(1), true);
+        let room = (NR_DENTRY_IN_BLOCK - slot) * SLOT_LEN;
+        let name = &dentry.name[..dentry.name.len().min(room)];
+        self.put("name", block, FILENAMES + slot * SLOT_LEN, name);
+    }
+
+    /// The first of so many free slots in a row.
+    fn free_slot(&self, block: u32, slots: usize) -> Option<usize> {
+        let free = |slot: usize| (slot..slot + slots).all(|slot| !self.slot_bit(block, slot));
+        (0..=NR_DENTRY_IN_BLOCK - slots).find(|&slot| free(slot))
+    }
+}
+
+/// Where an entry was put.
+#[derive(Clone, Copy, Debug)]
+pub struct Linked {
+    pub block: u32,
+    pub slot: usize,
+}
+
+impl Card {
+    /// A block of the bucket that a hash leads to; an empty one where there is none yet.
+    pub fn bucket_block(&mut self, level: u32, hash: u32, nth: u32) -> u32 {
+        let index = bucket_index(level, hash, nth);
+        if let Some(&block) = self.directory.get(&index) {
+            return block;
+        }
+        let block = self.add_block(ROOT, index);
+        self.image.clear_slots(block);
+        self.directory.insert(index, block);
+        block
+    }
+
+    /// Puts an entry in a block of its bucket, in the first slots that are free.
+    pub fn link(&mut self, level: u32, nth: u32, dentry: &Dentry) -> Linked {
+        let block = self.bucket_block(level, dentry.hash, nth);
+        let slot = self.image.free_slot(block, dentry.slots());
+        let slot = slot.expect("free slots in the bucket");
+        self.image.put_dentry(block, slot, dentry);
+        Linked { block, slot }
+    }
+}

@@ -1,0 +1,326 @@
+//! A card image in memory that is built from knobs and damaged by patches. An image is large beside
+//! a patch, so the patches are undone afterwards; they also tell what was done to it.
+
+use std::fmt::{Debug, Formatter, Result};
+use std::fs::File;
+use std::ops::Range;
+use std::os::unix::fs::FileExt;
+use std::path::Path;
+
+use crate::cards::knobs::{Areas, Knobs, Pack};
+use crate::cards::layout::nat::{NatEntry, ENTRIES_PER_BLOCK, MAP_BYTES_PER_SEGMENT};
+use crate::cards::layout::{checkpoint, footer, journal, nat, superblock};
+use crate::cards::layout::{Field, BLOCK_SIZE, SEGMENT_BLOCKS};
+use crate::sizes::CARD_BLOCKS_MOST;
+use crate::trial::Random;
+
+#[derive(Clone)]
+pub struct Image {
+    /// How it came about, to be printed with a mismatch.
+    origin: String,
+    bytes: Vec<u8>,
+    patches: Vec<Patch>,
+    /// As built: a patch of a superblock doesn't change them.
+    pub areas: Areas,
+    allocated: u32,
+}
+
+/// Bytes that were changed in an image.
+#[derive(Clone)]
+struct Patch {
+    name: &'static str,
+    block: u32,
+    at: usize,
+    before: Vec<u8>,
+    after: Vec<u8>,
+}
+
+impl Image {
+    pub fn new(knobs: &Knobs) -> Image {
+        let bytes = background(knobs);
+        let mut image = Image::over(format!("{knobs:?}"), bytes, knobs.areas());
+        for copy in (0..2).filter(|&copy| knobs.copies[copy as usize]) {
+            image.set_all(copy, &knobs.superblock_fields());
+        }
+        for (which, pack) in knobs.packs.iter().enumerate() {
+            if let Some(pack) = pack {
+                image.add_pack(which, pack, knobs);
+            }
+        }
+        image.patches.clear();
+        image
+    }
+
+    /// With one block too many. The pages that nothing is written to are never really there, so that
+    /// a gigabyte costs little.
+    pub fn largest(knobs: Knobs) -> Image {
+        Image::new(&Knobs {
+            spare_image_blocks: CARD_BLOCKS_MOST + 1 - knobs.image_blocks(),
+            ..knobs
+        })
+    }
+
+    /// An image that wasn't built here. Its first superblock copy has to be sound.
+    pub fn read(origin: String, bytes: Vec<u8>) -> Image {
+        let number = |field| number_in(&bytes, 0, field) as u32;
+        let main = number(superblock::MAIN_BLKADDR);
+        let areas = Areas {
+            cp: number(superblock::CP_BLKADDR),
+            sit: number(superblock::SIT_BLKADDR),
+            nat: number(superblock::NAT_BLKADDR),
+            ssa: number(superblock::SSA_BLKADDR),
+            main,
+            main_end: main + SEGMENT_BLOCKS * number(superblock::SEGMENT_COUNT_MAIN),
+            block_count: number(superblock::BLOCK_COUNT),
+        };
+        Image::over(origin, bytes, areas)
+    }
+
+    fn over(origin: String, bytes: Vec<u8>, areas: Areas) -> Image {
+        Image {
+            origin,
+            bytes,
+            patches: Vec::new(),
+            areas,
+            allocated: 0,
+        }
+    }
+
+    pub fn bytes(&self) -> &[u8] {
+        &self.bytes
+    }
+
+    pub fn block(&self, block: u32) -> &[u8] {
+        &self.bytes[place(block, 0, BLOCK_SIZE)]
+    }
+
+    pub fn get(&self, block: u32, field: Field) -> u64 {
+        number_in(&self.bytes, block, field)
+    }
+
+    pub fn set(&mut self, block: u32, field: Field, value: u64) {
+        let stored = value.to_le_bytes();
+        self.put(field.name, block, field.at, &stored[..field.size]);
+    }
+
+    pub fn set_all(&mut self, block: u32, fields: &[(Field, u64)]) {
+        for &(field, value) in fields {
+            self.set(block, field, value);
+        }
+    }
+
+    /// Writes bytes in a block. The name says in a mismatch what they are.
+    pub fn put(&mut self, name: &'static str, block: u32, at: usize, bytes: &[u8]) {
+        let place = place(block, at, bytes.len());
+        self.patches.push(Patch {
+            name,
+            block,
+            at,
+            before: self.bytes[place.clone()].to_vec(),
+            after: bytes.to_vec(),
+        });
+        self.bytes[place].copy_from_slice(bytes);
+    }
+
+    /// Writes it to a file, in which blocks of zeros take no room.
+    pub fn save(&self, path: &Path) {
+        let file = File::create(path).expect("an image file");
+        let len = self.bytes.len() as u64;
+        file.set_len(len).expect("room for an image");
+        for (block, bytes) in self.bytes.chunks(BLOCK_SIZE).enumerate() {
+            if bytes.iter().any(|&byte| byte != 0) {
+                let at = (block * BLOCK_SIZE) as u64;
+                file.write_all_at(bytes, at).expect("an image's bytes");
+            }
+        }
+    }
+
+    /// The bytes that the patches wrote, each with their place in the image.
+    pub fn written(&self) -> impl Iterator<Item = (usize, &[u8])> {
+        let start = |patch: &Patch| place(patch.block, patch.at, 0).start;
+        let patches = self.patches.iter();
+        patches.map(move |patch| (start(patch), patch.after.as_slice()))
+    }
+
+    /// For `undo`: how many patches there are by now.
+    pub fn mark(&self) -> usize {
+        self.patches.len()
+    }
+
+    /// Makes what was written part of the image, so that it isn't undone. A mismatch then shows
+    /// these words instead of the patches.
+    pub fn settle(&mut self, words: &str) {
+        self.patches.clear();
+        self.origin = format!("{words} on {}", self.origin);
+    }
+
+    /// Takes back what was written since the mark.
+    pub fn undo(&mut self, mark: usize) {
+        for patch in self.patches.drain(mark..).rev() {
+            let place = place(patch.block, patch.at, patch.before.len());
+            self.bytes[place].copy_from_slice(&patch.before);
+        }
+    }
+}
+
+/// The checkpoint packs.
+impl Image {
+    pub fn first_block(&self, which: usize) -> u32 {
+        self.areas.cp + SEGMENT_BLOCKS * which as u32
+    }
+
+    /// By the total that the pack's first block has now.
+    pub fn last_block(&self, which: usize) -> u32 {
+        let first = self.first_block(which);
+        let total = self.get(first, checkpoint::CP_PACK_TOTAL_BLOCK_COUNT);
+        (u64::from(first) + total - 1) as u32
+    }
+
+    /// The checksum of a block's first bytes.
+    pub fn checksum(&self, block: u32, len: usize) -> u32 {
+        reference::checksum::checksum(&self.bytes[place(block, 0, len)])
+    }
+
+    /// Makes the checksum of a checkpoint block right.
+    pub fn seal(&mut self, block: u32) {
+        let sum = self.checksum(block, checkpoint::CHECKSUM.at);
+        self.set(block, checkpoint::CHECKSUM, u64::from(sum));
+    }
+
+    pub fn set_sealed(&mut self, block: u32, field: Field, value: u64) {
+        self.set(block, field, value);
+        self.seal(block);
+    }
+
+    /// Writes a pack, over whatever is there.
+    pub fn add_pack(&mut self, which: usize, pack: &Pack, knobs: &Knobs) {
+        let first = self.first_block(which);
+        self.set_all(first, &pack.fields(knobs));
+        let (at, map) = nat_map(pack, knobs);
+        self.put("NAT map", first, at, &map);
+        self.seal(first);
+        // Also with a total of 0: then it is the block before the pack.
+        let last = first + pack.total - 1;
+        self.set(last, checkpoint::CHECKPOINT_VER, pack.version);
+        let offset = checkpoint::CHECKSUM.at as u64;
+        self.set_sealed(last, checkpoint::CHECKSUM_OFFSET, offset);
+        if let Some((block, at)) = pack.journal_place() {
+            self.put_journal(first + block, at, &pack.journal);
+        }
+    }
+
+    pub fn put_journal(&mut self, block: u32, at: usize, entries: &[journal::JournalEntry]) {
+        self.set(block, journal::N_NATS.moved(at), entries.len() as u64);
+        let stored: Vec<u8> = entries.iter().flat_map(|entry| entry.stored()).collect();
+        self.put("journal entries", block, at + journal::N_NATS.size, &stored);
+    }
+}
+
+/// The node table, and what is in the main area.
+impl Image {
+    /// Where a copy of a table block lies: 512 first copies, then their 512 second ones, and so on.
+    pub fn nat_block(&self, table_block: u32, copy: u32) -> u32 {
+        let pairs_before = table_block / SEGMENT_BLOCKS;
+        let within = table_block % SEGMENT_BLOCKS;
+        self.areas.nat + (2 * pairs_before + copy) * SEGMENT_BLOCKS + within
+    }
+
+    /// The block that has a number's entry, and the entry's first byte there.
+    pub fn nat_place(&self, nid: u32, copy: u32) -> (u32, usize) {
+        let slot = (nid % ENTRIES_PER_BLOCK) as usize;
+        let block = self.nat_block(nid / ENTRIES_PER_BLOCK, copy);
+        (block, slot * nat::ENTRY_SIZE)
+    }
+
+    pub fn nat_entry(&self, nid: u32, copy: u32) -> NatEntry {
+        let (block, at) = self.nat_place(nid, copy);
+        NatEntry::read(&self.bytes[place(block, at, nat::ENTRY_SIZE)])
+    }
+
+    pub fn set_nat_entry(&mut self, nid: u32, copy: u32, entry: NatEntry) {
+        let (block, at) = self.nat_place(nid, copy);
+        self.put("NAT entry", block, at, &entry.stored());
+    }
+
+    /// The next free block of the main area.
+    pub fn allocate(&mut self) -> u32 {
+        let block = self.areas.main + self.allocated;
+        assert!(block < self.areas.main_end, "the main area is full");
+        self.allocated += 1;
+        block
+    }
+
+    /// A node block with its footer, under both copies of the table: the map may choose either.
+    pub fn add_node(&mut self, nid: u32, ino: u32, place_number: u32) -> u32 {
+        let block_addr = self.allocate();
+        let entry = NatEntry {
+            version: 0,
+            ino,
+            block_addr,
+        };
+        self.set_nat_entry(nid, 0, entry);
+        self.set_nat_entry(nid, 1, entry);
+        self.put_footer(block_addr, nid, ino, place_number);
+        block_addr
+    }
+
+    pub fn put_footer(&mut self, block: u32, nid: u32, ino: u32, place_number: u32) {
+        let flag = u64::from(place_number) << footer::OFFSET_BIT_SHIFT;
+        self.set(block, footer::NID, u64::from(nid));
+        self.set(block, footer::INO, u64::from(ino));
+        self.set(block, footer::FLAG, flag);
+    }
+}
+
+impl Debug for Image {
+    fn fmt(&self, f: &mut Formatter) -> Result {
+        write!(f, "{:?} in {}", self.patches, self.origin)
+    }
+}
+
+impl Debug for Patch {
+    fn fmt(&self, f: &mut Formatter) -> Result {
+        write!(f, "{} in block {}: ", self.name, self.block)?;
+        if self.after.len() > 8 {
+            return write!(f, "{} bytes from {}", self.after.len(), self.at);
+        }
+        write!(f, "{} -> {}", number(&self.before), number(&self.after))
+    }
+}
+
+fn place(block: u32, at: usize, len: usize) -> Range<usize> {
+    let start = block as usize * BLOCK_SIZE + at;
+    start..start + len
+}
+
+/// A little-endian number of up to eight bytes.
+fn number(stored: &[u8]) -> u64 {
+    let higher_first = stored.iter().rev();
+    higher_first.fold(0, |high, &byte| high << 8 | u64::from(byte))
+}
+
+fn number_in(bytes: &[u8], block: u32, field: Field) -> u64 {
+    number(&bytes[place(block, field.at, field.size)])
+}
+
+/// The bytes before anything is written.
+fn background(knobs: &Knobs) -> Vec<u8> {
+    let mut bytes = vec![0; knobs.image_blocks() as usize * BLOCK_SIZE];
+    if let Some(seed) = knobs.junk {
+        let mut random = Random::new(seed);
+        for eight in bytes.chunks_exact_mut(8) {
+            eight.copy_from_slice(&random.number().to_le_bytes());
+        }
+    }
+    bytes
+}
+
+/// Where a pack's NAT map starts, and its bytes as far as they lie before the checksum.
+fn nat_map(pack: &Pack, knobs: &Knobs) -> (usize, Vec<u8>) {
+    let size = |segments| (MAP_BYTES_PER_SEGMENT * segments) as usize;
+    let start = checkpoint::SIT_NAT_VERSION_BITMAP + size(knobs.sit_segments);
+    let mut map = pack.nat_map.clone();
+    map.resize(size(knobs.nat_segments), 0);
+    map.truncate(checkpoint::CHECKSUM.at.saturating_sub(start));
+    (start, map)
+}

@@ -1,0 +1,16 @@
+//! Cards made for tests: what they are built from, sound, damaged and random ones, in memory and as files.
+
+pub mod card;
+pub mod damage;
+pub mod directory;
+pub mod disks;
+pub mod image;
+pub mod knobs;
+pub mod layout;
+pub mod names;
+pub mod on_disk;
+pub mod one_file;
+pub mod random;
+pub mod random_files;
+pub mod tree;
+pub mod walk_damage;

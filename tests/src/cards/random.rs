@@ -1,0 +1,83 @@
+//! Random sound cards, and random choices.
+
+use crate::cards::knobs::{Knobs, Pack};
+use crate::cards::layout::checkpoint::{CP_COMPACT_SUM_FLAG, CP_LARGE_NAT_BITMAP_FLAG};
+use crate::cards::layout::journal::{JournalEntry, MOST_ENTRIES};
+use crate::cards::layout::nat::NatEntry;
+use crate::cards::layout::SEGMENT_BLOCKS;
+use crate::trial::Random;
+
+pub fn pick<T: Copy>(random: &mut Random, choices: &[T]) -> T {
+    choices[random.below(choices.len() as u64) as usize]
+}
+
+pub fn shuffle<T>(random: &mut Random, items: &mut [T]) {
+    for last in (1..items.len()).rev() {
+        items.swap(last, random.below(last as u64 + 1) as usize);
+    }
+}
+
+/// A number from `least` to `most`, often one of the two.
+pub fn between(random: &mut Random, least: u32, most: u32) -> u32 {
+    let any = least + random.below(u64::from(most - least) + 1) as u32;
+    pick(random, &[least, most, any, any])
+}
+
+/// Everything that the knobs leave open is junk.
+pub fn sound_knobs(random: &mut Random) -> Knobs {
+    let there = [[true, true], [true, false], [false, true]];
+    let copies = pick(random, &there);
+    let packs = pick(random, &there).map(|there| there.then(|| sound_pack(random)));
+    Knobs {
+        log_sectorsize: between(random, 9, 12),
+        segs_per_sec: between(random, 1, u32::MAX),
+        secs_per_zone: between(random, 1, u32::MAX),
+        segment0: between(random, 2, SEGMENT_BLOCKS),
+        ckpt_segments: 2,
+        sit_segments: 2 * between(random, 1, 2),
+        nat_segments: 2 * between(random, 1, 2),
+        ssa_segments: between(random, 0, 1),
+        main_segments: between(random, 0, 2),
+        spare_segments: between(random, 0, 1),
+        spare_blocks: between(random, 0, 3),
+        spare_image_blocks: between(random, 0, 3),
+        copies,
+        packs,
+        junk: Some(random.number()),
+    }
+}
+
+fn sound_pack(random: &mut Random) -> Pack {
+    // Any flags but the one that makes a pack unreadable.
+    let flags = random.number() as u32 & !CP_LARGE_NAT_BITMAP_FLAG;
+    let compact = flags & CP_COMPACT_SUM_FLAG != 0;
+    let total = between(random, if compact { 3 } else { 8 }, SEGMENT_BLOCKS);
+    let entries = between(random, 0, MOST_ENTRIES as u32);
+    let any_version = random.number();
+    Pack {
+        version: pick(random, &[1, 2, any_version]),
+        total,
+        flags,
+        start_sum: if compact {
+            between(random, 1, total - 2)
+        } else {
+            random.number() as u32
+        },
+        nat_map: random.bytes(256),
+        journal: (0..entries).map(|_| journal_entry(random)).collect(),
+    }
+}
+
+/// Mostly for one of a few numbers, so that some have several entries.
+fn journal_entry(random: &mut Random) -> JournalEntry {
+    let any = random.number() as u32;
+    let small = random.below(40) as u32;
+    JournalEntry {
+        nid: pick(random, &[small, small, any]),
+        entry: nat_entry(random),
+    }
+}
+
+pub fn nat_entry(random: &mut Random) -> NatEntry {
+    NatEntry::read(&random.bytes(crate::cards::layout::nat::ENTRY_SIZE))
+}

@@ -1,0 +1,257 @@
+//! A card for the program's tests: files with data and holes, and one for each answer that refuses a
+//! pull after opening.
+
+use std::collections::BTreeMap;
+use std::sync::Arc;
+
+use reference::hash::raw_hash;
+
+use crate::calls::lent::Lent;
+use crate::calls::pulls::{reference_pull, Call, Outcome};
+use crate::cards::card::Card;
+use crate::cards::directory::Dentry;
+use crate::cards::image::Image;
+use crate::cards::layout::inode::{ADDRESSES, INLINE_DATA, I_MODE, S_IFDIR};
+use crate::cards::layout::{footer, BLOCK_SIZE};
+use crate::cards::on_disk::{OnDisk, Shared};
+use crate::cards::one_file::small_knobs;
+use crate::trial::Random;
+
+pub const ROAD: &[u8] = b"road.bin";
+pub const EMPTY: &[u8] = b"empty";
+/// Reaches behind its inode, into the first direct node.
+pub const LONG: &[u8] = b"long";
+/// Has lines of 16 bytes that repeat.
+pub const REPEATING: &[u8] = b"repeating";
+/// Its third block has an address outside the main area.
+pub const OUTSIDE: &[u8] = b"outside";
+
+/// Other names of the road, some of which JSON can't have as they are.
+pub const NAMES: [&[u8]; 9] = [
+    b"say \"so\"",
+    b"back\\slash\\",
+    b"\x01\x02\x1B\x1Ftab\tline\nreturn\rback\x08form\x0C\x7F",
+    "Stra\u{DF}e \u{2603} \u{1D11E}".as_bytes(),
+    b"caf\xE9",
+    // Cut short, too long a form, a surrogate, past the last character, and no first bytes.
+    b"\xE2\x98|\xC0\x80|\xED\xA0\x80|\xF4\x90\x80\x80|\x80\xFF",
+    b"-o",
+    b"12",
+    b"' ; exit 9 '",
+];
+
+/// A file as it was put on a card.
+#[derive(Clone, Debug)]
+pub struct Put {
+    pub name: Vec<u8>,
+    pub ino: u32,
+    pub size: u64,
+    /// By index; what is missing is a hole.
+    pub blocks: BTreeMap<u32, u32>,
+}
+
+impl Put {
+    pub fn block_count(&self) -> u32 {
+        self.size.div_ceil(BLOCK_SIZE as u64) as u32
+    }
+
+    /// The bytes of a block that are the file's.
+    pub fn block(&self, image: &Image, index: u32) -> Vec<u8> {
+        let block = self.blocks.get(&index).map(|&block| image.block(block));
+        let mut bytes = block.map_or(vec![0; BLOCK_SIZE], <[u8]>::to_vec);
+        let rest = self.size - u64::from(index) * BLOCK_SIZE as u64;
+        bytes.truncate(rest as usize);
+        bytes
+    }
+
+    pub fn bytes(&self, image: &Image) -> Vec<u8> {
+        let indexes = 0..self.block_count();
+        indexes.flat_map(|index| self.block(image, index)).collect()
+    }
+}
+
+/// A pull that is refused after opening: the name, the index and the answer.
+pub type Refused = (Vec<u8>, u32, u32);
+
+pub struct ProgramCard {
+    pub card: Card,
+    pub disk: OnDisk,
+    /// Files that can be read whole.
+    pub files: Vec<Put>,
+    pub outside: Put,
+    pub refused: Vec<Refused>,
+    /// Node numbers that aren't in use: without an inode, and with one.
+    pub unused: [u32; 2],
+}
+
+impl ProgramCard {
+    pub fn build() -> ProgramCard {
+        let mut random = Random::new(11);
+        let knobs = small_knobs(&mut random);
+        let mut card = Card::new(knobs, random);
+        card.add_root(0, 2);
+        let files = readable(&mut card);
+        let (outside, refused) = unreadable(&mut card);
+        let unused = [0, 77].map(|ino| {
+            let nid = card.free_number();
+            card.set_entry(nid, ino, 0);
+            nid
+        });
+        card.image.settle("a card for the program");
+        ProgramCard {
+            disk: OnDisk::new(card.image.clone()),
+            card,
+            files,
+            outside,
+            refused,
+            unused,
+        }
+    }
+
+    pub fn file(&self, name: &[u8]) -> &Put {
+        let mut files = self.files.iter();
+        files.find(|file| file.name == name).expect("a file")
+    }
+
+    /// A pull by the reference.
+    pub fn pulled(&self, name: &[u8], index: u32) -> Outcome {
+        pulled(&self.card.image, name, index)
+    }
+
+    /// Pulls of data, holes and what is refused, each answer from 0 to 3 and from 9 to 14 among them.
+    pub fn calls(&self) -> Vec<(Vec<u8>, u32)> {
+        let road = (0..=7).chain([u32::MAX]).map(|index| (ROAD, index));
+        let long = [0, 1, 922, 923, 924, 925, 926].map(|index| (LONG, index));
+        let found = road.chain(long).chain([(EMPTY, 0)]);
+        let found = found.map(|(name, index)| (name.to_vec(), index));
+        let named = NAMES.map(|name| (name.to_vec(), 0));
+        let refused = self
+            .refused
+            .iter()
+            .map(|(name, index, _)| (name.clone(), *index));
+        found.chain(named).chain(refused).collect()
+    }
+}
+
+/// The card that the tests of a file share.
+pub fn shared_card() -> Arc<ProgramCard> {
+    static CARD: Shared<ProgramCard> = Shared::empty();
+    CARD.get(ProgramCard::build)
+}
+
+/// A pull by the reference.
+pub fn pulled(image: &Image, name: &[u8], index: u32) -> Outcome {
+    let call = Call::new(image, name, index);
+    Outcome::of(reference_pull, &call, Lent::least())
+}
+
+/// Adds a file with data at these indexes.
+fn put(card: &mut Card, name: &[u8], size: u64, data: &[u32]) -> Put {
+    let ino = card.add_file(0, size);
+    let blocks = data
+        .iter()
+        .map(|&index| (index, card.add_block(ino, index)));
+    let blocks = blocks.collect();
+    card.link(0, 0, &Dentry::new(name, ino));
+    Put {
+        name: name.to_vec(),
+        ino,
+        size,
+        blocks,
+    }
+}
+
+/// A block of zeros, and one of zeros and other lines, each of them several times.
+fn put_repeating(card: &mut Card) -> Put {
+    let repeating = put(card, REPEATING, 2 * BLOCK_SIZE as u64 - 5, &[0, 1]);
+    let zeros = [0; BLOCK_SIZE];
+    let mut mixed = zeros;
+    mixed[160..1600].fill(b'|');
+    mixed[1607] = 7;
+    mixed[4000..].fill(b' ');
+    for (index, bytes) in [(0, zeros), (1, mixed)] {
+        card.image.put("bytes", repeating.blocks[&index], 0, &bytes);
+    }
+    repeating
+}
+
+fn readable(card: &mut Card) -> Vec<Put> {
+    let block = BLOCK_SIZE as u64;
+    let road = put(card, ROAD, 5 * block + 100, &[0, 1, 3, 5]);
+    // A hole by its other address.
+    card.set_address(road.ino, 4, u32::MAX);
+    let longest = [b'n'; 255];
+    let mut files = vec![
+        put(card, b"one byte", 1, &[0]),
+        put(card, b"4095", block - 1, &[0]),
+        put(card, b"4096", block, &[0]),
+        put(card, b"4097", block + 1, &[0, 1]),
+        put(card, b"a hole", 2 * block - 1, &[]),
+        put(card, EMPTY, 0, &[]),
+        put(card, LONG, 926 * block - 3, &[0, 1, 922, 923, 925]),
+        put(card, &longest, block, &[0]),
+    ];
+    files.push(put_repeating(card));
+    for name in NAMES {
+        card.link(0, 0, &Dentry::new(name, road.ino));
+        files.push(Put {
+            name: name.to_vec(),
+            ..road.clone()
+        });
+    }
+    files.push(road);
+    files
+}
+
+/// A file with an address outside, and every pull that is refused.
+fn unreadable(card: &mut Card) -> (Put, Vec<Refused>) {
+    let outside = put(card, OUTSIDE, 5 * BLOCK_SIZE as u64, &[0, 1, 3, 4]);
+    let behind_main = card.image.areas.main_end;
+    card.set_address(outside.ino, 2, behind_main);
+    let of_a_node = |card: &mut Card, name: &str| {
+        let size = u64::from(ADDRESSES + 2) * BLOCK_SIZE as u64;
+        let ino = put(card, name.as_bytes(), size, &[0, ADDRESSES]).ino;
+        card.node(ino, 1)
+    };
+    let unused = of_a_node(card, "unused node");
+    card.set_entry(unused.nid, 0, 0);
+    let far = of_a_node(card, "far node");
+    card.set_entry(far.nid, 0, behind_main);
+    let foreign = of_a_node(card, "foreign node");
+    card.image.set(foreign.block, footer::NID, 77);
+    let ino = card.add_file(INLINE_DATA, 100);
+    card.link(0, 0, &Dentry::new(b"inline", ino));
+    let folder = put(card, b"folder", 100, &[0]);
+    let inode = card.inode_block(folder.ino);
+    card.image.set(inode, I_MODE, S_IFDIR | 0o755);
+    card.link(0, 0, &Dentry::new(b"no inode", 0));
+    let [missing, malformed] = malformed_level(card);
+    let refused = [
+        (missing.as_str(), 0, 2),
+        ("unused node", ADDRESSES, 9),
+        ("no inode", 0, 9),
+        ("far node", ADDRESSES, 10),
+        ("foreign node", ADDRESSES, 11),
+        ("inline", 0, 12),
+        ("folder", 0, 12),
+        ("outside", 2, 13),
+        (malformed.as_str(), 0, 14),
+    ];
+    let refused = refused.map(|(name, index, answer)| (name.as_bytes().to_vec(), index, answer));
+    (outside, refused.to_vec())
+}
+
+/// Puts a malformed slot into the second level's second bucket. Returns a name that is sought in the
+/// first, and one that is sought in the second.
+fn malformed_level(card: &mut Card) -> [String; 2] {
+    let names = [0, 1].map(|bucket| {
+        let mut names = (0..).map(|n| format!("missing {n}"));
+        names
+            .find(|name| raw_hash(name.as_bytes()) % 2 == bucket)
+            .unwrap()
+    });
+    let too_long = Dentry::new(b"123456789", 5).under_hash_of(names[1].as_bytes());
+    let block = card.bucket_block(1, 1, 0);
+    card.image.put_dentry(block, 213, &too_long);
+    names
+}

@@ -1,0 +1,4 @@
+//! The published tools and outside readers.
+
+pub mod outside;
+pub mod published;

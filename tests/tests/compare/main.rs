@@ -1,0 +1,5 @@
+//! Compare.
+
+mod changes;
+mod lists;
+mod random;

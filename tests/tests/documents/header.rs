@@ -1,0 +1,129 @@
+//! What host/include/harptimber.h gives a C host beside the calls: sizes, words, a list's entries and its
+//! version, as a program sees them.
+
+use std::collections::BTreeSet;
+use std::process::{Command, Stdio};
+
+use harptimber_tests::calls::lent::Lens;
+use harptimber_tests::cards::layout::dentry::LONGEST_NAME;
+use harptimber_tests::cards::layout::BLOCK_SIZE;
+use harptimber_tests::program::page::meaning;
+use harptimber_tests::program::{host, ran};
+use harptimber_tests::sizes::{BLOCKS_MOST, CARD_BLOCKS_MOST, NODES_MOST};
+use harptimber_tests::tools::published::Scratch;
+
+/// What a C program prints that has these statements.
+fn printed(statements: &str) -> String {
+    let scratch = Scratch::new();
+    let [source, program] = ["header.c", "header"].map(|name| scratch.path(name));
+    let headers = "#include <stdio.h>\n#include \"harptimber.h\"\n";
+    let text = format!("{headers}int main(void)\n{{\n{statements}\nreturn 0;\n}}\n");
+    std::fs::write(&source, text).unwrap();
+    let mut compiler = Command::new("cc");
+    compiler.args(["-std=c99", "-Wall", "-Wextra", "-Werror", "-Wpedantic"]);
+    compiler.arg("-I").arg(host().join("include"));
+    ran(compiler.arg("-o").arg(&program).arg(source), Stdio::piped()).expect(0);
+    let ran = ran(&mut Command::new(program), Stdio::piped()).expect(0);
+    ran.words().to_string()
+}
+
+#[test]
+fn sizes() {
+    let Lens {
+        block,
+        nodes,
+        blocks,
+    } = Lens::least();
+    for (name, size) in [
+        ("BLOCK_BYTES", block),
+        ("BLOCK_BYTES", BLOCK_SIZE),
+        ("NODES_BYTES", nodes),
+        ("BLOCKS_BYTES", blocks),
+        ("NODES_MOST", NODES_MOST as usize),
+        ("BLOCKS_MOST", BLOCKS_MOST as usize),
+        ("CARD_BLOCKS_LEAST", 2),
+        ("CARD_BLOCKS_MOST", CARD_BLOCKS_MOST as usize),
+        ("NAME_BYTES_MOST", LONGEST_NAME),
+    ] {
+        let statement = format!("printf(\"%d\", HARPTIMBER_{name});");
+        assert_eq!(printed(&statement), size.to_string(), "{name}");
+    }
+}
+
+/// The man page's words, so that a host speaks as the program does.
+#[test]
+fn words() {
+    let words = printed(
+        "for (uint32_t answer = 0; answer <= HARPTIMBER_CHANGED; answer++)
+            puts(harptimber_answer_words(answer));",
+    );
+    let words: Vec<&str> = words.lines().collect();
+    let page = (0..=16).map(|answer| meaning("pull", answer));
+    assert_eq!(words, page.collect::<Vec<_>>());
+    for unknown in ["17", "UINT32_MAX"] {
+        let statement = format!("puts(harptimber_answer_words({unknown}));");
+        assert_eq!(printed(&statement), "unknown\n");
+    }
+}
+
+#[test]
+fn list_entries() {
+    let entries = printed(
+        "static const uint8_t list[] = {1, 0, 0, 0, 0x78, 0x56, 0x34, 0x12, 0xFF, 0xFE, 0xFD, 0xFC};
+        for (uint32_t i = 0; i < 3; i++)
+            printf(\"%lx \", (unsigned long)harptimber_list_entry(list, i));",
+    );
+    assert_eq!(entries, "1 12345678 fcfdfeff ");
+}
+
+/// One version: the header's numbers and its text, the program's and the installed package's.
+#[test]
+fn version() {
+    let [text, numbers] = [
+        "fputs(HARPTIMBER_VERSION, stdout);",
+        "printf(\"%d.%d.%d\", HARPTIMBER_VERSION_MAJOR, HARPTIMBER_VERSION_MINOR, HARPTIMBER_VERSION_PATCH);",
+    ]
+    .map(printed);
+    assert_eq!(text, numbers);
+    let program = harptimber_tests::program::run(&[&"--version"]).expect(0);
+    assert_eq!(program.words(), format!("harptimber {text}\n"));
+    let scratch = Scratch::new();
+    let mut install = Command::new("make");
+    install.arg("-sC").arg(host()).arg("install");
+    install.arg(format!("PREFIX={}", scratch.folder().display()));
+    ran(&mut install, Stdio::piped()).expect(0);
+    let mut package = Command::new("pkg-config");
+    package.args(["--modversion", "harptimber"]);
+    package.env("PKG_CONFIG_PATH", scratch.path("lib/pkgconfig"));
+    let package = ran(&mut package, Stdio::piped()).expect(0);
+    assert_eq!(package.words(), format!("{text}\n"));
+}
+
+/// The names behind `before` in a text, up to a parenthesis.
+fn functions(text: &str, before: &str) -> BTreeSet<String> {
+    let found = text.split(before).skip(1);
+    let names = found.filter_map(|rest| rest.split_once('(').map(|(name, _)| name));
+    let is_name = |name: &&str| name.chars().all(|c| c.is_ascii_lowercase() || c == '_');
+    names.filter(is_name).map(str::to_string).collect()
+}
+
+/// Each call that the header declares is exported, and made in `any_bytes` by a function that asks nothing.
+#[test]
+fn calls() {
+    let read = |path: &str| std::fs::read_to_string(host().join("..").join(path)).unwrap();
+    let header = read("host/include/harptimber.h");
+    let declared: BTreeSet<String> = header
+        .lines()
+        .filter(|line| line.starts_with("struct harptimber_"))
+        .flat_map(|line| functions(line, " harptimber_"))
+        .collect();
+    assert!(declared.contains("pull") && declared.contains("compare"));
+    let exported = read("crates/harptimber/src/lib.rt");
+    assert_eq!(
+        functions(&exported, "pub extern \"C\" fn harptimber_"),
+        declared
+    );
+    let called = read("crates/any_bytes/src/lib.rt");
+    assert_eq!(functions(&called, "harptimber::harptimber_"), declared);
+    assert!(!called.contains("requires"));
+}

@@ -1,0 +1,187 @@
+//! What the README and docs/ say is there: the paths they name, and the C program, which is built and run
+//! as they say.
+
+use std::ffi::OsStr;
+use std::fs;
+use std::path::{Path, PathBuf};
+use std::process::{Command, Stdio};
+
+use harptimber_tests::cards::card::Card;
+use harptimber_tests::cards::directory::Dentry;
+use harptimber_tests::cards::image::Image;
+use harptimber_tests::cards::knobs::{Knobs, Pack};
+use harptimber_tests::running::ran;
+use harptimber_tests::tools::published::Scratch;
+use harptimber_tests::trial::Random;
+
+fn root() -> PathBuf {
+    Path::new(env!("CARGO_MANIFEST_DIR")).join("..")
+}
+
+fn read(path: &str) -> String {
+    fs::read_to_string(root().join(path)).unwrap_or_else(|error| panic!("{path}: {error}"))
+}
+
+/// What stands between single backticks.
+fn quoted(text: &str) -> impl Iterator<Item = &str> {
+    text.split('`').skip(1).step_by(2)
+}
+
+/// Whether a name is a pattern's: at most one star, or a word in capitals for any name.
+fn fits(pattern: &str, name: &str) -> bool {
+    if pattern.chars().all(|c| c.is_ascii_uppercase()) {
+        return true;
+    }
+    match pattern.split_once('*') {
+        Some((front, back)) => {
+            name.len() >= pattern.len() - 1 && name.starts_with(front) && name.ends_with(back)
+        }
+        None => name == pattern,
+    }
+}
+
+/// The same of a file's name. A must-fail edit may be named without its ending.
+fn is_named(pattern: &str, name: &OsStr) -> bool {
+    let name = name.to_string_lossy();
+    let label = name.strip_suffix(".edit").unwrap_or(&name);
+    fits(pattern, &name) || fits(pattern, label)
+}
+
+/// Whether a path is there, whatever its stars stand for.
+fn is_there(folder: &Path, path: &str) -> bool {
+    let (first, rest) = path.split_once('/').unwrap_or((path, ""));
+    let entries = fs::read_dir(folder).into_iter().flatten().flatten();
+    entries
+        .filter(|entry| is_named(first, &entry.file_name()))
+        .any(|entry| rest.is_empty() || is_there(&entry.path(), rest))
+}
+
+/// A path of the repository, and none of what is built.
+fn is_path(word: &str) -> bool {
+    let plain = |c: char| c.is_ascii_alphanumeric() || "._-*/".contains(c);
+    let word_is_path = word.contains('/') && word.chars().all(plain);
+    word_is_path && !word.contains("target/") && !word.starts_with('/')
+}
+
+#[test]
+fn paths() {
+    let documents = ["README.md", "docs/ARCHITECTURE.md", "docs/C-API.md"];
+    let documents = [&documents[..], &["docs/DEMANDS.md", "docs/DECISIONS.md"]].concat();
+    let (mut found, mut missing) = (0, Vec::new());
+    for document in documents {
+        let text = read(document);
+        for path in quoted(&text).filter(|word| is_path(word)) {
+            let path = path.trim_start_matches("./").trim_end_matches('/');
+            let there = [root(), root().join("crates")].map(|folder| is_there(&folder, path));
+            found += 1;
+            if !there.contains(&true) {
+                missing.push(format!("{document}: {path}"));
+            }
+        }
+    }
+    assert!(missing.is_empty(), "not there: {missing:#?}");
+    assert!(found > 100, "{found} paths");
+}
+
+/// The indented lines of the README's part on C.
+fn snippet() -> String {
+    let readme = read("README.md");
+    let part = readme
+        .split("\n## ")
+        .find(|part| part.starts_with("From C"));
+    let lines = part.expect("a part on C").lines();
+    let mut lines = lines.filter(|line| line.starts_with("    ") || line.is_empty());
+    let mut code = String::new();
+    for line in &mut lines {
+        code += line.strip_prefix("    ").unwrap_or("");
+        code += "\n";
+    }
+    code.trim().to_string()
+}
+
+#[test]
+fn snippet_is_of_the_example() {
+    let snippet = snippet();
+    assert!(snippet.lines().count() >= 15, "{snippet}");
+    assert!(read("host/example.c").contains(&snippet), "{snippet}");
+}
+
+/// The README's own command for it, with the program put into the folder.
+fn build_example(folder: &Scratch) -> PathBuf {
+    let readme = read("README.md");
+    let command = quoted(&readme).find(|words| words.starts_with("cc -I"));
+    let command = command.expect("a command");
+    let program = folder.path("example");
+    let command = command.replace("target/example", program.to_str().expect("a plain path"));
+    let mut words = command.split_whitespace();
+    let output = Command::new(words.next().expect("a compiler"))
+        .args(words)
+        .current_dir(root())
+        .output()
+        .expect("a compiler");
+    let errors = String::from_utf8_lossy(&output.stderr);
+    assert!(output.status.success() && errors.is_empty(), "{errors}");
+    program
+}
+
+/// A card with a road.bin of 100 such bytes.
+fn card(byte: u8) -> Image {
+    let knobs = Knobs::sound().with_pack(0, Pack::compact(1));
+    let mut card = Card::new(knobs, Random::new(1));
+    card.add_root(0, 1);
+    let ino = card.add_file(0, 100);
+    let block = card.add_block(ino, 0);
+    card.link(0, 0, &Dentry::new(b"road.bin", ino));
+    card.image.put("road", block, 0, &[byte; 100]);
+    card.image
+}
+
+/// Each step has its own words: which file, and what is wrong with it.
+#[test]
+fn example_runs() {
+    let folder = Scratch::new();
+    let program = build_example(&folder);
+    let [kept, changed, empty, zeros, none] =
+        ["kept", "changed", "empty", "zeros", "none"].map(|name| folder.path(name));
+    card(b'r').save(&kept);
+    card(b's').save(&changed);
+    fs::write(&empty, "").unwrap();
+    fs::write(&zeros, [0; 8192]).unwrap();
+    let road: &[u8] = &[b'r'; 100];
+    for (cards, status, out, err) in [
+        ([&kept, &kept], 0, road, ""),
+        ([&kept, &changed], 1, road, "changed: changed"),
+        ([&kept, &zeros], 2, road, "zeros: neither copy"),
+        ([&zeros, &kept], 2, b"", "zeros: neither copy"),
+        ([&none, &kept], 2, b"", "none: No such file"),
+        ([&kept, &none], 2, b"", "none: No such file"),
+        ([&empty, &kept], 2, b"", "empty: is empty"),
+    ] {
+        let ran = ran(Command::new(&program).args(cards), Stdio::piped()).expect(status);
+        assert_eq!(ran.out, out, "output of {ran:?}");
+        assert!(ran.err.contains(err), "no '{err}' in {ran:?}");
+        assert_eq!(ran.err.lines().count(), usize::from(status != 0), "{ran:?}");
+    }
+    ran(&mut Command::new(&program), Stdio::piped()).expect_message(3, &["usage: "]);
+}
+
+/// The change that the README asks to try is a must-fail edit, so that it is refused in the gate too.
+#[test]
+fn change_to_see_refused() {
+    let readme = read("README.md");
+    let line = readme.lines().find(|line| line.starts_with("    sed -i "));
+    let words: Vec<&str> = line.expect("a change").split('\'').collect();
+    let [_, command, path] = words[..] else {
+        panic!("{words:?}");
+    };
+    let [_, old, new, _] = command.split('/').collect::<Vec<_>>()[..] else {
+        panic!("{command}");
+    };
+    let source = read(path.trim());
+    assert_eq!(source.matches(old).count(), 1, "'{old}' in {path}");
+    let edit = read("crates/compare/must-fail/block_with_itself.edit");
+    let part = |key| edit.lines().find_map(|line| line.strip_prefix(key));
+    let [from, to] = ["old: ", "new: "].map(|key| part(key).expect("a part of an edit"));
+    assert!(source.replace(old, new) == source.replace(from, to));
+    assert!(readme.contains(&format!("`git checkout {}`", path.trim())));
+}

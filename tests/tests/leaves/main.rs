@@ -1,0 +1,4 @@
+//! The calls that take no card.
+
+mod file_place;
+mod name_hash;

@@ -1,0 +1,106 @@
+//! Node lookup: the image's length, and which of several answers comes first.
+
+use harptimber_tests::calls::lookups::Lookups;
+use harptimber_tests::cards::image::Image;
+use harptimber_tests::cards::knobs::Knobs;
+use harptimber_tests::cards::layout::checkpoint::{
+    CHECKSUM_OFFSET, CKPT_FLAGS, CP_LARGE_NAT_BITMAP_FLAG,
+};
+use harptimber_tests::cards::layout::superblock::{FEATURE, MAGIC};
+use harptimber_tests::cards::layout::BLOCK_SIZE;
+use harptimber_tests::sizes::CARD_BLOCKS_MOST;
+
+const MOST_BLOCKS: usize = CARD_BLOCKS_MOST as usize;
+const NUMBERS: [u32; 4] = [0, 1, 3, u32::MAX];
+
+/// Looks up numbers in the first `len` bytes; `answer` is that of numbers in range.
+fn expect_at_length(lookups: &mut Lookups, image: &Image, len: usize, answer: u32) {
+    for number in NUMBERS {
+        let answer = match (answer, number) {
+            (0, 0 | u32::MAX) => 9,
+            _ => answer,
+        };
+        let input = ("cut to bytes", len, image);
+        lookups.expect_in(input, &image.bytes()[..len], number, answer);
+    }
+}
+
+#[test]
+fn lengths_of_a_sound_card() {
+    let mut lookups = Lookups::new("node lookup by length");
+    let image = Image::largest(Knobs::sound());
+    let blocks = image.areas.block_count as usize;
+    let by_blocks = [
+        (0, 4),
+        (1, 4),
+        (2, 5),
+        (3, 5),
+        (blocks - 1, 5),
+        (blocks, 0),
+        (blocks + 1, 0),
+        (MOST_BLOCKS - 1, 0),
+        (MOST_BLOCKS, 0),
+        (MOST_BLOCKS + 1, 4),
+    ];
+    for (blocks, answer) in by_blocks {
+        expect_at_length(&mut lookups, &image, blocks * BLOCK_SIZE, answer);
+    }
+    for blocks in [1, 2, blocks, MOST_BLOCKS, MOST_BLOCKS + 1] {
+        for less in [1, 2, 4, 512, 1024, BLOCK_SIZE / 2, BLOCK_SIZE - 1] {
+            expect_at_length(&mut lookups, &image, blocks * BLOCK_SIZE - less, 4);
+        }
+    }
+    lookups.finish(4 * (10 + 5 * 7), &[0, 4, 5, 9]);
+}
+
+/// The bench sheet has the empty image, one block and 262,145.
+#[test]
+fn lengths_of_zeros() {
+    let mut lookups = Lookups::new("node lookup in zeros");
+    let image = Image::largest(Knobs {
+        copies: [false, false],
+        packs: [None, None],
+        ..Knobs::sound()
+    });
+    let by_blocks = [
+        (0, 4),
+        (1, 4),
+        (2, 5),
+        (MOST_BLOCKS, 5),
+        (MOST_BLOCKS + 1, 4),
+    ];
+    for (blocks, answer) in by_blocks {
+        expect_at_length(&mut lookups, &image, blocks * BLOCK_SIZE, answer);
+    }
+    lookups.finish(4 * 5, &[4, 5]);
+}
+
+/// An image with everything wrong at once, of which one fault after the other is taken away.
+#[test]
+fn first_answer_that_applies() {
+    let mut lookups = Lookups::new("node lookup with several faults");
+    let mut image = Image::new(&Knobs::sound());
+    let first = image.first_block(0);
+    image.set(first, CKPT_FLAGS, u64::from(CP_LARGE_NAT_BITMAP_FLAG));
+    image.seal(first);
+    let unreadable = image.mark();
+    image.set(first, CHECKSUM_OFFSET, 0);
+    let no_pack = image.mark();
+    for copy in [0, 1] {
+        image.set(copy, FEATURE, 1);
+    }
+    let feature = image.mark();
+    for copy in [0, 1] {
+        image.set(copy, MAGIC, 0);
+    }
+    let odd_length = image.bytes().len() - 1;
+    expect_at_length(&mut lookups, &image, odd_length, 4);
+    // 0 is out of range in any table.
+    lookups.expect(&image, 0, 5);
+    for (mark, answer) in [(feature, 6), (no_pack, 7), (unreadable, 8), (0, 9)] {
+        image.undo(mark);
+        lookups.expect(&image, 0, answer);
+    }
+    lookups.expect(&image, 3, 0);
+    lookups.finish(4 + 6, &[0, 4, 5, 6, 7, 8, 9]);
+}

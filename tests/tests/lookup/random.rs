@@ -1,0 +1,96 @@
+//! Node lookup in random cards, sound and damaged.
+
+use std::ops::RangeInclusive;
+
+use harptimber_tests::calls::lookups::Lookups;
+use harptimber_tests::cards::damage::Damage;
+use harptimber_tests::cards::image::Image;
+use harptimber_tests::cards::knobs::Knobs;
+use harptimber_tests::cards::layout::nat::ENTRIES_PER_BLOCK;
+use harptimber_tests::cards::layout::BLOCK_SIZE;
+use harptimber_tests::cards::random::{pick, sound_knobs};
+use harptimber_tests::trial::Random;
+
+/// A number to look up: in the journal, at a border, or any.
+fn number(knobs: &Knobs, random: &mut Random) -> u32 {
+    let past = knobs.node_numbers();
+    let block = random.below(u64::from(past / ENTRIES_PER_BLOCK)) as u32;
+    let inside = random.below(u64::from(past)) as u32;
+    let any = random.number() as u32;
+    let mut numbers = vec![0, past - 1, past, inside, any, block * ENTRIES_PER_BLOCK];
+    for pack in knobs.packs.iter().flatten() {
+        numbers.extend(pack.journal.iter().map(|entry| entry.nid));
+    }
+    pick(random, &numbers)
+}
+
+/// Bytes that no rule consults are junk.
+#[test]
+fn sound_cards() {
+    let mut lookups = Lookups::new("node lookup in random cards");
+    for _ in 0..lookups.trial.times(150) {
+        let knobs = sound_knobs(&mut lookups.trial.random);
+        let image = Image::new(&knobs);
+        for _ in 0..50 {
+            let number = number(&knobs, &mut lookups.trial.random);
+            let in_range = 0 < number && number < knobs.node_numbers();
+            lookups.expect(&image, number, if in_range { 0 } else { 9 });
+        }
+    }
+    lookups.finish(150 * 50, &[0, 9]);
+}
+
+/// Damages random cards, each time with so many strikes. They are undone before the next ones, so
+/// that a card serves for many.
+fn damaged_cards(name: &'static str, strikes: RangeInclusive<u64>) {
+    const CARDS: u64 = 75;
+    const DAMAGES: u64 = 200;
+    let mut lookups = Lookups::new(name);
+    for _ in 0..lookups.trial.times(CARDS) {
+        let knobs = sound_knobs(&mut lookups.trial.random);
+        let mut image = Image::new(&knobs);
+        let damage = Damage::of(&image);
+        for _ in 0..DAMAGES {
+            let random = &mut lookups.trial.random;
+            let more = random.below(strikes.end() - strikes.start() + 1);
+            for _ in 0..strikes.start() + more {
+                damage.strike(&mut image, random);
+            }
+            let number = number(&knobs, random);
+            lookups.compare(&image, number);
+            image.undo(0);
+        }
+    }
+    lookups.finish(CARDS * DAMAGES, &[0, 5, 6, 7, 8, 9]);
+}
+
+#[test]
+fn cards_damaged_once() {
+    damaged_cards("node lookup in cards damaged once", 1..=1);
+}
+
+#[test]
+fn cards_damaged_several_times() {
+    damaged_cards("node lookup in cards damaged several times", 2..=4);
+}
+
+/// Cuts a card anywhere: at a block's end it may be in shape, but never holds all its blocks.
+#[test]
+fn cut_cards() {
+    let mut lookups = Lookups::new("node lookup in cut cards");
+    for _ in 0..lookups.trial.times(10) {
+        let knobs = sound_knobs(&mut lookups.trial.random);
+        let image = Image::new(&knobs);
+        let card_len = u64::from(image.areas.block_count) * BLOCK_SIZE as u64;
+        for _ in 0..100 {
+            let len = lookups.trial.random.below(card_len) as usize;
+            let whole = len - len % BLOCK_SIZE;
+            let at_block_end = if whole <= BLOCK_SIZE { 4 } else { 5 };
+            for (len, answer) in [(len | 1, 4), (whole, at_block_end)] {
+                let input = ("cut to bytes", len, &image);
+                lookups.expect_in(input, &image.bytes()[..len], 3, answer);
+            }
+        }
+    }
+    lookups.finish(10 * 200, &[4, 5]);
+}

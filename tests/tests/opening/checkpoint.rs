@@ -1,0 +1,310 @@
+//! Node lookup: which checkpoint packs pass, and which of them is chosen.
+
+use harptimber_tests::calls::lookups::{distinct_entry, journalled, Lookups};
+use harptimber_tests::cards::image::Image;
+use harptimber_tests::cards::knobs::{Knobs, Pack};
+use harptimber_tests::cards::layout::checkpoint::*;
+use harptimber_tests::cards::layout::{superblock, Field};
+
+const NUMBER: u32 = 3;
+const PACKS: [usize; 2] = [0, 1];
+
+/// A card without packs, on which a block before their place is free.
+fn without_packs() -> Knobs {
+    Knobs {
+        segment0: 5,
+        packs: [None, None],
+        ..Knobs::sound()
+    }
+}
+
+/// A card with this pack alone.
+fn with_one(which: usize, pack: Pack) -> Image {
+    Image::new(&without_packs().with_pack(which, pack))
+}
+
+/// A card with two packs whose journals tell them apart.
+fn with_two(versions: [u64; 2]) -> Image {
+    let packs = PACKS.map(|which| {
+        let journal = vec![journalled(NUMBER, distinct_entry(which as u32))];
+        Some(Pack {
+            journal,
+            ..Pack::compact(versions[which])
+        })
+    });
+    Image::new(&Knobs {
+        packs,
+        ..without_packs()
+    })
+}
+
+fn expect_chosen(lookups: &mut Lookups, image: &Image, which: usize) {
+    lookups.expect_entry(image, NUMBER, distinct_entry(which as u32));
+}
+
+/// Damages the first and the last block of each pack, where that is the only one, in each of the
+/// ways. The pack passes before, and not with the damage.
+fn refuse<W: Copy>(lookups: &mut Lookups, ways: &[W], damage: impl Fn(&mut Image, u32, W)) {
+    for which in PACKS {
+        let mut image = with_one(which, Pack::compact(1));
+        lookups.expect(&image, NUMBER, 0);
+        for block in [image.first_block(which), image.last_block(which)] {
+            for &way in ways {
+                damage(&mut image, block, way);
+                lookups.expect(&image, NUMBER, 7);
+                image.undo(0);
+            }
+        }
+    }
+}
+
+#[test]
+fn checksum_offset() {
+    let mut lookups = Lookups::new("node lookup by checksum offset");
+    let offsets = [
+        0,
+        1,
+        192,
+        4088,
+        4091,
+        4093,
+        4096,
+        4092 + (1 << 16),
+        4092 + (1 << 31),
+        u64::from(u32::MAX),
+    ];
+    refuse(&mut lookups, &offsets, |image, block, offset| {
+        image.set_sealed(block, CHECKSUM_OFFSET, offset);
+    });
+    // Right where the offset says, too, as Linux would have it.
+    refuse(&mut lookups, &[192, 2048, 4088], |image, block, offset| {
+        image.set(block, CHECKSUM_OFFSET, offset as u64);
+        let sum = image.checksum(block, offset);
+        image.put("checksum", block, offset, &sum.to_le_bytes());
+        image.seal(block);
+    });
+    lookups.finish(2 * (2 + 2 * 13), &[0, 7]);
+}
+
+#[test]
+fn checksum() {
+    let mut lookups = Lookups::new("node lookup by checksum");
+    let mut masks: Vec<u64> = (0..32).map(|bit| 1 << bit).collect();
+    // The final complement that this checksum doesn't have.
+    masks.push(u64::from(u32::MAX));
+    refuse(&mut lookups, &masks, |image, block, mask| {
+        let right = image.get(block, CHECKSUM);
+        image.set(block, CHECKSUM, right ^ mask);
+    });
+    lookups.finish(2 * (1 + 2 * 33), &[0, 7]);
+}
+
+/// A bit of each byte that the checksum covers.
+#[test]
+fn bytes_under_the_checksum() {
+    let mut lookups = Lookups::new("node lookup by bytes under the checksum");
+    let bytes: Vec<usize> = (0..CHECKSUM.at).collect();
+    refuse(&mut lookups, &bytes, |image, block, at| {
+        let byte = Field {
+            name: "byte under the checksum",
+            at,
+            size: 1,
+        };
+        let right = image.get(block, byte);
+        image.set(block, byte, right ^ (1 << (at % 8)));
+    });
+    lookups.finish(2 * (1 + 2 * 4092), &[0, 7]);
+}
+
+/// The first and the last block have to have the same version.
+#[test]
+fn versions_in_a_pack() {
+    let mut lookups = Lookups::new("node lookup by versions in a pack");
+    let bits: Vec<u64> = (0..64).collect();
+    refuse(&mut lookups, &bits, |image, block, bit| {
+        let right = image.get(block, CHECKPOINT_VER);
+        image.set_sealed(block, CHECKPOINT_VER, right ^ (1 << bit));
+    });
+    lookups.finish(2 * (1 + 2 * 64), &[0, 7]);
+}
+
+/// The last block is sound wherever it then lies: before the pack, in it, in the next pack or area.
+#[test]
+fn total_with_its_last_block() {
+    let mut lookups = Lookups::new("node lookup by total with its last block");
+    let by_total = [
+        (0, 7),
+        (1, 7),
+        // No room for a journal.
+        (2, 8),
+        (3, 0),
+        (4, 0),
+        (511, 0),
+        (512, 0),
+        (513, 7),
+        (514, 7),
+        (1024, 7),
+        ((1 << 16) + 6, 7),
+    ];
+    for which in PACKS {
+        let knobs = Knobs {
+            spare_image_blocks: 1 << 16,
+            ..without_packs()
+        };
+        let mut image = Image::new(&knobs);
+        for (total, answer) in by_total {
+            let pack = Pack {
+                total,
+                ..Pack::compact(1)
+            };
+            image.add_pack(which, &pack, &knobs);
+            lookups.expect(&image, NUMBER, answer);
+            image.undo(0);
+        }
+    }
+    lookups.finish(2 * 11, &[0, 7, 8]);
+}
+
+#[test]
+fn total_without_its_last_block() {
+    let mut lookups = Lookups::new("node lookup by total without its last block");
+    for which in PACKS {
+        let mut image = with_one(which, Pack::compact(1));
+        let first = image.first_block(which);
+        let right = image.get(first, CP_PACK_TOTAL_BLOCK_COUNT);
+        let near = [0, 1, 2, right - 1, right + 1, 512, 513];
+        let far = [16, 31].map(|bit| right + (1 << bit));
+        for total in near.into_iter().chain(far).chain([0xFFFF_FFFF]) {
+            image.set_sealed(first, CP_PACK_TOTAL_BLOCK_COUNT, total);
+            lookups.expect(&image, NUMBER, 7);
+            image.undo(0);
+        }
+    }
+    lookups.finish(2 * 10, &[7]);
+}
+
+/// Only the last block's checksum and version are consulted.
+#[test]
+fn other_numbers_of_the_last_block() {
+    let mut lookups = Lookups::new("node lookup by other numbers of the last block");
+    let others = [
+        (CKPT_FLAGS, u64::from(CP_LARGE_NAT_BITMAP_FLAG)),
+        (CP_PACK_TOTAL_BLOCK_COUNT, 1),
+        (CP_PACK_START_SUM, 0),
+        (SIT_VER_BITMAP_BYTESIZE, 1),
+        (NAT_VER_BITMAP_BYTESIZE, 1),
+    ];
+    for which in PACKS {
+        let mut image = with_two([1, 1 + which as u64]);
+        let last = image.last_block(which);
+        for (field, value) in others {
+            image.set_sealed(last, field, value);
+            expect_chosen(&mut lookups, &image, which);
+        }
+    }
+    lookups.finish(2 * 5, &[0]);
+}
+
+#[test]
+fn chosen_by_version() {
+    let mut lookups = Lookups::new("node lookup by the packs' versions");
+    let halves = [(1 << 32) + 2, (2 << 32) + 1];
+    let rising = [
+        [0, 1],
+        [5, 6],
+        [u64::from(u32::MAX), 1 << 32],
+        [5, 1 << 63],
+        [(1 << 63) - 1, 1 << 63],
+        [u64::MAX - 1, u64::MAX],
+        [0, u64::MAX],
+        halves,
+    ];
+    let bits = (0..64).map(|bit| [0, 1 << bit]);
+    for [less, greater] in rising.into_iter().chain(bits) {
+        expect_chosen(&mut lookups, &with_two([less, greater]), 1);
+        expect_chosen(&mut lookups, &with_two([greater, less]), 0);
+    }
+    // If equal, the first; 5 and 5 are on the bench sheet.
+    for version in [0, 5, 1 << 32, 1 << 63, u64::MAX] {
+        expect_chosen(&mut lookups, &with_two([version, version]), 0);
+    }
+    lookups.finish(2 * 72 + 5, &[0]);
+}
+
+/// Makes a pack not pass in one of several ways.
+type Spoil = fn(&mut Image, usize);
+const SPOILS: [Spoil; 7] = [
+    |image, which| image.set(image.first_block(which), CHECKSUM, 0),
+    |image, which| image.set(image.last_block(which), CHECKSUM, 0),
+    |image, which| image.set_sealed(image.first_block(which), CHECKSUM_OFFSET, 0),
+    |image, which| image.set_sealed(image.last_block(which), CHECKSUM_OFFSET, 0),
+    |image, which| image.set_sealed(image.last_block(which), CHECKPOINT_VER, 99),
+    |image, which| image.set_sealed(image.first_block(which), CP_PACK_TOTAL_BLOCK_COUNT, 1),
+    |image, which| image.set_sealed(image.first_block(which), CP_PACK_TOTAL_BLOCK_COUNT, 513),
+];
+
+/// With one pack spoilt the other is chosen, whichever is newer; with both the answer is 7.
+#[test]
+fn one_or_both_packs_spoilt() {
+    let mut lookups = Lookups::new("node lookup with packs spoilt");
+    for versions in [[5, 5], [5, 6], [6, 5]] {
+        let mut image = with_two(versions);
+        for which in PACKS {
+            for spoil in SPOILS {
+                spoil(&mut image, which);
+                expect_chosen(&mut lookups, &image, 1 - which);
+                let mark = image.mark();
+                for spoil_other in SPOILS {
+                    spoil_other(&mut image, 1 - which);
+                    lookups.expect(&image, NUMBER, 7);
+                    image.undo(mark);
+                }
+                image.undo(0);
+            }
+        }
+    }
+    lookups.finish(3 * 2 * 7 * 8, &[0, 7]);
+}
+
+/// A pack that passes but isn't readable: if chosen the answer is 8, else it isn't consulted.
+#[test]
+fn unreadable_pack() {
+    let mut lookups = Lookups::new("node lookup with an unreadable pack");
+    for (versions, chosen) in [([5, 5], 0), ([6, 5], 0), ([5, 6], 1)] {
+        let mut image = with_two(versions);
+        for which in PACKS {
+            let first = image.first_block(which);
+            image.set_sealed(first, CKPT_FLAGS, u64::from(CP_LARGE_NAT_BITMAP_FLAG));
+            if which == chosen {
+                lookups.expect(&image, NUMBER, 8);
+            } else {
+                expect_chosen(&mut lookups, &image, chosen);
+            }
+            image.undo(0);
+        }
+    }
+    lookups.finish(3 * 2, &[0, 8]);
+}
+
+/// Packs start at the checkpoint address of the copy used, wherever that is.
+#[test]
+fn packs_are_where_the_copy_says() {
+    let mut lookups = Lookups::new("node lookup with packs elsewhere");
+    let mut image = Image::new(&Knobs {
+        spare_segments: 1,
+        ..without_packs().with_pack(0, Pack::compact(1))
+    });
+    let segments = image.get(0, superblock::SEGMENT_COUNT);
+    image.set(0, superblock::SEGMENT_COUNT, segments - 1);
+    lookups.expect(&image, NUMBER, 0);
+    let mark = image.mark();
+    for by in [-3, -1, 1, 511, 512] {
+        for start in superblock::STARTS {
+            let right = image.get(0, start);
+            image.set(0, start, right.wrapping_add_signed(by));
+        }
+        lookups.expect(&image, NUMBER, 7);
+        image.undo(mark);
+    }
+    lookups.finish(6, &[0, 7]);
+}

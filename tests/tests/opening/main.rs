@@ -1,0 +1,5 @@
+//! Which cards open.
+
+mod checkpoint;
+mod readable;
+mod superblock;

@@ -1,0 +1,310 @@
+//! `harptimber compare` on images that open: one change at a time to the new one, against compares by the
+//! reference of every block.
+
+use harptimber_tests::cards::directory::Dentry;
+use harptimber_tests::cards::image::Image;
+use harptimber_tests::cards::layout::inode::I_SIZE;
+use harptimber_tests::cards::layout::nat::BLOCK_ADDR;
+use harptimber_tests::cards::layout::superblock::SEGMENT_COUNT_MAIN;
+use harptimber_tests::cards::layout::BLOCK_SIZE;
+use harptimber_tests::cards::on_disk::OnDisk;
+use harptimber_tests::program::card::{ProgramCard, EMPTY, LONG, NAMES, OUTSIDE, ROAD};
+use harptimber_tests::program::compares::Expected;
+use harptimber_tests::program::page::{expect_head, expect_name, shown};
+use harptimber_tests::program::special_build::SpecialBuild;
+use harptimber_tests::program::{run, Ran, Words};
+use harptimber_tests::tools::published::{filled_on, File};
+use harptimber_tests::trial::Random;
+
+/// A kept card and a new one, which are the same but for what a test changes.
+struct Cards {
+    kept: ProgramCard,
+    fresh: OnDisk,
+    run: Box<dyn Fn(Words) -> Ran>,
+}
+
+impl Cards {
+    fn new() -> Cards {
+        let kept = ProgramCard::build();
+        let fresh = OnDisk::new(kept.disk.image.clone());
+        let run = Box::new(run);
+        Cards { kept, fresh, run }
+    }
+
+    /// Changes the new image, in memory and in its file.
+    fn change(&mut self, change: impl FnOnce(&mut Image)) {
+        change(&mut self.fresh.image);
+        self.write();
+    }
+
+    fn undo(&mut self) {
+        let changed = self.differing();
+        self.fresh.image.undo(0);
+        self.fresh.write_blocks(&changed);
+    }
+
+    fn write(&self) {
+        self.fresh.write_blocks(&self.differing());
+    }
+
+    fn differing(&self) -> Vec<u32> {
+        let [kept, fresh] = [&self.kept.disk.image, &self.fresh.image];
+        let blocks = 0..(kept.bytes().len() / BLOCK_SIZE) as u32;
+        let differing = blocks.filter(|&block| kept.block(block) != fresh.block(block));
+        differing.collect()
+    }
+
+    fn byte(&mut self, block: u32, at: usize) {
+        self.change(|image| {
+            let old = image.block(block)[at];
+            image.put("byte", block, at, &[old ^ 1]);
+        });
+    }
+
+    /// Compares a file as a whole and at some indexes. Returns the status of the whole.
+    fn expect(&self, name: &[u8]) -> i32 {
+        for index in [0, 1, 2, 3, 5, 922, 923, 926, u32::MAX] {
+            self.expect_at(name, Some(index));
+        }
+        self.expect_at(name, None)
+    }
+
+    fn expect_at(&self, name: &[u8], index: Option<u32>) -> i32 {
+        let images = [&self.kept.disk.image, &self.fresh.image];
+        let expected = Expected::of(images, name, index);
+        let paths = [self.kept.disk.path(), self.fresh.path()];
+        let index = index.unwrap_or(0);
+        let words: Words = &[
+            &"--index", &index, &"compare", &"--", &paths[0], &paths[1], &name,
+        ];
+        let words = &words[2 * usize::from(expected.whole())..];
+        let run = &self.run;
+        let in_words = run(words).expect(expected.status);
+        expected.expect_words(in_words.words(), true);
+        let quiet = run(&[&[&"-q" as _], words].concat()).expect(expected.status);
+        assert_eq!((quiet.words(), quiet.err.as_str()), ("", ""));
+        let as_json = run(&[&[&"--json" as _], words].concat()).expect(expected.status);
+        let json = as_json.json();
+        expect_head(&json, "compare", expected.answer);
+        expect_name(&json, name);
+        let shown = ["kept", "new"].map(|key| json[key].text().to_string());
+        assert_eq!(shown, paths.map(|path| path.to_str().unwrap().to_string()));
+        assert!(json.get("side").is_none(), "a side in {json:?}");
+        expected.expect_json(&json);
+        assert_eq!(in_words.err + &as_json.err, "");
+        expected.status
+    }
+}
+
+#[test]
+fn same() {
+    let cards = Cards::new();
+    for name in [ROAD, LONG, b"4096", b"a hole", NAMES[0], NAMES[2], NAMES[5]] {
+        assert_eq!(cards.expect(name), 0, "of {}", shown(name));
+    }
+}
+
+/// Cards that the published tools write before and after a change of two bytes.
+#[test]
+fn published_cards() {
+    let mut random = Random::new(7);
+    let mut table = random.bytes(30 * BLOCK_SIZE + 7);
+    let road: File = (b"road".to_vec(), random.bytes(900 * BLOCK_SIZE));
+    let card = |table: &[u8]| {
+        let files = [(b"table".to_vec(), table.to_vec()), road.clone()];
+        OnDisk::new(filled_on(100, 1_700_000_000, &files))
+    };
+    let kept = card(&table);
+    table[3 * BLOCK_SIZE] ^= 1;
+    table[30 * BLOCK_SIZE + 6] ^= 1;
+    let fresh = card(&table);
+    for (name, status) in [("table", 1), ("road", 0)] {
+        let cards = [&kept.image, &fresh.image];
+        let expected = Expected::of(cards, name.as_bytes(), None);
+        assert_eq!(expected.status, status, "of {name}");
+        let words: Words = &[&"compare", &kept.path(), &fresh.path(), &name];
+        expected.expect_words(run(words).expect(status).words(), true);
+        let ran = run(&[words, &[&"--json"]].concat()).expect(status);
+        expected.expect_json(&ran.json());
+    }
+}
+
+/// One byte in each of some blocks; in the last one behind the file's end, which a pull reads too.
+#[test]
+fn data() {
+    let mut cards = Cards::new();
+    let blocks = cards.kept.file(ROAD).blocks.clone();
+    let sets: [&[u32]; 7] = [&[0], &[1], &[3], &[5], &[0, 1], &[0, 3], &[0, 1, 3, 5]];
+    for set in sets {
+        for index in set {
+            cards.byte(blocks[index], 4095);
+        }
+        assert_eq!(cards.expect(ROAD), 1, "blocks {set:?} changed");
+        assert_eq!(cards.expect(b"4097"), 0, "another file");
+        cards.undo();
+        assert_eq!(cards.expect_at(ROAD, None), 0, "nothing changed");
+    }
+}
+
+/// Data and a node behind the inode.
+#[test]
+fn behind_a_node() {
+    let mut cards = Cards::new();
+    let long = cards.kept.file(LONG).clone();
+    let node = cards.kept.card.node(long.ino, 1).block;
+    for block in [long.blocks[&923], node] {
+        cards.byte(block, 2000);
+        assert_eq!(cards.expect(LONG), 1);
+        cards.undo();
+    }
+}
+
+/// The inode moved to another block: kind 2, for each block of the file.
+#[test]
+fn table() {
+    let mut cards = Cards::new();
+    let ino = cards.kept.file(ROAD).ino;
+    let inode = cards.kept.card.inode_block(ino);
+    let moved = cards.kept.card.free_block();
+    let (table, at) = cards.kept.card.entry_place(ino);
+    cards.change(|image| {
+        let bytes = image.block(inode).to_vec();
+        image.put("inode", moved, 0, &bytes);
+        image.set(table, BLOCK_ADDR.moved(at), u64::from(moved));
+    });
+    assert_eq!(cards.expect(ROAD), 1);
+    assert_eq!(cards.expect(b"4097"), 0, "another file");
+}
+
+/// A longer main area: kind 1, for every file.
+#[test]
+fn main_area() {
+    let mut cards = Cards::new();
+    cards.change(|image| {
+        image.set(0, SEGMENT_COUNT_MAIN, 2);
+        image.set(1, SEGMENT_COUNT_MAIN, 2);
+    });
+    for name in [ROAD, OUTSIDE, EMPTY] {
+        assert_eq!(cards.expect(name), 1, "of {}", shown(name));
+    }
+    assert_eq!(cards.expect(b"no such name"), 4, "on neither card");
+}
+
+/// Where the kept card refuses, that is said; unless something changed. A name that is on neither card is
+/// the question's fault.
+#[test]
+fn refused_by_kept() {
+    let mut cards = Cards::new();
+    let refused = cards.kept.refused.clone();
+    for (name, index, answer) in &refused {
+        let status = if *answer == 2 { 4 } else { 2 };
+        assert_eq!(cards.expect(name), status, "of {}", shown(name));
+        assert_eq!(cards.expect_at(name, Some(*index)), status);
+    }
+    assert_eq!(cards.expect_at(ROAD, Some(6)), 2, "past the end");
+    let blocks = cards.kept.outside.blocks.clone();
+    for (index, status) in [(0, 1), (1, 1), (3, 2)] {
+        cards.byte(blocks[&index], 0);
+        assert_eq!(cards.expect(OUTSIDE), status, "block {index} changed");
+        cards.undo();
+    }
+    let ino = cards.kept.outside.ino;
+    cards.byte(cards.kept.card.inode_block(ino), 300);
+    assert_eq!(cards.expect(OUTSIDE), 1, "inode changed");
+}
+
+/// A name that wasn't there and is, and the other way round.
+#[test]
+fn names() {
+    let mut cards = Cards::new();
+    let (missing, ..) = cards.kept.refused[0].clone();
+    let ino = cards.kept.file(ROAD).ino;
+    let directory = cards.kept.card.directory[&0];
+    cards.change(|image| image.put_dentry(directory, 210, &Dentry::new(&missing, ino)));
+    assert_eq!(cards.expect(&missing), 1);
+    cards.undo();
+    cards.change(|image| image.clear_slots(directory));
+    assert_eq!(cards.expect(ROAD), 1);
+}
+
+/// A file that was empty has no block, but its inode is what says so.
+#[test]
+fn empty_file() {
+    let mut cards = Cards::new();
+    let inode = cards.kept.card.inode_block(cards.kept.file(EMPTY).ino);
+    cards.change(|image| image.set(inode, I_SIZE, 5000));
+    assert_eq!(cards.expect(EMPTY), 1, "grown");
+    cards.undo();
+    assert_eq!(cards.expect_at(EMPTY, Some(0)), 2, "no block 0");
+    assert_eq!(cards.expect_at(EMPTY, None), 0, "still empty");
+}
+
+/// Where damage may strike without making a file so long that a compare takes hours: a size's higher bytes stay.
+fn strike(random: &mut Random, block: u32, inode: bool, image: &mut Image) {
+    let ends = [32, 400, BLOCK_SIZE as u64][random.below(3) as usize];
+    let from_end = random.below(4) == 0;
+    let at = random.below(ends) as usize;
+    let at = if from_end {
+        BLOCK_SIZE - 1 - at % 48
+    } else {
+        at
+    };
+    if !inode || !(18..24).contains(&at) {
+        let byte = [0, 255, random.number() as u8, image.block(block)[at] ^ 1];
+        image.put("damage", block, at, &[byte[random.below(4) as usize]]);
+    }
+}
+
+/// Nodes and directory blocks with a few bytes changed anywhere, on the new card. Returns how often each status came.
+fn damage(cards: &mut Cards, random: &mut Random, rounds: usize) -> [u32; 5] {
+    let [root, road] = [3, cards.kept.file(ROAD).ino].map(|ino| cards.kept.card.inode_block(ino));
+    let node = cards.kept.card.node(cards.kept.file(LONG).ino, 1).block;
+    let directory = cards.kept.card.directory[&0];
+    let data = cards.kept.file(ROAD).blocks[&1];
+    let targets = [
+        (root, true),
+        (road, true),
+        (node, false),
+        (directory, false),
+        (data, false),
+    ];
+    let mut statuses = [0; 5];
+    for _ in 0..rounds {
+        let (block, inode) = targets[random.below(5) as usize];
+        let strikes = 1 + random.below(6);
+        cards.change(|image| (0..strikes).for_each(|_| strike(random, block, inode, image)));
+        // The long file takes long, and has a node of its own.
+        let other: &[u8] = if block == node { LONG } else { b"4097" };
+        for name in [ROAD, other, b"no such name"] {
+            statuses[cards.expect_at(name, None) as usize] += 1;
+        }
+        cards.undo();
+    }
+    println!(
+        "compare of damaged cards: {} inputs compared, statuses {statuses:?}",
+        3 * rounds
+    );
+    statuses
+}
+
+#[test]
+fn damaged() {
+    let mut cards = Cards::new();
+    let statuses = damage(&mut cards, &mut Random::new(41), 40);
+    assert!(
+        [0, 1, 4].iter().all(|&status| statuses[status] > 9),
+        "{statuses:?}"
+    );
+}
+
+#[test]
+fn damaged_under_sanitizers() {
+    let build = SpecialBuild::sanitized();
+    let mut cards = Cards::new();
+    cards.run = Box::new(move |words| build.run(words));
+    let statuses = damage(&mut cards, &mut Random::new(42), 8);
+    assert!(
+        [0, 1, 4].iter().all(|&status| statuses[status] > 1),
+        "{statuses:?}"
+    );
+}

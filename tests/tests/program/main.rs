@@ -1,0 +1,22 @@
+//! The program `harptimber`.
+
+mod cat;
+mod compare;
+mod compare_cards;
+mod compare_fields;
+mod files;
+mod info;
+mod install;
+mod json;
+mod ls;
+mod numbers;
+mod output;
+mod partitions;
+mod progress;
+mod pull;
+mod reasons;
+mod refusals;
+mod usage;
+mod while_read;
+mod whole;
+mod words;

@@ -1,0 +1,83 @@
+//! `harptimber pull` as JSON, against the reference and the bytes that were put on the card.
+
+use std::collections::BTreeSet;
+use std::fs;
+
+use harptimber_tests::cards::image::Image;
+use harptimber_tests::cards::layout::BLOCK_SIZE;
+use harptimber_tests::cards::on_disk::OnDisk;
+use harptimber_tests::program::card::{pulled, ProgramCard};
+use harptimber_tests::program::page::{expect_head, expect_name, status_of};
+use harptimber_tests::program::run;
+use harptimber_tests::tools::published::{filled_on, File, LONGEST_INLINE};
+use harptimber_tests::trial::Random;
+
+/// Pulls a block for its object, which has to be the reference's. Returns the answer.
+fn expect_json(disk: &OnDisk, image: &Image, name: &[u8], index: u32) -> u32 {
+    let path = disk.path();
+    let output = disk.scratch.path("block");
+    let outcome = pulled(image, name, index);
+    let answer = outcome.pulled.answer;
+    let ran = run(&[
+        &"pull", &"--json", &"-o", &output, &path, &"--", &name, &index,
+    ]);
+    let ran = ran.expect(status_of(answer));
+    assert_eq!(ran.err, "", "of {ran:?}");
+    let json = ran.json();
+    expect_head(&json, "pull", answer);
+    expect_name(&json, name);
+    assert_eq!(json["image"].text(), path.to_str().unwrap());
+    assert_eq!(json["index"].number(), u64::from(index));
+    let count = outcome.pulled.byte_count;
+    assert_eq!(json["byte_count"].number(), u64::from(count));
+    assert_eq!(json["nodes"].numbers(), outcome.nodes());
+    assert_eq!(json["blocks"].numbers(), outcome.blocks());
+    if answer <= 1 {
+        let bytes = &outcome.lent.block.bytes()[..count as usize];
+        assert!(fs::read(&output).unwrap() == bytes, "bytes of {ran:?}");
+        fs::remove_file(&output).unwrap();
+    }
+    assert!(!output.exists(), "a file by {ran:?}");
+    answer
+}
+
+/// Each answer from 0 to 3 and from 9 to 14, and names that JSON can't have as they are.
+#[test]
+fn every_answer() {
+    let card = ProgramCard::build();
+    let calls = card.calls().into_iter();
+    let answers: BTreeSet<u32> = calls
+        .map(|(name, index)| expect_json(&card.disk, &card.card.image, &name, index))
+        .collect();
+    let all = (0..=3).chain(9..=14).collect();
+    assert_eq!(answers, all, "answers that came up");
+    for (name, index, answer) in &card.refused {
+        assert_eq!(card.pulled(name, *index).pulled.answer, *answer);
+    }
+}
+
+/// A file by the published tools that reaches its second direct node, and an inline one.
+#[test]
+fn published_files() {
+    let mut random = Random::new(6);
+    let len = (873 + 1018) * BLOCK_SIZE + 4097;
+    let files: [File; 2] = [
+        (b"long".to_vec(), random.bytes(len)),
+        (b"inline".to_vec(), random.bytes(LONGEST_INLINE)),
+    ];
+    let image = filled_on(100, 1_700_000_000, &files);
+    let disk = OnDisk::new(image.clone());
+    for index in [0, 1, 872, 873, 1890, 1891, 1892] {
+        assert_eq!(expect_json(&disk, &image, b"long", index), 0);
+        let bytes = files[0].1.chunks(BLOCK_SIZE).nth(index as usize).unwrap();
+        let output = disk.scratch.path("bytes");
+        run(&[&"pull", &"-o", &output, &disk.path(), &"long", &index]).expect(0);
+        assert!(
+            fs::read(&output).unwrap() == bytes,
+            "bytes of block {index}"
+        );
+    }
+    assert_eq!(expect_json(&disk, &image, b"long", 1893), 3);
+    assert_eq!(expect_json(&disk, &image, b"inline", 0), 12);
+    assert_eq!(expect_json(&disk, &image, b"missing", 0), 2);
+}

@@ -1,0 +1,6 @@
+//! Cards that the published tools write, and readers from elsewhere.
+
+mod accident;
+mod files;
+mod lookups;
+mod outside_readers;
