@@ -9,7 +9,8 @@ use lib.Seq.{take-at, drop-append-add, drop-nil}
 use Rattle.field.specs.Card.{cardOf, blockOf}
 use Rattle.superblock.specs.Shape.{inShape}
 use Rattle.list.specs.Lists.{bytesOf}
-use Rattle.sample_card.specs.Image.{filled, zeros, superblock, pack, journal, natBlock, rootInode, fileInode, dentryBlock, dataBlock, mainArea, blocks, joined, image, card}
+use Rattle.sample_card.specs.Image.{filled, zeros, superblock, pack, journal, natBlock, rootInode, fileInode, dentryBlock, dataBlock}
+use Rattle.sample_card.specs.Image.{mainArea, blocks, joined, image, card}
 
 -- ---- any blocks
 

@@ -29,7 +29,8 @@ entries = (refl, refl)
 
 -- block 1 of the file; its block 0, a hole; block 2, past its end; a name that isn't there
 pub walks :
-    (pullRun card volume name 1 ≡ ran (ok (record { count = 7; content = held dataBlock })) (record { nodes = 3 ∷ 4 ∷ []; blocks = 3074 ∷ 3075 ∷ 3076 ∷ 3077 ∷ [] }))
+    (pullRun card volume name 1
+    ≡ ran (ok (record { count = 7; content = held dataBlock })) (record { nodes = 3 ∷ 4 ∷ []; blocks = 3074 ∷ 3075 ∷ 3076 ∷ 3077 ∷ [] }))
     × (pullRun card volume name 0 ≡ ran (ok (record { count = 4096; content = hole })) (record { nodes = 3 ∷ 4 ∷ []; blocks = 3074 ∷ 3075 ∷ 3076 ∷ [] }))
     × (pullRun card volume name 2 ≡ ran (stop 3) (record { nodes = 3 ∷ 4 ∷ []; blocks = 3074 ∷ 3075 ∷ 3076 ∷ [] }))
     × (pullRun card volume missing 0 ≡ ran (stop 2) (record { nodes = 3 ∷ []; blocks = 3074 ∷ 3075 ∷ [] }))

@@ -26,7 +26,8 @@ unfolding openedImage
 some-card-opens = rw image-shape (ap opened image-card ∙ card-opens)
 
 -- ---- Node lookup: a number that the journal has, and one that only the table has
-pub a-lookup-answers-0 : (lookupOf image 3 ≡ record { answer = 0; inode = 3; address = 3074 }) × (lookupOf image 4 ≡ record { answer = 0; inode = 4; address = 3076 })
+pub a-lookup-answers-0 : (lookupOf image 3 ≡ record { answer = 0; inode = 3; address = 3074 })
+    × (lookupOf image 4 ≡ record { answer = 0; inode = 4; address = 3076 })
 unfolding lookupOf
 a-lookup-answers-0 = rw (some-card-opens, image-card) (ap answered (entries .0), ap answered (entries .1))
 
