@@ -1,1 +1,3 @@
+pub mod Line
+pub mod Volume004
 pub mod Sheet
