@@ -1,12 +1,12 @@
 -- Document 01's rules for node lookup and for the walk of a pull, by number: what the definitions compute on both sides of each
--- boundary, and what the document's sentence says. 1 is yes, 0 no.
+-- boundary, and what the document's sentence says. 1 is yes, 0 no. What isn't written out of a block is zeros, as every byte past a list's end counts as 0.
 use mathlib.Core.Path.{refl}
 use mathlib.Core.List.{List, [], _∷_, _++_}
 use mathlib.Core.List as List
 use Prim.Native.Nat.{ℕ, _-_, _*_, _/_, _%_}
-use lib.ListN.{length, set, replicate}
+use lib.ListN.{length, replicate}
 use lib.Dec.{eqb}
-use Rattle.field.specs.Number.{le16, le32, le64, put32At}
+use Rattle.field.specs.Number.{le16, le32, le64,}
 use Rattle.field.specs.Map.{topBit, lowBit}
 use Rattle.field.specs.Bytes.{sameAt}
 use Rattle.field.specs.Card.{Card}
@@ -29,9 +29,6 @@ use Rattle.directory.specs.Find.{afterSlots, levelsWalk, findWalk}
 use Rattle.pull.specs.Walk.{Block, atFile, fileWalk, atRoot, rootWalk}
 use Rattle.pull.specs.Pull.{lending, lentInShape, contentAnswer}
 use Rattle.bench_sheet.specs.Line.{Line, _is_, Holds, yes}
-
-abbrev zeros : List ℕ
-zeros = replicate 4096 0
 
 -- ---- node lookup
 
@@ -71,11 +68,11 @@ journalEntry number ino address = bytesOf (number ∷ []) ++ natEntry ino addres
 -- is in use, of table block 1 the second
 abbrev natBlock : ℕ → List ℕ
 natBlock b =
-    choose (eqb b 512) (set zeros 256 0x40)
+    choose (eqb b 512) (replicate 256 0 ++ (0x40 ∷ []))
     (choose (eqb b 517)
     ((3 ∷ 0 ∷ []) ++ journalEntry 7 71 5001 ++ journalEntry 7 72 5002 ++ journalEntry 8 81 5003 ++ journalEntry 9 91 5004)
     (choose (eqb b 2560) (replicate 63 0 ++ natEntry 73 6001 ++ natEntry 83 6002 ++ natEntry 93 6003 ++ replicate 3996 0 ++ natEntry 94 6004)
-    (choose (eqb b 3073) (natEntry 95 6005) zeros)))
+    (choose (eqb b 3073) (natEntry 95 6005) [])))
 
 abbrev answered : TableAnswer → List ℕ
 answered OutOfRange = 9 ∷ []
@@ -113,23 +110,26 @@ lists {A = A} answer table block w =
     let r : Ran (Outcome A) = run (record { table = table; block = block }) empty w in
     ended answer (r .value) ∷ (r .seen .nodes ++ r .seen .blocks)
 
--- a node's block: what it holds, and the number, inode and flag that it ends with
+-- a node's block: what it starts with, and the number, inode and flag that it ends with
 abbrev footed : List ℕ → ℕ → ℕ → ℕ → List ℕ
-footed block number ino flag = put32At (put32At (put32At block 4072 number) 4076 ino) 4080 flag
+footed front number ino flag = front ++ replicate (4072 - length front) 0 ++ bytesOf (number ∷ ino ∷ flag ∷ [])
 
 -- node 5 of file 4, at place 1, where the table and the node's block say so
 abbrev node : TableAnswer → ℕ → ℕ → ℕ → List ℕ
-node entry number ino flag = lists (λ block. 0) (λ n. entry) (λ b. footed zeros number ino flag) (nodeWalk main 5 4 1)
+node entry number ino flag = lists (λ block. 0) (λ n. entry) (λ b. footed [] number ino flag) (nodeWalk main 5 4 1)
 
 -- a data address
 abbrev dataAt : ℕ → List ℕ
-dataAt address = lists contentAnswer (λ n. OutOfRange) (λ b. zeros) (dataWalk main address)
+dataAt address = lists contentAnswer (λ n. OutOfRange) (λ b. []) (dataWalk main address)
+
+abbrev numberAt : ℕ → ℕ → List ℕ
+numberAt offset number = replicate offset 0 ++ bytesOf (number ∷ [])
 
 -- file 4, whose inode is zeros but for a number at an offset; node 5 is its first direct node and holds nothing
 abbrev block : ℕ → ℕ → ℕ → List ℕ
 block offset number index =
-    lists contentAnswer (λ n. choose (eqb n 5) (Entry 4 4100) OutOfRange) (λ b. footed zeros 5 4 8)
-    (blockWalk main 4 (put32At zeros offset number) 923 index)
+    lists contentAnswer (λ n. choose (eqb n 5) (Entry 4 4100) OutOfRange) (λ b. footed [] 5 4 8)
+    (blockWalk main 4 (numberAt offset number) 923 index)
 
 abbrev nodeRules : List Line
 nodeRules =
@@ -188,16 +188,22 @@ count size index = countIn (inode 0x8000 0 size 0 0) index
 abbrev fields : Inode → List ℕ
 fields i = i .mode ∷ i .inline ∷ i .size ∷ i .depth ∷ i .level ∷ []
 
--- an inode's block, with the low half of its size
+-- the start of an inode's block; the size is below 2^32
 abbrev inodeBlock : ℕ → ℕ → ℕ → ℕ → ℕ → List ℕ
 inodeBlock mode inline size depth level =
-    put32At (put32At (set (set (set (set zeros 0 (mode % 256)) 1 (mode / 256)) 3 inline) 347 level) 16 size) 72 depth
+    (mode % 256 ∷ mode / 256 ∷ 0 ∷ inline ∷ [])
+    ++ replicate 12 0
+    ++ bytesOf (size ∷ 0 ∷ [])
+    ++ replicate 48 0
+    ++ bytesOf (depth ∷ [])
+    ++ replicate 271 0
+    ++ (level ∷ [])
 
 abbrev inodeRules : List Line
 inodeRules =
     -- "mode 0 (16 bits ..), inline byte 3, size 16 (64 bits), depth 72, directory level 347 (one byte)"
     (fields (inodeOf (inodeBlock 0x81A4 17 4097 258 9)) is (0x81A4 ∷ 17 ∷ 4097 ∷ 258 ∷ 9 ∷ []))
-    ∷ (fields (inodeOf (put32At zeros 20 1)) is (0 ∷ 0 ∷ 4294967296 ∷ 0 ∷ 0 ∷ []))
+    ∷ (fields (inodeOf (numberAt 20 1)) is (0 ∷ 0 ∷ 4294967296 ∷ 0 ∷ 0 ∷ []))
     -- "top four bits 4 directory, 8 regular"
     ∷ (List.map (λ mode. regular mode 0) (0x7FFF ∷ 0x8000 ∷ 0x8FFF ∷ 0x9000 ∷ 0x4000 ∷ []) is (0 ∷ 1 ∷ 1 ∷ 0 ∷ 0 ∷ []))
     ∷ (List.map (λ mode. directory mode 0 1 0) (0x3FFF ∷ 0x4000 ∷ 0x4FFF ∷ 0x5000 ∷ 0x8000 ∷ []) is (0 ∷ 1 ∷ 1 ∷ 0 ∷ 0 ∷ []))
@@ -252,11 +258,11 @@ other len = dentry 78 50 len 97
 
 -- the inode number that a search came to without another block, or the answer
 abbrev sought : Walk (Outcome ℕ) → ℕ
-sought w = ended (λ ino. ino) (run (record { table = λ n. OutOfRange; block = λ b. zeros }) empty w .value)
+sought w = ended (λ ino. ino) (run (record { table = λ n. OutOfRange; block = λ b. [] }) empty w .value)
 
--- the inode number or the answer that four turns of the search come to; 2 if they come to nothing
+-- the inode number or the answer that three turns of the search come to; 2 if they come to nothing
 abbrev searched : ℕ → List Dentry → ℕ
-searched map ds = sought (afterSlots (done (stop 2)) (slotsFrom (slots map ds) (wanted 77 (97 ∷ [])) 4 0))
+searched map ds = sought (afterSlots (done (stop 2)) (slotsFrom (slots map ds) (wanted 77 (97 ∷ [])) 3 0))
 
 abbrev directoryRules : List Line
 directoryRules =
@@ -320,12 +326,12 @@ unfolding le16 le32 topBit bytesOf entriesFrom inJournal inRange tableAddress en
 lookup-rules = refl
 
 pub node-rules : Holds nodeRules
-unfolding le16 le32 put32At placeOf insert run bind onward andThen inMain belongs atBlock atEntry nodeWalk isHole dataWalk followWalk wayWalk
+unfolding le16 le32 bytesOf placeOf insert run bind onward andThen inMain belongs atBlock atEntry nodeWalk isHole dataWalk followWalk wayWalk
     blockWalk
 node-rules = refl
 
 pub inode-rules : Holds inodeRules
-unfolding le16 le32 le64 put32At inodeOf notInline isDirectory isRegular addressesIn isPast countIn
+unfolding le16 le32 le64 bytesOf inodeOf notInline isDirectory isRegular addressesIn isPast countIn
 inode-rules = refl
 
 pub directory-rules : Holds directoryRules
@@ -333,7 +339,7 @@ unfolding le16 le32 bytesOf lowBit sameAt run bucketsOf blocksOf firstOf bucketO
 directory-rules = refl
 
 pub pull-rules : Holds pullRules
-unfolding le16 le32 le64 put32At placeOf insert run bind onward andThen inMain belongs atBlock atEntry nodeWalk isHole dataWalk followWalk
+unfolding le16 le32 le64 bytesOf placeOf insert run bind onward andThen inMain belongs atBlock atEntry nodeWalk isHole dataWalk followWalk
     wayWalk blockWalk inodeOf notInline isDirectory isRegular addressesIn isPast countIn atFile fileWalk levelsWalk findWalk atRoot
     rootWalk lentInShape
 pull-rules = refl
