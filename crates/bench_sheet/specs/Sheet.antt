@@ -1,20 +1,16 @@
 -- The bench sheet is document 01's term for its list of worked numbers. The lines that it marks to be proved are one table here:
 -- what the definitions compute on the left, what the document says on the right.
-use mathlib.Core.Path.{_≡_, refl}
-use mathlib.Core.List.{List, [], _∷_, _++_}
+use mathlib.Core.Path.{refl}
+use mathlib.Core.List.{List, [], _∷_}
 use mathlib.Core.List as List
 use Prim.Native.Nat.{ℕ, _+_, _/_, _%_, _^_}
 use lib.ListN.{set, replicate}
 use Rattle.field.specs.Number.{le16, le32, le64}
 use Rattle.field.specs.Map.{topBit, lowBit}
 use Rattle.field.specs.Bytes.{sameAt}
-use Rattle.field.specs.Card.{Card}
 use Rattle.place.specs.Place.{placeOf}
 use Rattle.place.specs.Way.{step, wayOf}
 use Rattle.place.specs.declared.Step.{Step}
-use Rattle.superblock.specs.declared.Areas.{Areas}
-use Rattle.superblock.specs.declared.Found.{Found}
-use Rattle.superblock.specs.declared.Found.the-variants.{At, Refused}
 use Rattle.superblock.specs.Superblock.{superblockOf, logsPass, unitsPass, countsPass, areasPass, endsPass, fieldsPass, passes}
 use Rattle.superblock.specs.Areas.{found}
 use Rattle.nat.specs.Table.{tableBlock, copyAddress}
@@ -24,15 +20,8 @@ use Rattle.node.specs.Block.{held}
 use Rattle.directory.specs.Level.{bucketsOf, blocksOf, firstOf}
 use Rattle.directory.specs.Slot.{wanted, entryAt, wellFormed, matches, slotAt, slotsFrom}
 use Rattle.directory.specs.Find.{afterBlock}
-
--- a line: the numbers computed, and the numbers stated
-record Line : Type 0 where
-  computed : List ℕ
-  stated : List ℕ
-
-infixl 20 _is_
-abbrev _is_ : List ℕ → List ℕ → Line
-xs is ys = record { computed = xs; stated = ys }
+use Rattle.bench_sheet.specs.Line.{Line, _is_, Holds}
+use Rattle.bench_sheet.specs.Volume004.{superblock, cardOf, mainArea}
 
 -- the way to a block as numbers: place and slot of each node
 abbrev numbers : List Step → List ℕ
@@ -42,30 +31,13 @@ numbers (s ∷ way) = s .number ∷ s .slot ∷ numbers way
 abbrev way : ℕ → ℕ → List ℕ
 way A index = numbers (wayOf (placeOf A index))
 
--- source 004's 100 MB volume, with a feature word: the card's block 0, with the superblock as 004 dumps it, 1,024 bytes into it
-abbrev superblock004 : ℕ → List ℕ
-superblock004 feature =
-    -- the mark; logs of sector, sectors a block, block and segment; segments a section, sections a zone; block count
-    bytesOf (0xF2F52010 ∷ 0 ∷ 9 ∷ 3 ∷ 12 ∷ 9 ∷ 1 ∷ 1 ∷ 0 ∷ 25600 ∷ 0 ∷ [])
-    -- sections; segments: all, checkpoint, SIT, NAT, SSA, main
-    ++ bytesOf (42 ∷ 49 ∷ 2 ∷ 2 ∷ 2 ∷ 1 ∷ 42 ∷ [])
-    -- addresses: segment 0, checkpoint, SIT, NAT, SSA, main; inodes: root, node, meta
-    ++ bytesOf (512 ∷ 512 ∷ 1536 ∷ 2560 ∷ 3584 ∷ 4096 ∷ 3 ∷ 1 ∷ 2 ∷ [])
-    ++ replicate 2072 0
-    ++ bytesOf (feature ∷ [])
-    ++ replicate 888 0
-
-abbrev card004 : ℕ → Card
-card004 feature = record { blocks = 25600; block = λ b. replicate 1024 0 ++ superblock004 feature }
-
 -- a part of what 004's format options set, by the Linux header: the bits of -O extra_attr and -O compression. Its -g android sets
 -- more; any of them is answer 6
 abbrev features004 : ℕ
 features004 = 0x8 + 0x2000
 
-abbrev mainArea : Found → List ℕ
-mainArea (At a) = a .main ∷ a .«main_segments» ∷ a .«main_end» ∷ []
-mainArea (Refused answer) = answer ∷ []
+abbrev main004 : ℕ → List ℕ
+main004 feature = mainArea (found (cardOf (λ b. superblock 0 feature)))
 
 -- a directory block whose one entry, at a slot, has a name of so many bytes: its bit, and the length in its entry
 abbrev oneEntry : ℕ → ℕ → List ℕ
@@ -84,8 +56,8 @@ searched block = answerIn (afterBlock (wanted 1 []) (done (stop 2)) (held block)
 abbrev sheet : List Line
 sheet =
     -- "004's 100 MB volume: main 4096, 42 segments, end 25600. Its format options set features: answer 6."
-    (mainArea (found (card004 0)) is (4096 ∷ 42 ∷ 25600 ∷ []))
-    ∷ (mainArea (found (card004 features004)) is (6 ∷ []))
+    (main004 0 is (4096 ∷ 42 ∷ 25600 ∷ []))
+    ∷ (main004 features004 is (6 ∷ []))
     -- "Number 454 is in table block 0, 455 in 1."
     ∷ ((tableBlock 454 ∷ tableBlock 455 ∷ []) is (0 ∷ 1 ∷ []))
     -- "NAT at 2560: block 0 at 2560 or 3072; block 511 at 3071 or 3583; block 512 at 3584 or 4096."
@@ -114,7 +86,7 @@ sheet =
     ∷ (searched (oneEntry 213 9) is (14 ∷ []))
     ∷ []
 
-pub bench-sheet : List.map (λ l. l .computed) sheet ≡ List.map (λ l. l .stated) sheet
+pub bench-sheet : Holds sheet
 unfolding topBit lowBit placeOf le16 le32 le64 sameAt bytesOf superblockOf logsPass unitsPass countsPass areasPass endsPass fieldsPass passes
     found bucketsOf blocksOf firstOf wellFormed matches slotAt slotsFrom afterBlock
 bench-sheet = refl

@@ -1,2 +1,2 @@
-// No code: specs/Sheet.antt has the lines that document 01 marks in its bench sheet, computed from the definitions that the
-// contracts cite.
+// No code: tables of document 01's numbers, computed from the definitions that the contracts cite. specs/Sheet.antt has the lines that
+// the document marks in its bench sheet, specs/OpeningRules.antt and specs/WalkRules.antt its rules on both sides of each boundary.

@@ -290,8 +290,8 @@ fn open_areas(image: &[u8], areas: superblock::Areas) -> Opening
     requires { ⌜ AreasIn (cardOf (now image) .blocks) areas ⌝ }
     ensures { λ r. ⌜ r ≡ openChosen (cardOf (now (image .entry))) areas (chosen (cardOf (now (image .entry))) (areas .checkpoint)) ⌝ }
 {
-    let chosen = choose_pack(image, areas.checkpoint);
-    match chosen {
+    let pack = choose_pack(image, areas.checkpoint);
+    match pack {
         Chosen::Pack(start) => open_pack(image, areas, start),
         Chosen::Nothing => Opening::Refused(answer::NO_CHECKPOINT),
     }

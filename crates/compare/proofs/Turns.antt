@@ -16,7 +16,7 @@ use Rattle.list.proofs.Entries.{numbers-cons, numbers-nil}
 use Rattle.compare.specs.Lists.{risingAfter, isRising}
 use Rattle.compare.specs.Difference.{sameBytes}
 use Rattle.list.specs.Search.{searched}
-use Rattle.list.proofs.Searching.{over, passed, failed}
+use Rattle.list.proofs.Searching.{none-left, passed, failed}
 
 all : (l : List ℕ) (n : ℕ) → numbers l 0 (n - 0) ≡ numbers l 0 n
 all l n = let e : n - 0 ≡ n = omega arith in ap (numbers l 0) e
@@ -38,7 +38,7 @@ module _ {A : Type 0} (test : ℕ → Bool) (found : ℕ → A) (other : A) (l :
   search-starts n = rw (all l n)
 
   pub search-over : (i n : ℕ) → n ≤ i → Left i n ≡ other
-  search-over i n h = rw (numbers-nil l i n h) (over test found other)
+  search-over i n h = rw (numbers-nil l i n h) (none-left test found other)
 
   -- x is entry i, and r whether it passes
   module _ (i n : ℕ) (h : i < n) {x : ℕ} (e : x ≡ le32 l (4 * i)) {r : Bool} (t : r ≡ test x) where

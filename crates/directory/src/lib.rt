@@ -57,16 +57,16 @@ fn slot_at(block: &[u8], slot: usize, hash: u32, name: &[u8]) -> Slot
         return Slot::Free;
     }
     let entry = 30 + 11 * slot;
-    let length = field::get16(block, entry + 8) as usize;
-    let slots = (length + 7) / 8;
-    let fits = (1 <= length) & (length <= 255) & (slot + slots <= 214);
+    let len = field::get16(block, entry + 8) as usize;
+    let slots = (len + 7) / 8;
+    let fits = (1 <= len) & (len <= 255) & (slot + slots <= 214);
     if !fits {
         return Slot::Malformed;
     }
     if field::get32(block, entry) != hash {
         return Slot::Other(slots);
     }
-    if length != name.len() {
+    if len != name.len() {
         return Slot::Other(slots);
     }
     let at = 2384 + 8 * slot;

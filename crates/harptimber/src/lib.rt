@@ -4,7 +4,7 @@ ghost use mathlib.Core.Path.{_≡_};
 ghost use mathlib.Core.List.{[]};
 ghost use Rattle.place.specs.Way.{inArray};
 ghost use Rattle.name_hash.specs.Answer.{hashed};
-ghost use Rattle.nat.specs.Lookup.{answered, lookupOf};
+ghost use Rattle.nat.specs.Lookup.{tableNumbers, lookupOf};
 ghost use Rattle.pull.specs.Pull.{lending, result, pulled};
 ghost use Rattle.list.specs.Lists.{listing};
 ghost use Rattle.compare.specs.Compare.{compared};
@@ -87,7 +87,7 @@ pub extern "C" fn harptimber_file_place(addresses: u32, index: u32) -> FilePlace
 }
 
 fn table_numbers(said: nat::TableAnswer) -> nat::Lookup
-    ensures { λ r. ⌜ r ≡ answered said ⌝ }
+    ensures { λ r. ⌜ r ≡ tableNumbers said ⌝ }
 {
     match said {
         nat::TableAnswer::OutOfRange => nat::Lookup {
@@ -141,7 +141,10 @@ pub extern "C" fn harptimber_compare(
     blocks: &[u8],
     block_count: u32,
 ) -> compare::Compared
-    ensures { λ r. ⌜ r ≡ compared (now (kept .entry)) (now (fresh .entry)) (listing (now (nodes .entry)) «node_count») (listing (now (blocks .entry)) «block_count») ⌝ }
+    ensures { λ r.
+        ⌜ r
+        ≡ compared (now (kept .entry)) (now (fresh .entry)) (listing (now (nodes .entry)) «node_count»)
+        (listing (now (blocks .entry)) «block_count») ⌝ }
 {
     compare::compare(kept, fresh, nodes, node_count, blocks, block_count)
 }

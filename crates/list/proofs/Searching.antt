@@ -26,9 +26,9 @@ pub record Decides (test : ℕ → Bool) (P : ℕ → Type 0) : Type 0 where
 
 module _ {A : Type 0} (test : ℕ → Bool) (found : ℕ → A) where
   module _ (other : A) where
-    pub over : searched test found other [] ≡ other
+    pub none-left : searched test found other [] ≡ other
     unfolding searched
-    over = refl
+    none-left = refl
 
     pub passed : {x : ℕ} (l : List ℕ) → test x ≡ true → searched test found other (x ∷ l) ≡ searched test found other l
     unfolding searched
@@ -64,7 +64,7 @@ module _ {A : Type 0} (test : ℕ → Bool) (found : ℕ → A) where
     }
 
     pub searched-ends : (l : List ℕ) → Searched P l
-    searched-ends [] = inl (tt, λ o. over o)
+    searched-ends [] = inl (tt, λ o. none-left o)
     searched-ends (x ∷ xs) =
         ⊎-elim (λ h.
         ⊎-elim (λ w. inl ((d .holds x h, w .0), λ o. passed o xs h ∙ w .1 o))
@@ -74,5 +74,5 @@ module _ {A : Type 0} (test : ℕ → Bool) (found : ℕ → A) where
         (either (test x))
 
     pub all-searched : (other : A) (l : List ℕ) → AllOf P l → searched test found other l ≡ other
-    all-searched o [] h = over o
+    all-searched o [] h = none-left o
     all-searched o (x ∷ xs) h = passed o xs (d .passes x (h .0)) ∙ all-searched o xs (h .1)

@@ -11,13 +11,13 @@ use Rattle.nat.specs.declared.Lookup.{Lookup}
 use Rattle.nat.specs.Table.{tableAnswer}
 
 -- "9 if out of range, else 0 with the table's inode and address as stored"; "a result number that the answer doesn't name .. is 0"
-abbrev pub answered : TableAnswer → Lookup
-answered OutOfRange = record { answer = 9; inode = 0; address = 0 }
-answered (Entry i a) = record { answer = 0; inode = i; address = a }
+abbrev pub tableNumbers : TableAnswer → Lookup
+tableNumbers OutOfRange = record { answer = 9; inode = 0; address = 0 }
+tableNumbers (Entry i a) = record { answer = 0; inode = i; address = a }
 
 -- "4 to 8 as a pull"
 abbrev pub lookupIn : Card → ℕ → Opening → Lookup
-lookupIn card number (Opened v) = answered (tableAnswer card v number)
+lookupIn card number (Opened v) = tableNumbers (tableAnswer card v number)
 lookupIn card number (Refused n) = record { answer = n; inode = 0; address = 0 }
 
 -- what Node lookup answers of an image and a number

@@ -47,7 +47,7 @@ ending-inside answer h = go (eqb answer 2) refl (eqb answer 3) refl (leb 9 answe
     go false e false f false g d k t = absurd (clash t refl)
 
 -- a hole or a block: the answer is 0 or 1
-content-few : (f : Fetched) → contentAnswer f ≤ 1
+pub content-few : (f : Fetched) → contentAnswer f ≤ 1
 content-few hole = omega arith
 content-few (held block) = omega arith
 

@@ -202,11 +202,11 @@ fn walk_to(
         (lists (now (nodes .exit)) (now (blocks .exit)) (r .counts)) ⌝ }
     ensures { λ r. ⌜ DataIn (cardOf (now (image .entry))) (r .data) × (r .bytes ≤ 4096) ⌝ }
 {
-    let none = walk::Counts {
+    let empty = walk::Counts {
         nodes: 0,
         blocks: 0,
     };
-    let step = find_in_root(image, v, nodes, blocks, none, name);
+    let step = find_in_root(image, v, nodes, blocks, empty, name);
     let entry = step.entry;
     let listed = step.counts;
     match entry {

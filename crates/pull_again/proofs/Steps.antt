@@ -22,7 +22,7 @@ use Rattle.node.specs.Node.{Bounds, boundsOf, inMain}
 use Rattle.pull.specs.Walk.{Block, pullWalk}
 use Rattle.pull.specs.Pull.{Lent, Result, callInShape, contentAnswer, answerOf, bufferAfter, written, pullRun, pulled, nodesLeft, blocksLeft}
 use Rattle.pull.proofs.Sizes.{Counted}
-use Rattle.pull.proofs.Theorems.{PullEnds, refusal, walked, ends, ending-inside, run-rises, run-inside, run-ended, run-some}
+use Rattle.pull.proofs.Theorems.{PullEnds, refusal, walked, ends, ending-inside, content-few, run-rises, run-inside, run-ended, run-some}
 use Rattle.compare.specs.Lists.{listsInShape}
 use Rattle.compare.specs.declared.Compared.{Compared}
 use Rattle.compare.specs.Compare.{compared}
@@ -108,9 +108,7 @@ same-written r lent lent' ended = record {
 
 -- ---- "same" is said only of a pull that got past opening, and of a new image that opens
 pub record Opens (kept fresh : List ℕ) (nodes blocks : Listed) : Type 0 where
-  pub v : Volume
   pub u : Volume
-  pub keptOpens : openedImage kept ≡ Opened v
   pub freshOpens : openedImage fresh ≡ Opened u
   pub some : 1 ≤ nodes .count
 
@@ -120,7 +118,7 @@ same-opens kept fresh nodes blocks e = go (compare.ends kept fresh nodes blocks)
     go : {r : Compared} → CompareEnds kept fresh nodes blocks r → r .answer ≡ 15 → Opens kept fresh nodes blocks
     go (outOfShape f) a = let n = ap (λ (c : Compared). c .answer) f in absurd (omega arith)
     go (compare.refusal answer side few s f) a = let n = ap (λ (c : Compared). c .answer) f in absurd (omega arith)
-    go (told v u p q l d f) a = record { v = v; u = u; keptOpens = p; freshOpens = q; some = in-shape-lists _ _ _ l .some }
+    go (told v u p q l d f) a = record { u = u; freshOpens = q; some = in-shape-lists _ _ _ l .some }
 
 -- a pull with a node listed got past opening
 pub some-past : (image name : List ℕ) (index : ℕ) (lent : Lent) → 1 ≤ nodesLeft (pulled image name index lent) .count
@@ -128,11 +126,7 @@ pub some-past : (image name : List ℕ) (index : ℕ) (lent : Lent) → 1 ≤ no
 some-past image name index lent some = go (ends image name index lent) some
   where
     outcome : (o : Outcome Block) → Ended Counted o → (answerOf o < 4) ⊎ (8 < answerOf o)
-    outcome (ok b) q = content (b .content)
-      where
-        content : (f : Fetched) → (contentAnswer f < 4) ⊎ (8 < contentAnswer f)
-        content hole = inl (omega arith)
-        content (held block) = inl (omega arith)
+    outcome (ok b) q = let few = content-few (b .content) in inl (omega arith)
     outcome (stop answer) q = ending-inside answer q .2
 
     go : {r : Result} → PullEnds image name index lent r → 1 ≤ nodesLeft r .count → PastOpening r

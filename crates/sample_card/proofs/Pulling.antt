@@ -23,9 +23,9 @@ use Rattle.sample_card.specs.Image.{filled, name, missing, pack, journal
 use Rattle.sample_card.specs.Volume.{volume}
 
 -- the root's from the journal, the file's from the table
-pub entries : (tableAnswer card volume 3 ≡ Entry 3 3074) × (tableAnswer card volume 4 ≡ Entry 4 3076)
+pub table-entries : (tableAnswer card volume 3 ≡ Entry 3 3074) × (tableAnswer card volume 4 ≡ Entry 4 3076)
 unfolding blocks pack journal natBlock filled bytesOf le16 le32 topBit entriesFrom inJournal inRange tableAddress entryIn inTable tableAnswer
-entries = (refl, refl)
+table-entries = (refl, refl)
 
 -- block 1 of the file; its block 0, a hole; block 2, past its end; a name that isn't there
 pub walks :

@@ -9,7 +9,7 @@ use Rattle.field.specs.Card.{Card}
 use Rattle.checkpoint.specs.declared.Opening.the-variants.{Opened}
 use Rattle.checkpoint.specs.Volume.{opened, openedImage}
 use Rattle.name_hash.specs.Name.{nameBytes, isName}
-use Rattle.nat.specs.Lookup.{answered, lookupOf}
+use Rattle.nat.specs.Lookup.{tableNumbers, lookupOf}
 use Rattle.list.specs.Lists.{over}
 use Rattle.walk.specs.Walk.{Ran, Outcome}
 use Rattle.pull.specs.Walk.{Block}
@@ -19,7 +19,7 @@ use Rattle.sample_card.specs.Image.{filled, name, missing, content, data
 use Rattle.sample_card.specs.Volume.{volume}
 use Rattle.sample_card.proofs.Joined.{image-shape, image-card}
 use Rattle.sample_card.proofs.Opening.{card-opens}
-use Rattle.sample_card.proofs.Pulling.{entries, walks}
+use Rattle.sample_card.proofs.Pulling.{table-entries, walks}
 
 pub some-card-opens : openedImage image ≡ Opened volume
 unfolding openedImage
@@ -29,7 +29,7 @@ some-card-opens = rw image-shape (ap opened image-card ∙ card-opens)
 pub a-lookup-answers-0 : (lookupOf image 3 ≡ record { answer = 0; inode = 3; address = 3074 })
     × (lookupOf image 4 ≡ record { answer = 0; inode = 4; address = 3076 })
 unfolding lookupOf
-a-lookup-answers-0 = rw (some-card-opens, image-card) (ap answered (entries .0), ap answered (entries .1))
+a-lookup-answers-0 = rw (some-card-opens, image-card) (ap tableNumbers (table-entries .0), ap tableNumbers (table-entries .1))
 
 -- ---- Pull
 
@@ -45,27 +45,27 @@ unfolding lentInShape
 some-memory-fits = refl
 
 module _ (lent : Lent) (fits : lentInShape lent ≡ true) where
-  walked : (n : List ℕ) (index : ℕ) (r : Ran (Outcome Block)) → isName n ≡ true → pullRun card volume n index ≡ r → pulled image n index lent ≡ written r lent
-  walked n index r p e =
+  walk-leaves : (n : List ℕ) (index : ℕ) (r : Ran (Outcome Block)) → isName n ≡ true → pullRun card volume n index ≡ r → pulled image n index lent ≡ written r lent
+  walk-leaves n index r p e =
       call-opens image n index lent (Opened volume) (call-in-shape image n index lent image-shape p fits) some-card-opens
       ∙ ap (λ (c : Card). written (pullRun c volume n index) lent) image-card ∙ ap (λ (q : Ran (Outcome Block)). written q lent) e
 
   -- 0, "data": the seven bytes of the file's block 1, and zeros; nodes 3 and 4 were looked up, and four blocks of the main area read
   pub a-pull-answers-0 : pulled image name 1 lent ≡ leaves 0 7 (content ++ replicate 4089 0) (3 ∷ 4 ∷ []) (3074 ∷ 3075 ∷ 3076 ∷ 3077 ∷ []) lent
   unfolding nameBytes dataBlock filled
-  a-pull-answers-0 = walked name 1 _ refl (walks .0)
+  a-pull-answers-0 = walk-leaves name 1 _ refl (walks .0)
 
   -- 1, "hole"
   pub a-hole-answers-1 : pulled image name 0 lent ≡ leaves 1 4096 (replicate 4096 0) (3 ∷ 4 ∷ []) (3074 ∷ 3075 ∷ 3076 ∷ []) lent
   unfolding nameBytes
-  a-hole-answers-1 = walked name 0 _ refl (walks .1)
+  a-hole-answers-1 = walk-leaves name 0 _ refl (walks .1)
 
   -- 2, "no such name"
   pub no-such-name-answers-2 : pulled image missing 0 lent ≡ leaves 2 0 (lent .block) (3 ∷ []) (3074 ∷ 3075 ∷ []) lent
   unfolding nameBytes
-  no-such-name-answers-2 = walked missing 0 _ refl (walks .3)
+  no-such-name-answers-2 = walk-leaves missing 0 _ refl (walks .3)
 
   -- 3, "past the end"
   pub past-the-end-answers-3 : pulled image name 2 lent ≡ leaves 3 0 (lent .block) (3 ∷ 4 ∷ []) (3074 ∷ 3075 ∷ 3076 ∷ []) lent
   unfolding nameBytes
-  past-the-end-answers-3 = walked name 2 _ refl (walks .2)
+  past-the-end-answers-3 = walk-leaves name 2 _ refl (walks .2)

@@ -1,3 +1,4 @@
+-- The invariant: the bytes passed are zeros, the rest is as it was.
 use mathlib.Core.Path.{_≡_, refl, ap, _∙_}
 use mathlib.Core.List.{List, _++_, append-nil}
 use Prim.Native.Nat.{ℕ, _-_, _≤_}
@@ -8,7 +9,6 @@ use denote.Ref.{now}
 use Rattle.buffer.proofs.clear.Statement.{statement}
 use Rattle.buffer.proofs.clear.Tie as tie
 
--- the bytes passed are zeros, the rest is as it was
 abbrev Inv-loop : tie.InvT-loop
 Inv-loop bytes₀ i₀ bytes i =
     (i ≤ length bytes₀) × (bytes ≡ replicate i 0 ++ drop i bytes₀) × (length bytes ≡ length bytes₀)

@@ -48,8 +48,8 @@ add-get16 c = search needs
 get16-requires : tie.Need-get16-requires
 get16-requires c κs = search needs
 
-cast-length : tie.Need-cast-length
-cast-length c = search needs
+cast-len : tie.Need-cast-len
+cast-len c = search needs
 
 add-slots : tie.Need-add-slots
 add-slots c = search needs
@@ -113,7 +113,7 @@ slot-at-spec =
     add-entry
     add-get16
     get16-requires
-    cast-length
+    cast-len
     add-slots
     add-fits
     returns-2

@@ -1,3 +1,4 @@
+-- The invariant: what is left to compare decides.
 use mathlib.Core.Path.{_≡_, refl, _∙_, sym}
 use Prim.Native.Nat.{_+_, _-_, _≤_}
 use native.Mathlib.Nat.{add-zero}
@@ -9,7 +10,6 @@ use Rattle.field.proofs.Comparing.{same-next, same-stops}
 use Rattle.field.proofs.same_at.Statement.{statement}
 use Rattle.field.proofs.same_at.Tie as tie
 
--- what is left to compare decides
 abbrev Inv-loop : tie.InvT-loop
 Inv-loop bytes at string i₀ i =
     (i ≤ length string) × (sameAt bytes at string ≡ sameAt bytes (at + i) (drop i string))

@@ -2,7 +2,7 @@ use mathlib.Core.Path.{sym, ap, _∙_}
 use denote.Ref.{now}
 use Rattle.field.specs.Card.{cardOf}
 use Rattle.checkpoint.proofs.Inside.{image-volume}
-use Rattle.nat.specs.Lookup.{answered, lookupIn, lookupOf}
+use Rattle.nat.specs.Lookup.{tableNumbers, lookupIn, lookupOf}
 use borrow.Author.Needs.{needs}
 use Rattle.harptimber.proofs.harptimber_node_lookup.Statement.{statement}
 use Rattle.harptimber.proofs.harptimber_node_lookup.Tie as tie
@@ -28,7 +28,7 @@ unfolding lookupOf
 returns c =
     let s = c .before .before .before .before .before .before .before in
     let opens = sym (c .before .before .before .before .before .«open» .ensures) ∙ c .before .before .before .v .given .1 in
-    c .table-numbers .ensures ∙ ap answered (c .before .table-answer .ensures)
+    c .table-numbers .ensures ∙ ap tableNumbers (c .before .table-answer .ensures)
     ∙ sym (ap (lookupIn (cardOf (now (s .args .image))) (s .args .number)) opens)
 
 returns-2 : tie.Need-returns-2

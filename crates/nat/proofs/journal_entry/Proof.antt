@@ -1,3 +1,4 @@
+-- The invariant: the entries passed have other numbers, so those that are left say what the whole journal says.
 use borrow.Author.Needs.{needs}
 use native.Mathlib.Omega.{arith}
 use mathlib.Core.Path.{_≡_, _∙_, sym}
@@ -7,7 +8,6 @@ use Rattle.nat.proofs.Journal.{entries-over, entry-found, entry-passed}
 use Rattle.nat.proofs.journal_entry.Statement.{statement}
 use Rattle.nat.proofs.journal_entry.Tie as tie
 
--- the entries passed have other numbers, so those that are left say what the whole journal says
 abbrev Inv-loop : tie.InvT-loop
 Inv-loop journal number count left₀ left =
     (left ≤ count) × (entriesFrom journal number left (count - left) ≡ inJournal journal number)

@@ -1,0 +1,221 @@
+-- Document 01's rules for opening a card, by number: what the definitions compute on both sides of each boundary, and what the
+-- document's sentence says. 1 is yes, 0 no.
+use mathlib.Core.Path.{refl}
+use mathlib.Core.List.{List, [], _∷_, _++_}
+use mathlib.Core.List as List
+use Prim.Native.Nat.{ℕ, _+_, _-_, _*_, _/_}
+use lib.ListN.{set, replicate}
+use lib.Dec.{eqb}
+use Rattle.field.specs.Number.{le16, le32, le64}
+use Rattle.field.specs.Bytes.{sameAt}
+use Rattle.field.specs.Card.{Card}
+use Rattle.field.specs.Choice.{choose}
+use Rattle.list.specs.Lists.{bytesOf}
+use Rattle.superblock.specs.declared.Areas.{Areas}
+use Rattle.superblock.specs.declared.Found.{Found}
+use Rattle.superblock.specs.declared.Found.the-variants as f
+use Rattle.superblock.specs.Shape.{inShape}
+use Rattle.superblock.specs.Superblock.{superblockOf, logsPass, unitsPass, countsPass, areasPass, endsPass, fieldsPass, passes}
+use Rattle.superblock.specs.Areas.{found}
+use Rattle.checkpoint.specs.declared.Checkpoint.{Checkpoint}
+use Rattle.checkpoint.specs.declared.Chosen.the-variants.{Nothing}
+use Rattle.checkpoint.specs.declared.Volume.{Volume}
+use Rattle.checkpoint.specs.declared.Opening.{Opening}
+use Rattle.checkpoint.specs.declared.Opening.the-variants.{Opened, Refused}
+use Rattle.checkpoint.specs.Checkpoint.{checkpointOf}
+use Rattle.checkpoint.specs.Pack.{newer}
+use Rattle.checkpoint.specs.Journal.{journalIn, journalPlaced, journalAt}
+use Rattle.checkpoint.specs.Volume.{mapsReadable, journalReadable, openPack, openChosen, openAreas}
+use Rattle.bench_sheet.specs.Line.{Line, _is_, Holds, yes}
+use Rattle.bench_sheet.specs.Volume004.{words, superblock, cardOf, mainArea}
+
+-- ---- the superblock: 004's copy with other numbers
+
+abbrev passing : List ℕ → ℕ
+passing numbers = yes (passes 25600 (bytesOf numbers))
+
+-- another number at a byte offset of the copy
+abbrev with : ℕ → ℕ → ℕ
+with offset x = passing (set words (offset / 4) x)
+
+-- both sector logs
+abbrev sectors : ℕ → ℕ → ℕ
+sectors size count = passing (set (set words 2 size) 3 count)
+
+-- other SIT and NAT counts, with all that follows them moved
+abbrev counts : ℕ → ℕ → ℕ
+counts sit nat =
+    let natStart : ℕ = 1536 + 512 * sit in
+    let ssaStart : ℕ = natStart + 512 * nat in
+    passing (set (set (set (set (set (set words 14 sit) 15 nat) 17 (46 - (sit + nat))) 21 natStart) 22 ssaStart) 23 (ssaStart + 512))
+
+-- the areas all moved, to start at a block
+abbrev from : ℕ → ℕ
+from start =
+    passing
+    (set (set (set (set (set (set words 18 start) 19 start) 20 (start + 1024)) 21 (start + 2048)) 22 (start + 3072)) 23 (start + 3584))
+
+abbrev onCard : ℕ → ℕ
+onCard blocks = yes (passes blocks (bytesOf words))
+
+-- what is found with such copies in blocks 0 and 1
+abbrev copies : List ℕ → List ℕ → List ℕ
+copies first second = mainArea (found (cardOf (λ b. choose (eqb b 0) first second)))
+
+abbrev none : List ℕ
+none = replicate 3072 0
+
+abbrev superblockRules : List Line
+superblockRules =
+    -- "An image has whole blocks, 2 to 262,144 of them."
+    (List.map (λ bytes. yes (inShape bytes)) (0 ∷ 4096 ∷ 8191 ∷ 8192 ∷ 8193 ∷ 1073741824 ∷ 1073745920 ∷ []) is (0 ∷ 0 ∷ 0 ∷ 1 ∷ 0 ∷ 1 ∷ 0 ∷ []))
+    -- "The first four bytes must be 10 20 F5 F2."
+    ∷ (List.map (with 0) (0xF2F52010 ∷ 0xF3F52010 ∷ 0xF2F52011 ∷ []) is (1 ∷ 0 ∷ 0 ∷ []))
+    -- "block log 12, segment log 9; sector log 9 to 12 and the two sector logs sum to 12"
+    ∷ (List.map (with 16) (11 ∷ 12 ∷ 13 ∷ []) is (0 ∷ 1 ∷ 0 ∷ []))
+    ∷ (List.map (with 20) (8 ∷ 9 ∷ 10 ∷ []) is (0 ∷ 1 ∷ 0 ∷ []))
+    ∷ ((sectors 8 4 ∷ sectors 9 3 ∷ sectors 12 0 ∷ sectors 13 0 ∷ []) is (0 ∷ 1 ∷ 1 ∷ 0 ∷ []))
+    ∷ ((sectors 9 2 ∷ sectors 9 4 ∷ sectors 12 1 ∷ []) is (0 ∷ 0 ∷ 0 ∷ []))
+    -- "sections and zones at least 1; inodes 3, 1, 2"
+    ∷ (List.map (with 24) (0 ∷ 1 ∷ 2 ∷ []) is (0 ∷ 1 ∷ 1 ∷ []))
+    ∷ (List.map (with 28) (0 ∷ 1 ∷ 2 ∷ []) is (0 ∷ 1 ∷ 1 ∷ []))
+    ∷ ((with 96 2 ∷ with 96 4 ∷ with 100 0 ∷ with 100 2 ∷ with 104 1 ∷ with 104 3 ∷ []) is (0 ∷ 0 ∷ 0 ∷ 0 ∷ 0 ∷ 0 ∷ []))
+    -- "checkpoint segments 2; SIT and NAT counts even and at least 2"
+    ∷ (List.map (with 52) (1 ∷ 2 ∷ 3 ∷ []) is (0 ∷ 1 ∷ 0 ∷ []))
+    ∷ (List.map (λ sit. counts sit 2) (0 ∷ 1 ∷ 2 ∷ 3 ∷ 4 ∷ []) is (0 ∷ 0 ∷ 1 ∷ 0 ∷ 1 ∷ []))
+    ∷ (List.map (counts 2) (0 ∷ 1 ∷ 2 ∷ 3 ∷ 4 ∷ []) is (0 ∷ 0 ∷ 1 ∷ 0 ∷ 1 ∷ []))
+    -- "segment 0 = checkpoint address, at least 2"
+    ∷ (List.map (with 72) (511 ∷ 512 ∷ 513 ∷ []) is (0 ∷ 1 ∷ 0 ∷ []))
+    ∷ (List.map from (1 ∷ 2 ∷ 512 ∷ []) is (0 ∷ 1 ∷ 1 ∷ []))
+    -- "each area starts where the one before ends": SIT, NAT, SSA, main
+    ∷ (List.map (with 80) (1535 ∷ 1536 ∷ 1537 ∷ []) is (0 ∷ 1 ∷ 0 ∷ []))
+    ∷ (List.map (with 84) (2559 ∷ 2560 ∷ 2561 ∷ []) is (0 ∷ 1 ∷ 0 ∷ []))
+    ∷ (List.map (with 88) (3583 ∷ 3584 ∷ 3585 ∷ []) is (0 ∷ 1 ∷ 0 ∷ []))
+    ∷ (List.map (with 92) (4095 ∷ 4096 ∷ 4097 ∷ []) is (0 ∷ 1 ∷ 0 ∷ []))
+    -- "main end ≤ segment 0 + 512 × segment count ≤ block count ≤ image blocks."
+    ∷ (List.map (with 68) (41 ∷ 42 ∷ 43 ∷ []) is (1 ∷ 1 ∷ 0 ∷ []))
+    ∷ (List.map (with 48) (48 ∷ 49 ∷ 50 ∷ []) is (0 ∷ 1 ∷ 0 ∷ []))
+    ∷ (List.map (with 36) (25599 ∷ 25600 ∷ 25601 ∷ []) is (0 ∷ 1 ∷ 0 ∷ []))
+    ∷ (List.map onCard (25599 ∷ 25600 ∷ 25601 ∷ []) is (0 ∷ 1 ∷ 1 ∷ []))
+    -- "Sums are exact, never wrapped": 512 × 2^23 is 2^32
+    ∷ ((with 68 (42 + 8388608) ∷ with 48 (49 + 8388608) ∷ []) is (0 ∷ 0 ∷ []))
+    -- 6: "feature word not 0, or payload not 0"
+    ∷ (copies (superblock 0 0) none is (4096 ∷ 42 ∷ 25600 ∷ []))
+    ∷ (copies (superblock 1 0) none is (6 ∷ []))
+    ∷ (copies (superblock 0 1) none is (6 ∷ []))
+    -- "At byte 1,024 of block 0; only if that copy doesn't pass, of block 1." 5: "no superblock copy passes"
+    ∷ (copies none (superblock 0 0) is (4096 ∷ 42 ∷ 25600 ∷ []))
+    ∷ (copies (superblock 0 1) (superblock 0 0) is (6 ∷ []))
+    ∷ (copies none none is (5 ∷ []))
+    ∷ []
+
+-- ---- the checkpoint
+
+-- a pack's header: version, flags, total, start of summaries, map sizes
+abbrev header : ℕ → ℕ → ℕ → ℕ → ℕ → ℕ → Checkpoint
+header version flags total start sitMap natMap =
+    record {
+      «checkpoint_ver» = version;
+      «ckpt_flags» = flags;
+      «cp_pack_total_block_count» = total;
+      «cp_pack_start_sum» = start;
+      «sit_ver_bitmap_bytesize» = sitMap;
+      «nat_ver_bitmap_bytesize» = natMap;
+      «checksum_offset» = 4092;
+    }
+
+-- of two versions, the second pack's wins
+abbrev second : ℕ → ℕ → ℕ
+second v w = yes (newer (header v 0 16 5 64 64) (header w 0 16 5 64 64))
+
+-- the areas of a card with such SIT and NAT counts, as far as a pack is held to them
+abbrev areas : ℕ → ℕ → Areas
+areas sit nat =
+    record {
+      checkpoint = 512;
+      sit = 1536;
+      «sit_segments» = sit;
+      nat = 2560;
+      «nat_segments» = nat;
+      ssa = 3584;
+      «ssa_segments» = 1;
+      main = 4096;
+      «main_segments» = 42;
+      «main_end» = 25600;
+    }
+
+-- the journal block of a pack of 16 blocks, and its journal's first byte; its start of summaries is 5
+abbrev journal : ℕ → List ℕ
+journal flags = journalIn (header 5 flags 16 5 64 64) ∷ journalAt (header 5 flags 16 5 64 64) ∷ []
+
+abbrev placed : ℕ → ℕ → ℕ → ℕ
+placed flags total start = yes (journalPlaced (header 5 flags total start 64 64))
+
+-- a pack with flags and map sizes, on a card with two SIT and two NAT segments
+abbrev readable : ℕ → ℕ → ℕ → ℕ
+readable flags sitMap natMap = yes (mapsReadable (areas 2 2) (header 5 flags 16 5 sitMap natMap))
+
+-- maps of the size that the counts ask for
+abbrev fitting : ℕ → ℕ → ℕ
+fitting sit nat = yes (mapsReadable (areas sit nat) (header 5 0 16 5 (32 * sit) (32 * nat)))
+
+-- a card with a compact pack at block 512: its first block, and a journal of so many entries in its block 5
+abbrev packCard : ℕ → ℕ → Card
+packCard flags entries =
+    record {
+      blocks = 25600;
+      block =
+      λ b.
+      choose (eqb b 512) (replicate 132 0 ++ bytesOf (flags ∷ 16 ∷ 5 ∷ 0 ∷ 0 ∷ 0 ∷ 64 ∷ 64 ∷ 4092 ∷ []) ++ replicate 3928 0)
+      (choose (eqb b 517) (entries ∷ replicate 4095 0) (replicate 4096 0));
+    }
+
+-- where the chosen pack's NAT map and journal are, or the answer
+abbrev opening : Opening → List ℕ
+opening (Opened v) = v .«nat_map» ∷ v .«journal_block» ∷ v .«journal_at» ∷ []
+opening (Refused answer) = answer ∷ []
+
+abbrev checkpointRules : List Line
+checkpointRules =
+    -- "the greater version as an unsigned number is chosen; if equal, the first"
+    ((second 5 5 ∷ second 5 6 ∷ second 6 5 ∷ []) is (0 ∷ 1 ∷ 0 ∷ []))
+    ∷ ((second 0x7FFFFFFFFFFFFFFF 0x8000000000000000 ∷ second 0x8000000000000000 0x7FFFFFFFFFFFFFFF ∷ []) is (1 ∷ 0 ∷ []))
+    -- "Else it is block total − 7 with unmount or fastboot, total − 4 without ..; journal at its byte 3,584."
+    ∷ (journal 0 is (12 ∷ 3584 ∷ []))
+    ∷ (journal 1 is (9 ∷ 3584 ∷ []))
+    ∷ (journal 0x20 is (9 ∷ 3584 ∷ []))
+    ∷ (journal 0x21 is (9 ∷ 3584 ∷ []))
+    -- "Compact: the journal block is the start-of-summaries number ..; NAT journal at its byte 0."
+    ∷ (journal 4 is (5 ∷ 0 ∷ []))
+    ∷ (journal 5 is (5 ∷ 0 ∷ []))
+    -- ".. 1 to total − 2"
+    ∷ (List.map (placed 4 16) (0 ∷ 1 ∷ 14 ∷ 15 ∷ []) is (0 ∷ 1 ∷ 1 ∷ 0 ∷ []))
+    -- ".. and at least 1"
+    ∷ ((placed 0 4 1 ∷ placed 0 5 1 ∷ placed 1 7 1 ∷ placed 1 8 1 ∷ []) is (0 ∷ 1 ∷ 0 ∷ 1 ∷ []))
+    -- "Answer 8 if the large map is set"
+    ∷ (List.map (λ flags. readable flags 64 64) (0 ∷ 0x200 ∷ 0x400 ∷ 0x800 ∷ []) is (1 ∷ 1 ∷ 0 ∷ 1 ∷ []))
+    -- "the SIT map size (156) isn't 32 × SIT segments or the NAT map size (160) isn't 32 × NAT segments"
+    ∷ (List.map (λ size. readable 0 size 64) (32 ∷ 63 ∷ 64 ∷ 65 ∷ []) is (0 ∷ 0 ∷ 1 ∷ 0 ∷ []))
+    ∷ (List.map (readable 0 64) (32 ∷ 63 ∷ 64 ∷ 65 ∷ []) is (0 ∷ 0 ∷ 1 ∷ 0 ∷ []))
+    -- "192 + both sizes > 4,092": 4,064 is the greatest sum below, 4,096 the least above
+    ∷ ((fitting 61 60 ∷ fitting 60 61 ∷ fitting 62 60 ∷ fitting 60 62 ∷ []) is (1 ∷ 1 ∷ 0 ∷ 0 ∷ []))
+    -- "or the journal block is out of place"
+    ∷ (List.map (λ start. yes (mapsReadable (areas 2 2) (header 5 4 16 start 64 64))) (0 ∷ 1 ∷ 14 ∷ 15 ∷ []) is (0 ∷ 1 ∷ 1 ∷ 0 ∷ []))
+    -- "A journal is a 16-bit count, at most 38 (else 8)"; "The SIT map starts at 192, the NAT map after it."
+    ∷ (List.map (λ count. yes (journalReadable (count ∷ 0 ∷ []))) (0 ∷ 38 ∷ 39 ∷ []) is (1 ∷ 1 ∷ 0 ∷ []))
+    ∷ ((yes (journalReadable (0 ∷ 1 ∷ [])) ∷ []) is (0 ∷ []))
+    ∷ (opening (openPack (packCard 4 38) (areas 2 2) 512) is (256 ∷ 517 ∷ 0 ∷ []))
+    ∷ (opening (openPack (packCard 4 39) (areas 2 2) 512) is (8 ∷ []))
+    -- 8: "chosen pack not readable"; 7: "no checkpoint pack passes"; 5 and 6 come before them
+    ∷ (opening (openPack (packCard 0x404 38) (areas 2 2) 512) is (8 ∷ []))
+    ∷ (opening (openChosen (packCard 4 38) (areas 2 2) Nothing) is (7 ∷ []))
+    ∷ (opening (openAreas (packCard 4 38) (f.Refused 5)) ++ opening (openAreas (packCard 4 38) (f.Refused 6)) is (5 ∷ 6 ∷ []))
+    ∷ []
+
+pub superblock-rules : Holds superblockRules
+unfolding le16 le32 le64 sameAt bytesOf inShape superblockOf logsPass unitsPass countsPass areasPass endsPass fieldsPass passes found
+superblock-rules = refl
+
+pub checkpoint-rules : Holds checkpointRules
+unfolding le16 le32 le64 bytesOf checkpointOf newer journalIn journalPlaced journalAt mapsReadable journalReadable openPack
+checkpoint-rules = refl
