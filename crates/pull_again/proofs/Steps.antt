@@ -27,7 +27,7 @@ use Rattle.compare.specs.Lists.{listsInShape}
 use Rattle.compare.specs.declared.Compared.{Compared}
 use Rattle.compare.specs.Compare.{compared}
 use Rattle.compare.proofs.Shapes.{ListsFit, lists-in-shape, in-shape-lists}
-use Rattle.compare.proofs.Theorems.{CompareEnds, outOfShape, told}
+use Rattle.compare.proofs.Theorems.{CompareEnds, badLength, keptRefused, freshRefused, badLists, told}
 use Rattle.compare.proofs.Theorems as compare
 use Rattle.node.specs.Block.{Fetched, hole, held}
 use Rattle.pull_again.specs.Demand.{PastOpening, SameOn, SamePull}
@@ -116,9 +116,11 @@ pub same-opens : (kept fresh : List ℕ) (nodes blocks : Listed) → compared ke
 same-opens kept fresh nodes blocks e = go (compare.ends kept fresh nodes blocks) e
   where
     go : {r : Compared} → CompareEnds kept fresh nodes blocks r → r .answer ≡ 15 → Opens kept fresh nodes blocks
-    go (outOfShape f) a = let n = ap (λ (c : Compared). c .answer) f in absurd (omega arith)
-    go (compare.refusal answer side few s f) a = let n = ap (λ (c : Compared). c .answer) f in absurd (omega arith)
-    go (told v u p q l d f) a = record { u = u; freshOpens = q; some = in-shape-lists _ _ _ l .some }
+    go (badLength h f) a = let n = ap (λ (c : Compared). c .answer) f in absurd (omega arith)
+    go (keptRefused answer o f) a = let n = ap (λ (c : Compared). c .answer) f in let few = refusals kept answer o in absurd (omega arith)
+    go (freshRefused v k answer o f) a = let n = ap (λ (c : Compared). c .answer) f in let few = refusals fresh answer o in absurd (omega arith)
+    go (badLists v u p q h f) a = let n = ap (λ (c : Compared). c .answer) f in absurd (omega arith)
+    go (told v u p q h f) a = record { u = u; freshOpens = q; some = in-shape-lists _ _ _ h .some }
 
 -- a pull with a node listed got past opening
 pub some-past : (image name : List ℕ) (index : ℕ) (lent : Lent) → 1 ≤ nodesLeft (pulled image name index lent) .count
