@@ -165,9 +165,9 @@ packCard flags entries =
     record {
       blocks = 25600;
       block =
-      λ b.
-      choose (eqb b 512) (replicate 132 0 ++ bytesOf (flags ∷ 16 ∷ 5 ∷ 0 ∷ 0 ∷ 0 ∷ 64 ∷ 64 ∷ 4092 ∷ []) ++ replicate 3928 0)
-      (choose (eqb b 517) (entries ∷ replicate 4095 0) (replicate 4096 0));
+          λ b.
+          choose (eqb b 512) (replicate 132 0 ++ bytesOf (flags ∷ 16 ∷ 5 ∷ 0 ∷ 0 ∷ 0 ∷ 64 ∷ 64 ∷ 4092 ∷ []) ++ replicate 3928 0)
+          (choose (eqb b 517) (entries ∷ replicate 4095 0) (replicate 4096 0));
     }
 
 -- where the chosen pack's NAT map and journal are, or the answer

@@ -6,7 +6,7 @@ use mathlib.Core.List as List
 use Prim.Native.Nat.{ℕ, _-_, _*_, _/_, _%_}
 use lib.ListN.{length, replicate}
 use lib.Dec.{eqb}
-use Rattle.field.specs.Number.{le16, le32, le64,}
+use Rattle.field.specs.Number.{le16, le32, le64}
 use Rattle.field.specs.Map.{topBit, lowBit}
 use Rattle.field.specs.Bytes.{sameAt}
 use Rattle.field.specs.Card.{Card}
@@ -37,18 +37,18 @@ abbrev volume : Volume
 volume =
     record {
       areas =
-      record {
-        checkpoint = 512;
-        sit = 1536;
-        «sit_segments» = 2;
-        nat = 2560;
-        «nat_segments» = 2;
-        ssa = 3584;
-        «ssa_segments» = 1;
-        main = 4096;
-        «main_segments» = 42;
-        «main_end» = 25600;
-      };
+          record {
+            checkpoint = 512;
+            sit = 1536;
+            «sit_segments» = 2;
+            nat = 2560;
+            «nat_segments» = 2;
+            ssa = 3584;
+            «ssa_segments» = 1;
+            main = 4096;
+            «main_segments» = 42;
+            «main_end» = 25600;
+          };
       pack = 512;
       total = 16;
       flags = 4;
