@@ -27,7 +27,7 @@ use Rattle.checkpoint.specs.Pack.{newer}
 use Rattle.checkpoint.specs.Journal.{journalIn, journalPlaced, journalAt}
 use Rattle.checkpoint.specs.Volume.{mapsReadable, journalReadable, openPack, openChosen, openAreas}
 use Rattle.bench_sheet.specs.Line.{Line, _is_, Holds, yes}
-use Rattle.bench_sheet.specs.Volume004.{words, superblock, cardOf, mainArea}
+use Rattle.bench_sheet.specs.Volume004.{words, superblock, card004, mainNumbers}
 
 -- ---- the superblock: 004's copy with other numbers
 
@@ -60,7 +60,7 @@ onCard blocks = yes (passes blocks (bytesOf words))
 
 -- what is found with such copies in blocks 0 and 1
 abbrev copies : List ℕ → List ℕ → List ℕ
-copies first second = mainArea (found (cardOf (λ b. choose (eqb b 0) first second)))
+copies first second = mainNumbers (found (card004 (λ b. choose (eqb b 0) first second)))
 
 abbrev none : List ℕ
 none = replicate 3072 0

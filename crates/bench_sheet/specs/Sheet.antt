@@ -21,15 +21,15 @@ use Rattle.directory.specs.Level.{bucketsOf, blocksOf, firstOf}
 use Rattle.directory.specs.Slot.{wanted, entryAt, wellFormed, matches, slotAt, slotsFrom}
 use Rattle.directory.specs.Find.{afterBlock}
 use Rattle.bench_sheet.specs.Line.{Line, _is_, Holds}
-use Rattle.bench_sheet.specs.Volume004.{superblock, cardOf, mainArea}
+use Rattle.bench_sheet.specs.Volume004.{superblock, card004, mainNumbers}
 
 -- the way to a block as numbers: place and slot of each node
-abbrev numbers : List Step → List ℕ
-numbers [] = []
-numbers (s ∷ way) = s .number ∷ s .slot ∷ numbers way
+abbrev wayNumbers : List Step → List ℕ
+wayNumbers [] = []
+wayNumbers (s ∷ steps) = s .number ∷ s .slot ∷ wayNumbers steps
 
 abbrev way : ℕ → ℕ → List ℕ
-way A index = numbers (wayOf (placeOf A index))
+way A index = wayNumbers (wayOf (placeOf A index))
 
 -- a part of what 004's format options set, by the Linux header: the bits of -O extra_attr and -O compression. Its -g android sets
 -- more; any of them is answer 6
@@ -37,7 +37,7 @@ abbrev features004 : ℕ
 features004 = 0x8 + 0x2000
 
 abbrev main004 : ℕ → List ℕ
-main004 feature = mainArea (found (cardOf (λ b. superblock 0 feature)))
+main004 feature = mainNumbers (found (card004 (λ b. superblock 0 feature)))
 
 -- a directory block whose one entry, at a slot, has a name of so many bytes: its bit, and the length in its entry
 abbrev oneEntry : ℕ → ℕ → List ℕ
@@ -50,8 +50,8 @@ answerIn (done (stop answer)) = answer ∷ []
 answerIn (look n k) = []
 answerIn (read b k) = []
 
-abbrev searched : List ℕ → List ℕ
-searched block = answerIn (afterBlock (wanted 1 []) (done (stop 2)) (held block))
+abbrev searchAnswer : List ℕ → List ℕ
+searchAnswer block = answerIn (afterBlock (wanted 1 []) (done (stop 2)) (held block))
 
 abbrev sheet : List Line
 sheet =
@@ -82,8 +82,8 @@ sheet =
     -- "Levels 0 to 3 start at 0, 2, 6, 14; level 29 at 1,073,741,822."
     ∷ (List.map firstOf (0 ∷ 1 ∷ 2 ∷ 3 ∷ 29 ∷ []) is (0 ∷ 2 ∷ 6 ∷ 14 ∷ 1073741822 ∷ []))
     -- "Length 8 at slot 213 fits; length 9 is 14."
-    ∷ (searched (oneEntry 213 8) is (2 ∷ []))
-    ∷ (searched (oneEntry 213 9) is (14 ∷ []))
+    ∷ (searchAnswer (oneEntry 213 8) is (2 ∷ []))
+    ∷ (searchAnswer (oneEntry 213 9) is (14 ∷ []))
     ∷ []
 
 pub bench-sheet : Holds sheet

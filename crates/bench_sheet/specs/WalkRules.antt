@@ -261,8 +261,8 @@ abbrev sought : Walk (Outcome ℕ) → ℕ
 sought w = ended (λ ino. ino) (run (record { table = λ n. OutOfRange; block = λ b. [] }) empty w .value)
 
 -- the inode number or the answer that three turns of the search come to; 2 if they come to nothing
-abbrev searched : ℕ → List Dentry → ℕ
-searched map ds = sought (afterSlots (done (stop 2)) (slotsFrom (slots map ds) (wanted 77 (97 ∷ [])) 3 0))
+abbrev inSlots : ℕ → List Dentry → ℕ
+inSlots map ds = sought (afterSlots (done (stop 2)) (slotsFrom (slots map ds) (wanted 77 (97 ∷ [])) 3 0))
 
 abbrev directoryRules : List Line
 directoryRules =
@@ -274,15 +274,15 @@ directoryRules =
     -- "A set one needs length 1 to 255 and ⌈length/8⌉ slots before the end, else 14"
     ∷ (List.map (λ len. yes (wellFormed 0 len)) (0 ∷ 1 ∷ 255 ∷ 256 ∷ []) is (0 ∷ 1 ∷ 1 ∷ 0 ∷ []))
     ∷ ((yes (wellFormed 182 255) ∷ yes (wellFormed 183 255) ∷ []) is (1 ∷ 0 ∷ []))
-    ∷ ((searched 1 (other 0 ∷ []) ∷ searched 0 (other 0 ∷ []) ∷ []) is (14 ∷ 2 ∷ []))
+    ∷ ((inSlots 1 (other 0 ∷ []) ∷ inSlots 0 (other 0 ∷ []) ∷ []) is (14 ∷ 2 ∷ []))
     -- "slots rising, stopping at the first match": a malformed slot before it is met, one behind it isn't
-    ∷ ((searched 1 (a40 ∷ []) ∷ searched 0 (a40 ∷ []) ∷ []) is (40 ∷ 2 ∷ []))
-    ∷ ((searched 3 (a40 ∷ a41 ∷ []) ∷ searched 2 (a40 ∷ a41 ∷ []) ∷ []) is (40 ∷ 41 ∷ []))
-    ∷ ((searched 3 (other 0 ∷ a40 ∷ []) ∷ searched 3 (a40 ∷ other 0 ∷ []) ∷ []) is (14 ∷ 40 ∷ []))
+    ∷ ((inSlots 1 (a40 ∷ []) ∷ inSlots 0 (a40 ∷ []) ∷ []) is (40 ∷ 2 ∷ []))
+    ∷ ((inSlots 3 (a40 ∷ a41 ∷ []) ∷ inSlots 2 (a40 ∷ a41 ∷ []) ∷ []) is (40 ∷ 41 ∷ []))
+    ∷ ((inSlots 3 (other 0 ∷ a40 ∷ []) ∷ inSlots 3 (a40 ∷ other 0 ∷ []) ∷ []) is (14 ∷ 40 ∷ []))
     -- "then it matches by hash, length and bytes"
-    ∷ ((searched 1 (dentry 78 40 1 97 ∷ []) ∷ searched 1 (dentry 77 40 2 97 ∷ []) ∷ searched 1 (dentry 77 40 1 98 ∷ []) ∷ []) is (2 ∷ 2 ∷ 2 ∷ []))
+    ∷ ((inSlots 1 (dentry 78 40 1 97 ∷ []) ∷ inSlots 1 (dentry 77 40 2 97 ∷ []) ∷ inSlots 1 (dentry 77 40 1 98 ∷ []) ∷ []) is (2 ∷ 2 ∷ 2 ∷ []))
     -- "or the search moves past its slots": an entry of 8 bytes has one, of 9 two
-    ∷ ((searched 3 (other 8 ∷ a40 ∷ []) ∷ searched 3 (other 9 ∷ a40 ∷ []) ∷ searched 7 (other 9 ∷ a40 ∷ a41 ∷ []) ∷ []) is (40 ∷ 2 ∷ 41 ∷ []))
+    ∷ ((inSlots 3 (other 8 ∷ a40 ∷ []) ∷ inSlots 3 (other 9 ∷ a40 ∷ []) ∷ inSlots 7 (other 9 ∷ a40 ∷ a41 ∷ []) ∷ []) is (40 ∷ 2 ∷ 41 ∷ []))
     ∷ []
 
 -- ---- the pull

@@ -77,4 +77,5 @@ module _ (kept fresh : List ℕ) (nodes blocks : Listed) where
       go (keptRefused answer o e) = rw e (inl (refusals kept answer o))
       go (freshRefused v k answer o e) = rw e (inl (refusals fresh answer o))
       go (badLists v u p q h e) = rw e (inl (omega arith, omega arith))
-      go (told v u p q h e) = rw e (inr (ended (difference (boundsOf v) (boundsOf u) (viewOf (cardOf kept) v) (viewOf (cardOf fresh) u) (entries nodes) (entries blocks))))
+      go (told v u p q h e) =
+          rw e (inr (ended (difference (boundsOf v) (boundsOf u) (viewOf (cardOf kept) v) (viewOf (cardOf fresh) u) (entries nodes) (entries blocks))))

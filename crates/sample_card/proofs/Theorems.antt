@@ -45,7 +45,8 @@ unfolding lentInShape
 some-memory-fits = refl
 
 module _ (lent : Lent) (fits : lentInShape lent ≡ true) where
-  walk-leaves : (n : List ℕ) (index : ℕ) (r : Ran (Outcome Block)) → isName n ≡ true → pullRun card volume n index ≡ r → pulled image n index lent ≡ written r lent
+  walk-leaves : (n : List ℕ) (index : ℕ) (r : Ran (Outcome Block)) → isName n ≡ true → pullRun card volume n index ≡ r
+      → pulled image n index lent ≡ written r lent
   walk-leaves n index r p e =
       call-opens image n index lent (Opened volume) (call-in-shape image n index lent image-shape p fits) some-card-opens
       ∙ ap (λ (c : Card). written (pullRun c volume n index) lent) image-card ∙ ap (λ (q : Ran (Outcome Block)). written q lent) e
