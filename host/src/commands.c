@@ -31,7 +31,7 @@ const struct command commands[] = {
      "  2  it can't\n",
      run_info},
     {"ls", "IMAGE", 1, 1, A_PART | TAKES(JSON),
-     "the names in the root directory, and what a pull of each answers",
+     "the names in the root directory, and what a pull of their block 0 answers",
      "List the names in the root directory of the card IMAGE: each file's size in bytes, its name, and what a\n"
      "pull of its block 0 answers, which is 3 for an empty file. '.' and '..' are left out.\n",
      "  0  all names\n"

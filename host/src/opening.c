@@ -89,7 +89,7 @@ static bool ends_pass(const uint8_t *copy, uint64_t image_blocks, char *why)
                        segments_end);
     char counted[NUMBER_ROOM], there[NUMBER_ROOM];
     if (blocks > image_blocks)
-        return because(why, "it counts %s blocks, the image has %s", number_text(counted, blocks),
+        return because(why, "a volume of %s blocks, but the image has only %s", number_text(counted, blocks),
                        number_text(there, image_blocks));
     return true;
 }

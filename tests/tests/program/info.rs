@@ -360,7 +360,7 @@ const COPY_RULES: [(Field, u64, &str); 24] = [
     (
         BLOCK_COUNT,
         6326,
-        "it counts 6,326 blocks, the image has 6,325",
+        "a volume of 6,326 blocks, but the image has only 6,325",
     ),
 ];
 

@@ -414,7 +414,7 @@ fn cut_disks() {
     let info: Words = &[&"info", &"--json", &"--partition", &"2", &disk.path()];
     let json = run(info).expect(2).json();
     expect_head(&json, "info", 5);
-    let counts = format!("both copies: it counts {blocks} blocks, the image has 100");
+    let counts = format!("both copies: a volume of {blocks} blocks, but the image has only 100");
     assert!(json["reason"].text().starts_with(&counts), "in {json:?}");
     disk.set_len(start());
     let message = format!(

@@ -98,7 +98,7 @@ impl Images {
         let [count, left] = [whole, whole - block].map(|len| len / block);
         let counts = [count, left].map(|blocks| with_commas(blocks as usize));
         let why = format!(
-            ": both copies: it counts {} blocks, the image has {}",
+            ": both copies: a volume of {} blocks, but the image has only {}",
             counts[0], counts[1]
         );
         self.add_length(whole - block, 5, &why);
@@ -146,7 +146,7 @@ impl Images {
         for (copy, other) in [(0, 1), (1, 0)] {
             let counts = [count, blocks as u64].map(|blocks| with_commas(blocks as usize));
             let counts = format!(
-                "it counts {} blocks, the image has {}",
+                "a volume of {} blocks, but the image has only {}",
                 counts[0], counts[1]
             );
             let mut whys = ["no F2FS mark"; 2];
