@@ -224,11 +224,13 @@ static void words_byte(int byte, const char *when)
 static void words_first_byte(const struct comparison *c)
 {
     size_t i = 0;
-    while (i < c->run_count && !has_other_bytes(&c->runs[i], 0))
-        i++;
+    bool missing = false; /* a block before that isn't on the new card */
+    for (; i < c->run_count && !has_other_bytes(&c->runs[i], 0); i++)
+        missing = missing || c->runs[i].fate == DIFFERENT;
     if (i == c->run_count)
         return;
-    printf(", first at byte %" PRIu64 " of the file (", (uint64_t)c->runs[i].first * BLOCK_SIZE + c->runs[i].at);
+    printf(", %sfirst at byte %" PRIu64 " of the file (", missing ? "among those on both cards " : "",
+           (uint64_t)c->runs[i].first * BLOCK_SIZE + c->runs[i].at);
     words_byte(c->runs[i].before, "before, ");
     words_byte(c->runs[i].now, "now)");
 }
@@ -296,6 +298,8 @@ static void words_both(const struct comparison *c)
     if (c->whole)
         printf("%sblock %" PRIu32 ": ", c->run_count == 0 ? "" : "; ", c->end.first);
     words_end(c);
+    if (c->whole)
+        printf("; blocks behind it aren't compared");
 }
 
 /* Of a file that can be read on one card alone. */

@@ -73,6 +73,9 @@ impl Expected<'_> {
         }
         if !self.is_all_there() {
             parts.extend(self.at_end());
+            if self.whole() {
+                parts.push("; blocks behind it aren't compared".to_string());
+            }
         }
         parts
     }
@@ -122,8 +125,13 @@ impl Expected<'_> {
                     })
                 };
                 let [before, now] = [before, now].map(shown);
+                let mut earlier = self.runs.iter().take_while(|run| run.byte.is_none());
+                let among = match earlier.any(|run| run.fate == Fate::Different) {
+                    true => "among those on both cards ",
+                    false => "",
+                };
                 parts.push(format!(
-                    ", first at byte {place} of the file ({before} before, {now} now)"
+                    ", {among}first at byte {place} of the file ({before} before, {now} now)"
                 ));
             }
         }
