@@ -284,7 +284,7 @@ static void words_both(const struct comparison *c)
     uint64_t before = held_bytes(&c->had), now = held_bytes(&c->has);
     bool empty = c->whole && compared_blocks(c) == 0 && c->last_answer == HARPTIMBER_PAST_END;
     if (before != now) {
-        printf("%s%s from ", c->whole ? "" : "the file is ", now > before ? "grown" : "shrunk");
+        printf("%s%s from ", c->whole ? "" : "the file has ", now > before ? "grown" : "shrunk");
         show_number(stdout, before);
         printf(" to ");
         show_count(stdout, now, "byte");

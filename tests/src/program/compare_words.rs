@@ -59,8 +59,8 @@ impl Expected<'_> {
             let sizes = format!("{word} from {} to {}", grouped(before), bytes(now));
             parts.push(match (self.whole(), self.runs.is_empty()) {
                 (true, _) => sizes,
-                (false, true) => format!("the file is {sizes}; "),
-                (false, false) => format!("the file is {sizes}; the block "),
+                (false, true) => format!("the file has {sizes}; "),
+                (false, false) => format!("the file has {sizes}; the block "),
             });
         } else if self.whole() && before == 0 {
             parts.push("an empty file on both cards".to_string());
