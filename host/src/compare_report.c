@@ -194,13 +194,17 @@ static void words_details(const struct comparison *c)
     printf("\n");
 }
 
-/* How many of the blocks: 'all 6 blocks', '1 of 6 blocks', 'the first block'. */
+/* How many of the blocks: 'all 6 blocks', 'both blocks', '1 of 6 blocks', 'the first block'. */
 static void words_part(const struct comparison *c, uint32_t part)
 {
     uint32_t total = compared_blocks(c);
     bool all = c->last_answer == HARPTIMBER_PAST_END;
     if (part == total && total == 1) {
         printf("the %s block ", all ? "only" : "first");
+        return;
+    }
+    if (part == total && total == 2 && all) {
+        printf("both blocks ");
         return;
     }
     if (part < total) {

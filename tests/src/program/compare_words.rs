@@ -115,6 +115,7 @@ impl Expected<'_> {
                 _ if count < total => format!("{count} of {first}{total} blocks {verb}"),
                 _ if total == 1 && first.is_empty() => format!("the only block {verb}"),
                 _ if total == 1 => format!("the first block {verb}"),
+                _ if total == 2 && first.is_empty() => format!("both blocks {verb}"),
                 _ if first.is_empty() => format!("all {total} blocks {verb}"),
                 _ => format!("{first}{total} blocks {verb}"),
             });

@@ -383,7 +383,7 @@ fn superblock_rules() {
                 assert_eq!(reason, fails.then_some(why));
             }
             let reason = json.get("reason").map_or("", Json::text);
-            let starts = reason.starts_with(&format!("both copies: {why}"));
+            let starts = reason.starts_with(&format!("each copy: {why}"));
             assert_eq!(starts, both, "{json:?}");
             disk.image.undo(0);
         }
