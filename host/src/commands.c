@@ -31,9 +31,10 @@ const struct command commands[] = {
      "  2  it can't\n",
      run_info},
     {"ls", "IMAGE", 1, 1, A_PART | TAKES(JSON),
-     "the names in the root directory, and what a pull of each answers",
-     "List the names in the root directory of the card IMAGE: each file's size in bytes, its name, and what a\n"
-     "pull of its block 0 answers, which is 3 for an empty file. '.' and '..' are left out.\n",
+     "the root directory's names, and what a pull of block 0 answers",
+     "List the names in the root directory of the card IMAGE: each file's size in bytes, its name, and\n"
+     "what a pull of its block 0 answers. That is usually 12 for a small or empty file, since it is\n"
+     "inline, and 3 for an empty one that isn't. '.' and '..' are left out.\n",
      "  0  all names\n"
      "  2  names may be missing, since the directory is damaged, or the card can't be read\n",
      run_ls},

@@ -61,12 +61,23 @@ void show_ground(FILE *out, const struct comparison *c, const struct run *run)
         show_block_difference(out, c, ground);
 }
 
-/* What a pull on a card answers that gives no block. */
-static void words_answer(const struct comparison *c, const struct card *card, uint32_t index, uint32_t answer)
+/* What a pull on a card answers that gives no block; `where` are the cards that answer so. */
+static void words_answer(const struct comparison *c, const struct card *card, const char *where, uint32_t index,
+                         uint32_t answer)
 {
     struct asked asked = pull_of(card, c->name, index);
-    printf("on the %s card: ", card == c->kept ? "kept" : "new");
+    printf("on %s: ", where);
     show_asked(stdout, answer, meaning_of(answer), &asked);
+}
+
+static void words_kept(const struct comparison *c, uint32_t index, uint32_t answer)
+{
+    words_answer(c, c->kept, "the kept card", index, answer);
+}
+
+static void words_new(const struct comparison *c, uint32_t index, uint32_t answer)
+{
+    words_answer(c, c->new, "the new card", index, answer);
 }
 
 /* So much of a list is shown. */
@@ -151,8 +162,11 @@ static void words_grounds(const struct comparison *c)
             printf("\n");
         }
     }
-    if (c->ground_count > MOST_SHOWN)
-        printf("  %zu more changes; --json has them all\n", c->ground_count - MOST_SHOWN);
+    if (c->ground_count > MOST_SHOWN) {
+        printf("  ");
+        show_count(stdout, c->ground_count - MOST_SHOWN, "more change");
+        printf("; --json has all\n");
+    }
 }
 
 static void words_details(const struct comparison *c)
@@ -165,7 +179,7 @@ static void words_details(const struct comparison *c)
     for (uint32_t answer = HARPTIMBER_PAST_END; answer <= HARPTIMBER_MALFORMED_SLOT && is_there; answer++) {
         const struct run *run = words_blocks(c, has_no_block, answer);
         if (run != NULL) {
-            words_answer(c, c->new, run->first, answer);
+            words_new(c, run->first, answer);
             printf("\n");
         }
     }
@@ -180,13 +194,17 @@ static void words_details(const struct comparison *c)
     printf("\n");
 }
 
-/* How many of the blocks: 'all 6 blocks', '1 of 6 blocks', 'the first block'. */
+/* How many of the blocks: 'all 6 blocks', 'both blocks', '1 of 6 blocks', 'the first block'. */
 static void words_part(const struct comparison *c, uint32_t part)
 {
     uint32_t total = compared_blocks(c);
     bool all = c->last_answer == HARPTIMBER_PAST_END;
     if (part == total && total == 1) {
         printf("the %s block ", all ? "only" : "first");
+        return;
+    }
+    if (part == total && total == 2 && all) {
+        printf("both blocks ");
         return;
     }
     if (part < total) {
@@ -210,11 +228,13 @@ static void words_byte(int byte, const char *when)
 static void words_first_byte(const struct comparison *c)
 {
     size_t i = 0;
-    while (i < c->run_count && !has_other_bytes(&c->runs[i], 0))
-        i++;
+    bool missing = false; /* a block before that isn't on the new card */
+    for (; i < c->run_count && !has_other_bytes(&c->runs[i], 0); i++)
+        missing = missing || c->runs[i].fate == DIFFERENT;
     if (i == c->run_count)
         return;
-    printf(", first at byte %" PRIu64 " of the file (", (uint64_t)c->runs[i].first * BLOCK_SIZE + c->runs[i].at);
+    printf(", %sfirst at byte %" PRIu64 " of the file (", missing ? "among those on both cards " : "",
+           (uint64_t)c->runs[i].first * BLOCK_SIZE + c->runs[i].at);
     words_byte(c->runs[i].before, "before, ");
     words_byte(c->runs[i].now, "now)");
 }
@@ -247,17 +267,19 @@ static void words_counts(const struct comparison *c)
     }
 }
 
-/* What the kept card has no block for, and whether the new one has. */
+/* What the kept card has no block for, and whether the new one has. Of a like answer the reason may be another. */
 static void words_end(const struct comparison *c)
 {
-    words_answer(c, c->kept, c->end.first, c->last_answer);
+    if (!is_changed(&c->end)) {
+        words_answer(c, c->kept, "both cards", c->end.first, c->last_answer);
+        return;
+    }
+    words_kept(c, c->end.first, c->last_answer);
     printf("; ");
-    if (!is_changed(&c->end))
-        printf("the same on the new card");
-    else if (c->end.answer == c->last_answer)
-        printf("on the new card too, but that rests on something that changed");
+    if (c->end.answer == c->last_answer)
+        printf("on the new card: answer %" PRIu32 " too, but that rests on something that changed", c->end.answer);
     else
-        words_answer(c, c->new, c->end.first, c->end.answer);
+        words_new(c, c->end.first, c->end.answer);
 }
 
 /* Of a file that is on both cards. */
@@ -266,11 +288,11 @@ static void words_both(const struct comparison *c)
     uint64_t before = held_bytes(&c->had), now = held_bytes(&c->has);
     bool empty = c->whole && compared_blocks(c) == 0 && c->last_answer == HARPTIMBER_PAST_END;
     if (before != now) {
-        printf(now > before ? "grown from " : "shrunk from ");
+        printf("%s%s from ", c->whole ? "" : "the file has ", now > before ? "grown" : "shrunk");
         show_number(stdout, before);
         printf(" to ");
         show_count(stdout, now, "byte");
-        printf(empty ? "" : ": ");
+        printf(empty ? "" : c->whole ? ": " : c->run_count == 0 ? "; " : "; the block ");
     } else if (empty) {
         printf("an empty file on both cards%s", is_changed(&c->end) ? ", but that rests on something that changed" : "");
     }
@@ -280,16 +302,18 @@ static void words_both(const struct comparison *c)
     if (c->whole)
         printf("%sblock %" PRIu32 ": ", c->run_count == 0 ? "" : "; ", c->end.first);
     words_end(c);
+    if (c->whole)
+        printf("; blocks behind it aren't compared");
 }
 
 /* Of a file that can be read on one card alone. */
 static void words_one(const struct comparison *c, const char *what, const struct holding *there, uint32_t answer)
 {
     bool kept = there == &c->had;
-    printf("%s: ", what);
+    printf("%s%s: ", c->whole ? "" : "the file is ", what);
     show_count(stdout, held_bytes(there), "byte");
     printf(" on the %s card; ", kept ? "kept" : "new");
-    words_answer(c, kept ? c->new : c->kept, UINT32_MAX, answer);
+    (kept ? words_new : words_kept)(c, UINT32_MAX, answer);
 }
 
 static void words_not_both(const struct comparison *c)

@@ -8,7 +8,7 @@
 #include "walk.h"
 
 /* How a field's values are shown. */
-enum style { NAMED_ONLY, DECIMAL, OCTAL, HEXADECIMAL };
+enum style { NAMED_ONLY, QUANTITY, DECIMAL, OCTAL, HEXADECIMAL };
 
 /* Some fields have a second part, like the nanoseconds of a date. */
 struct field {
@@ -23,14 +23,14 @@ static const struct field inode_fields[] = {
     {"inline flags", HEXADECIMAL, 3, 1, 0, 0},
     {"owner", DECIMAL, 4, 4, 0, 0},
     {"group", DECIMAL, 8, 4, 0, 0},
-    {"link count", DECIMAL, 12, 4, 0, 0},
-    {"size", DECIMAL, 16, 8, 0, 0},
-    {"block count", DECIMAL, 24, 8, 0, 0},
+    {"link count", QUANTITY, 12, 4, 0, 0},
+    {"size", QUANTITY, 16, 8, 0, 0},
+    {"block count", QUANTITY, 24, 8, 0, 0},
     {"access time", NAMED_ONLY, 32, 8, 56, 4},
     {"change time", NAMED_ONLY, 40, 8, 60, 4},
     {"modification time", NAMED_ONLY, 48, 8, 64, 4},
     {"generation", DECIMAL, 68, 4, 0, 0},
-    {"depth", DECIMAL, 72, 4, 0, 0},
+    {"depth", QUANTITY, 72, 4, 0, 0},
     {"attribute node", DECIMAL, 76, 4, 0, 0},
     {"flags", HEXADECIMAL, 80, 4, 0, 0},
     {"parent's inode", DECIMAL, 84, 4, 0, 0},
@@ -42,8 +42,8 @@ static const struct field inode_fields[] = {
 
 /* Where the addresses otherwise start, if the inode has extra attributes. */
 static const struct field extra_fields[] = {
-    {"extra size", DECIMAL, DISK_ADDRESSES, 2, 0, 0},
-    {"attribute size", DECIMAL, 362, 2, 0, 0},
+    {"extra size", QUANTITY, DISK_ADDRESSES, 2, 0, 0},
+    {"attribute size", QUANTITY, 362, 2, 0, 0},
     {"project", DECIMAL, 364, 4, 0, 0},
     {"checksum", HEXADECIMAL, 368, 4, 0, 0},
     {"creation time", NAMED_ONLY, 372, 8, 380, 4},
@@ -91,7 +91,9 @@ static uint64_t value_at(const uint8_t *bytes, size_t len)
 static void show_value(FILE *out, const struct field *field, const uint8_t *block)
 {
     uint64_t value = value_at(block + field->at, field->len);
-    if (field->style == DECIMAL)
+    if (field->style == QUANTITY)
+        show_number(out, value);
+    else if (field->style == DECIMAL)
         fprintf(out, "%" PRIu64, value);
     else if (field->style == OCTAL)
         fprintf(out, "%06" PRIo64, value);
@@ -130,8 +132,11 @@ static void show_slots(struct versions *v, size_t from, size_t to, const char *w
     show_name(v, what);
     fprintf(v->out, " %zu (%" PRIu32 " before, %" PRIu32 " now)", (first - from) / SLOT, disk32(v->before + first),
             disk32(v->now + first));
-    if (count > 1)
-        fprintf(v->out, " and %" PRIu32 " more", count - 1);
+    if (count > 1) {
+        fputs(" and ", v->out);
+        show_number(v->out, count - 1);
+        fputs(" more", v->out);
+    }
 }
 
 /* What stands where an inode has its addresses; that is said only if it is of one kind in both. */

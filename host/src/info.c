@@ -107,7 +107,7 @@ static void words_packs(const struct opening *opening)
         const char *good = i == opening->pack_in_use ? "in use" : "passes";
         printf("checkpoint pack %d: %s%s", i + 1, pack->passes ? good : "doesn't pass: ", pack->why);
         if (pack->has_first)
-            printf("; version %" PRIu64 " (hex %" PRIx64 "); flags: %s", pack->version, pack->version,
+            printf("; version %" PRIu64 " (0x%" PRIx64 "); flags: %s", pack->version, pack->version,
                    *flags == '\0' ? "none" : flags);
         printf("%s\n", i == opening->pack_in_use && !is_clean(pack) ? "; not unmounted cleanly" : "");
     }

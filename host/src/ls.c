@@ -49,7 +49,8 @@ static void show_words(struct listing *listing)
     show(stdout, listing->walk.card->path);
     printf(": ");
     show_count(stdout, listing->count, "name");
-    printf(" in the root directory%s\n", listing_is_complete(listing) ? "" : ", perhaps not all");
+    printf(" in the root directory%s", listing_is_complete(listing) ? "" : ", perhaps not all");
+    printf("%s\n", listing->count == 0 ? "" : "; size, name, and what a pull of block 0 answers");
     for (size_t i = 0; i < listing->count; i++)
         words_name(listing, &listing->names[i]);
     for (size_t i = 0; i < listing->problem_count; i++)

@@ -89,7 +89,7 @@ static bool ends_pass(const uint8_t *copy, uint64_t image_blocks, char *why)
                        segments_end);
     char counted[NUMBER_ROOM], there[NUMBER_ROOM];
     if (blocks > image_blocks)
-        return because(why, "it counts %s blocks, the image has %s", number_text(counted, blocks),
+        return because(why, "a volume of %s blocks, but the image has only %s", number_text(counted, blocks),
                        number_text(there, image_blocks));
     return true;
 }
@@ -219,10 +219,10 @@ static int read_packs(struct opening *opening, const struct card *card, uint32_t
 }
 
 /* Of two that fail, the words for each, or once if they are the same. */
-static bool because_both(char *why, const char *thing, const char *both, const char *one, const char *other)
+static bool because_both(char *why, const char *thing, const char *one, const char *other)
 {
     if (strcmp(one, other) == 0)
-        return because(why, "%s: %s", both, one);
+        return because(why, "each %s: %s", thing, one);
     return because(why, "%s 1: %s; %s 2: %s", thing, one, thing, other);
 }
 
@@ -236,7 +236,7 @@ static uint32_t judge(struct opening *opening, const struct card *card)
     if (!length_is_in_shape(card))
         return HARPTIMBER_OUT_OF_SHAPE;
     if (opening->copy_in_use == NONE_IN_USE) {
-        because_both(opening->why, "copy", "both copies", copies[0].why, copies[1].why);
+        because_both(opening->why, "copy", copies[0].why, copies[1].why);
         return HARPTIMBER_NO_SUPERBLOCK;
     }
     const uint8_t *superblock = disk_superblock(card, (uint32_t)opening->copy_in_use);
@@ -246,7 +246,7 @@ static uint32_t judge(struct opening *opening, const struct card *card)
         return HARPTIMBER_FEATURES;
     const struct opening_pack *packs = opening->packs;
     if (opening->pack_in_use == NONE_IN_USE) {
-        because_both(opening->why, "pack", "both packs", packs[0].why, packs[1].why);
+        because_both(opening->why, "pack", packs[0].why, packs[1].why);
         return HARPTIMBER_NO_CHECKPOINT;
     }
     const struct opening_pack *used = &packs[opening->pack_in_use];

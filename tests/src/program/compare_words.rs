@@ -27,11 +27,12 @@ impl Expected<'_> {
         let block = self
             .index
             .map_or(": ".to_string(), |index| format!(", block {index}: "));
+        let file = if self.whole() { "" } else { "the file is " };
         let one = |words: &str, size: u64, cards: [&str; 2], answer: u32| {
             let [there, other] = cards;
             vec![
                 format!(
-                    "{block}{words}: {} on the {there} card; on the {other} card: ",
+                    "{block}{file}{words}: {} on the {there} card; on the {other} card: ",
                     bytes(size)
                 ),
                 format!("(answer {answer})"),
@@ -55,7 +56,12 @@ impl Expected<'_> {
         let mut parts = Vec::new();
         if before != now {
             let word = if now > before { "grown" } else { "shrunk" };
-            parts.push(format!("{word} from {} to {}", grouped(before), bytes(now)));
+            let sizes = format!("{word} from {} to {}", grouped(before), bytes(now));
+            parts.push(match (self.whole(), self.runs.is_empty()) {
+                (true, _) => sizes,
+                (false, true) => format!("the file has {sizes}; "),
+                (false, false) => format!("the file has {sizes}; the block "),
+            });
         } else if self.whole() && before == 0 {
             parts.push("an empty file on both cards".to_string());
         }
@@ -67,6 +73,9 @@ impl Expected<'_> {
         }
         if !self.is_all_there() {
             parts.extend(self.at_end());
+            if self.whole() {
+                parts.push("; blocks behind it aren't compared".to_string());
+            }
         }
         parts
     }
@@ -106,6 +115,7 @@ impl Expected<'_> {
                 _ if count < total => format!("{count} of {first}{total} blocks {verb}"),
                 _ if total == 1 && first.is_empty() => format!("the only block {verb}"),
                 _ if total == 1 => format!("the first block {verb}"),
+                _ if total == 2 && first.is_empty() => format!("both blocks {verb}"),
                 _ if first.is_empty() => format!("all {total} blocks {verb}"),
                 _ => format!("{first}{total} blocks {verb}"),
             });
@@ -116,8 +126,13 @@ impl Expected<'_> {
                     })
                 };
                 let [before, now] = [before, now].map(shown);
+                let mut earlier = self.runs.iter().take_while(|run| run.byte.is_none());
+                let among = match earlier.any(|run| run.fate == Fate::Different) {
+                    true => "among those on both cards ",
+                    false => "",
+                };
                 parts.push(format!(
-                    ", first at byte {place} of the file ({before} before, {now} now)"
+                    ", {among}first at byte {place} of the file ({before} before, {now} now)"
                 ));
             }
         }
@@ -127,18 +142,20 @@ impl Expected<'_> {
     /// Where the kept card has no block.
     fn at_end(&self) -> Vec<String> {
         let (kept, run) = self.end.as_ref().expect("an end");
-        let new = match run.compared.answer {
-            15 => "; the same on the new card".to_string(),
-            _ if run.new_answer == *kept => {
-                "; on the new card too, but that rests on something".to_string()
-            }
-            _ => format!("(answer {})", run.new_answer),
+        let cards = match run.compared.answer {
+            15 => "on both cards: ",
+            _ => "on the kept card: ",
         };
-        vec![
-            "on the kept card: ".to_string(),
-            format!("(answer {kept})"),
-            new,
-        ]
+        let mut parts = vec![cards.to_string(), format!("(answer {kept})")];
+        if run.compared.answer != 15 && run.new_answer == *kept {
+            parts.push(format!(
+                "; on the new card: answer {kept} too, but that rests on something"
+            ));
+        } else if run.compared.answer != 15 {
+            parts.push("; on the new card: ".to_string());
+            parts.push(format!("(answer {})", run.new_answer));
+        }
+        parts
     }
 
     /// How each line starts, and the difference that it tells.

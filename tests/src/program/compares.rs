@@ -35,7 +35,7 @@ pub(crate) struct Run {
     pub ground: [u32; 2],
     /// On the new image, 0 for a hole too.
     pub new_answer: u32,
-    byte: Option<Byte>,
+    pub(crate) byte: Option<Byte>,
 }
 
 /// What a compare comes to if both images open.

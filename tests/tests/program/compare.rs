@@ -146,6 +146,21 @@ fn data() {
     }
 }
 
+/// A byte behind a block that isn't on the new card any more is the first only of what both cards have.
+#[test]
+fn behind_a_missing_block() {
+    let mut cards = Cards::new();
+    let road = cards.kept.file(ROAD).clone();
+    let inode = cards.kept.card.inode_block(road.ino);
+    cards.change(|image| image.put("address", inode, 360 + 4, &[1, 0, 0, 0]));
+    cards.byte(road.blocks[&3], 17);
+    assert_eq!(cards.expect(ROAD), 1);
+    let paths = [cards.kept.disk.path(), cards.fresh.path()];
+    let ran = run(&[&"compare", &paths[0], &paths[1], &ROAD]).expect(1);
+    let first = "differ, among those on both cards first at byte 12305 of the file (";
+    assert!(ran.words().contains(first), "{ran:?}");
+}
+
 /// Data and a node behind the inode.
 #[test]
 fn behind_a_node() {

@@ -8,6 +8,7 @@ use harptimber_tests::cards::layout::inode::{I_INLINE, I_SIZE};
 use harptimber_tests::cards::layout::Field;
 use harptimber_tests::cards::on_disk::OnDisk;
 use harptimber_tests::program::card::{ProgramCard, LONG, ROAD};
+use harptimber_tests::program::compare_words::grouped;
 use harptimber_tests::program::{run, Words};
 
 struct Cards {
@@ -51,10 +52,11 @@ impl Cards {
     }
 }
 
-/// Whether the values are shown: not, or as decimal, octal or hexadecimal numbers.
+/// Whether the values are shown: not, or as quantities, decimal, octal or hexadecimal numbers.
 #[derive(Clone, Copy)]
 enum Shown {
     No,
+    Quantity,
     Decimal,
     Octal,
     Hex,
@@ -66,8 +68,8 @@ const FIELDS: [(usize, usize, &str, Shown); 25] = [
     (2, 1, "hints", Shown::Hex),
     (4, 4, "owner", Shown::Decimal),
     (8, 4, "group", Shown::Decimal),
-    (12, 4, "link count", Shown::Decimal),
-    (24, 8, "block count", Shown::Decimal),
+    (12, 4, "link count", Shown::Quantity),
+    (24, 8, "block count", Shown::Quantity),
     (32, 8, "access time", Shown::No),
     (40, 8, "change time", Shown::No),
     (48, 8, "modification time", Shown::No),
@@ -75,7 +77,7 @@ const FIELDS: [(usize, usize, &str, Shown); 25] = [
     (60, 4, "change time", Shown::No),
     (64, 4, "modification time", Shown::No),
     (68, 4, "generation", Shown::Decimal),
-    (72, 4, "depth", Shown::Decimal),
+    (72, 4, "depth", Shown::Quantity),
     (76, 4, "attribute node", Shown::Decimal),
     (80, 4, "flags", Shown::Hex),
     (84, 4, "parent's inode", Shown::Decimal),
@@ -100,6 +102,7 @@ fn values(image: &Image, block: u32, (at, size, _, shown): (usize, usize, &str, 
     let before = image.get(block, field);
     let [before, now] = [before, before ^ 1].map(|value| match shown {
         Shown::No => String::new(),
+        Shown::Quantity => grouped(value),
         Shown::Decimal => format!("{value}"),
         Shown::Octal => format!("{value:06o}"),
         Shown::Hex => format!("{value:#x}"),
@@ -145,7 +148,7 @@ fn several_fields() {
             image.put("address", block, 360 + 4 * slot, &[5, 0, 0, 0]);
         }
     });
-    let size = format!("size ({size} before, {} now)", size + 1);
+    let size = format!("size ({} before, {} now)", grouped(size), grouped(size + 1));
     let others = "change time, modification time, address of block 7 (0 before, 5 now) and 2 more";
     assert!(
         told.starts_with(&format!("{size}, {others} changed in the file's inode ")),
@@ -356,7 +359,7 @@ fn many_changes() {
         let place = format!(" (node {}, the card's block {})", node.nid, node.block);
         assert!(line.ends_with(&place), "no '{place}' in '{line}'");
     }
-    assert_eq!(lines[11..], ["  2 more changes; --json has them all"]);
+    assert_eq!(lines[11..], ["  2 more changes; --json has all"]);
     let json = run(&[&"compare", &"--json", &kept.path(), &new.path(), &"many"]).expect(1);
     assert_eq!(json.json()["runs"].list().len(), 13);
 }

@@ -159,7 +159,7 @@ fn words() {
         "main area: blocks 3074 to 3585 (1 segment)",
         "superblock copy 1: in use",
         "superblock copy 2: passes",
-        "checkpoint pack 1: in use; version 4294967303 (hex 100000007); flags: fastboot; not unmounted cleanly",
+        "checkpoint pack 1: in use; version 4294967303 (0x100000007); flags: fastboot; not unmounted cleanly",
         "checkpoint pack 2: doesn't pass: its first block is all zeros",
     ];
     let ran = run(&[&"info", &disk.path()]).expect(0);
@@ -173,7 +173,7 @@ fn words_of_a_clean_card() {
     let knobs = Knobs::sound().with_pack(1, clean);
     let disk = OnDisk::new(Image::new(&knobs));
     let ran = run(&[&"info", &disk.path()]).expect(0);
-    let last = "checkpoint pack 2: in use; version 4294967303 (hex 100000007); flags: unmount";
+    let last = "checkpoint pack 2: in use; version 4294967303 (0x100000007); flags: unmount";
     assert_eq!(ran.words().lines().last(), Some(last));
     assert!(ran.words().contains("\nlabel: none\n"), "of {ran:?}");
 }
@@ -360,7 +360,7 @@ const COPY_RULES: [(Field, u64, &str); 24] = [
     (
         BLOCK_COUNT,
         6326,
-        "it counts 6,326 blocks, the image has 6,325",
+        "a volume of 6,326 blocks, but the image has only 6,325",
     ),
 ];
 
@@ -383,7 +383,7 @@ fn superblock_rules() {
                 assert_eq!(reason, fails.then_some(why));
             }
             let reason = json.get("reason").map_or("", Json::text);
-            let starts = reason.starts_with(&format!("both copies: {why}"));
+            let starts = reason.starts_with(&format!("each copy: {why}"));
             assert_eq!(starts, both, "{json:?}");
             disk.image.undo(0);
         }

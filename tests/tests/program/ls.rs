@@ -103,7 +103,15 @@ fn expect_listing(path: &Path, mut expected: Vec<Expected>, problems: &[String])
     } else {
         ", perhaps not all"
     };
-    let mut words = format!("{}: {names} in the root directory{all}\n", path.display());
+    let told = if expected.is_empty() {
+        ""
+    } else {
+        "; size, name, and what a pull of block 0 answers"
+    };
+    let mut words = format!(
+        "{}: {names} in the root directory{all}{told}\n",
+        path.display()
+    );
     words.extend(expected.iter().map(Expected::line));
     words.extend(
         problems

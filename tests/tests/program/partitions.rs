@@ -393,7 +393,7 @@ fn no_tables() {
         expect_hint(
             &disk,
             5,
-            "both copies: no F2FS mark; perhaps it is another file system",
+            "each copy: no F2FS mark; perhaps it is another file system",
         );
         let json = info_of(&disk, 5);
         assert!(json.get("table").is_none() && json.get("partitions").is_none());
@@ -414,7 +414,7 @@ fn cut_disks() {
     let info: Words = &[&"info", &"--json", &"--partition", &"2", &disk.path()];
     let json = run(info).expect(2).json();
     expect_head(&json, "info", 5);
-    let counts = format!("both copies: it counts {blocks} blocks, the image has 100");
+    let counts = format!("each copy: a volume of {blocks} blocks, but the image has only 100");
     assert!(json["reason"].text().starts_with(&counts), "in {json:?}");
     disk.set_len(start());
     let message = format!(

@@ -98,7 +98,7 @@ impl Images {
         let [count, left] = [whole, whole - block].map(|len| len / block);
         let counts = [count, left].map(|blocks| with_commas(blocks as usize));
         let why = format!(
-            ": both copies: it counts {} blocks, the image has {}",
+            ": each copy: a volume of {} blocks, but the image has only {}",
             counts[0], counts[1]
         );
         self.add_length(whole - block, 5, &why);
@@ -135,18 +135,18 @@ impl Images {
 
     /// With and without a mark, and with more blocks than there are in the one copy or the other.
     fn add_without_superblock(&mut self) {
-        let no_mark = ": both copies: no F2FS mark; perhaps it is another file system";
+        let no_mark = ": each copy: no F2FS mark; perhaps it is another file system";
         let fields = [(0, MAGIC, 0), (1, MAGIC, 0)];
         self.add_changed("no mark", 5, no_mark, &fields);
         let fields = [(0, LOG_BLOCKSIZE, 13), (1, LOG_BLOCKSIZE, 13)];
-        let why = ": both copies: log_blocksize is 13, not 12";
+        let why = ": each copy: log_blocksize is 13, not 12";
         self.add_changed("larger blocks", 5, why, &fields);
         let blocks = sound().bytes().len() / BLOCK_SIZE;
         let count = (1 << 33) + 9;
         for (copy, other) in [(0, 1), (1, 0)] {
             let counts = [count, blocks as u64].map(|blocks| with_commas(blocks as usize));
             let counts = format!(
-                "it counts {} blocks, the image has {}",
+                "a volume of {} blocks, but the image has only {}",
                 counts[0], counts[1]
             );
             let mut whys = ["no F2FS mark"; 2];
@@ -159,7 +159,7 @@ impl Images {
     }
 
     fn add_published(&mut self) {
-        let large = "both packs: its first block has checksum_offset 192, not 4092 \
+        let large = "each pack: its first block has checksum_offset 192, not 4092 \
                      (large_nat_bitmap, by mkfs.f2fs -i)";
         for (options, answer, why) in [
             ("-O extra_attr", 6, "features: extra_attr"),
