@@ -5,7 +5,7 @@ use mathlib.Core.List.{List, [], _∷_, _++_}
 use mathlib.Core.List as List
 use Prim.Native.Nat.{ℕ, _+_, _-_, _*_, _/_}
 use lib.ListN.{set, replicate}
-use lib.Dec.{eqb}
+use lib.Dec.{eqb, leb}
 use Rattle.field.specs.Number.{le16, le32, le64}
 use Rattle.field.specs.Bytes.{sameAt}
 use Rattle.field.specs.Card.{Card}
@@ -55,6 +55,22 @@ from start =
     passing
     (set (set (set (set (set (set words 18 start) 19 start) 20 (start + 1024)) 21 (start + 2048)) 22 (start + 3072)) 23 (start + 3584))
 
+-- the same with a segment less, and two less in the main area, so that there is room for areas to move
+abbrev roomy : List ℕ
+roomy = set (set words 12 48) 17 40
+
+-- SIT, NAT, SSA and main area, of which those from one on (0 is SIT) start x − 1 blocks later
+abbrev moved : ℕ → ℕ → ℕ
+moved x area =
+    let by : ℕ → ℕ = λ k. choose (leb area k) x 1 in
+    passing (set (set (set (set roomy 20 (1535 + by 0)) 21 (2559 + by 1)) 22 (3583 + by 2)) 23 (4095 + by 3))
+
+-- so many checkpoint segments, with all that follows them moved
+abbrev checkpoints : ℕ → ℕ
+checkpoints n =
+    let sit : ℕ = 512 + 512 * n in
+    passing (set (set (set (set (set roomy 13 n) 20 sit) 21 (sit + 1024)) 22 (sit + 2048)) 23 (sit + 2560))
+
 abbrev onCard : ℕ → ℕ
 onCard blocks = yes (passes blocks (bytesOf words))
 
@@ -81,17 +97,15 @@ superblockRules =
     ∷ (List.map (with 28) (0 ∷ 1 ∷ 2 ∷ []) is (0 ∷ 1 ∷ 1 ∷ []))
     ∷ ((with 96 2 ∷ with 96 4 ∷ with 100 0 ∷ with 100 2 ∷ with 104 1 ∷ with 104 3 ∷ []) is (0 ∷ 0 ∷ 0 ∷ 0 ∷ 0 ∷ 0 ∷ []))
     -- "checkpoint segments 2; SIT and NAT counts even and at least 2"
-    ∷ (List.map (with 52) (1 ∷ 2 ∷ 3 ∷ []) is (0 ∷ 1 ∷ 0 ∷ []))
+    ∷ (List.map checkpoints (1 ∷ 2 ∷ 3 ∷ []) is (0 ∷ 1 ∷ 0 ∷ []))
     ∷ (List.map (λ sit. counts sit 2) (0 ∷ 1 ∷ 2 ∷ 3 ∷ 4 ∷ []) is (0 ∷ 0 ∷ 1 ∷ 0 ∷ 1 ∷ []))
     ∷ (List.map (counts 2) (0 ∷ 1 ∷ 2 ∷ 3 ∷ 4 ∷ []) is (0 ∷ 0 ∷ 1 ∷ 0 ∷ 1 ∷ []))
     -- "segment 0 = checkpoint address, at least 2"
-    ∷ (List.map (with 72) (511 ∷ 512 ∷ 513 ∷ []) is (0 ∷ 1 ∷ 0 ∷ []))
+    ∷ (List.map (λ start. passing (set roomy 18 start)) (511 ∷ 512 ∷ 513 ∷ []) is (0 ∷ 1 ∷ 0 ∷ []))
     ∷ (List.map from (1 ∷ 2 ∷ 512 ∷ []) is (0 ∷ 1 ∷ 1 ∷ []))
-    -- "each area starts where the one before ends": SIT, NAT, SSA, main
-    ∷ (List.map (with 80) (1535 ∷ 1536 ∷ 1537 ∷ []) is (0 ∷ 1 ∷ 0 ∷ []))
-    ∷ (List.map (with 84) (2559 ∷ 2560 ∷ 2561 ∷ []) is (0 ∷ 1 ∷ 0 ∷ []))
-    ∷ (List.map (with 88) (3583 ∷ 3584 ∷ 3585 ∷ []) is (0 ∷ 1 ∷ 0 ∷ []))
-    ∷ (List.map (with 92) (4095 ∷ 4096 ∷ 4097 ∷ []) is (0 ∷ 1 ∷ 0 ∷ []))
+    -- "each area starts where the one before ends": one block later and one earlier for SIT, NAT, SSA, main, and for none
+    ∷ (List.map (moved 2) (0 ∷ 1 ∷ 2 ∷ 3 ∷ 4 ∷ []) is (0 ∷ 0 ∷ 0 ∷ 0 ∷ 1 ∷ []))
+    ∷ (List.map (moved 0) (0 ∷ 1 ∷ 2 ∷ 3 ∷ 4 ∷ []) is (0 ∷ 0 ∷ 0 ∷ 0 ∷ 1 ∷ []))
     -- "main end ≤ segment 0 + 512 × segment count ≤ block count ≤ image blocks."
     ∷ (List.map (with 68) (41 ∷ 42 ∷ 43 ∷ []) is (1 ∷ 1 ∷ 0 ∷ []))
     ∷ (List.map (with 48) (48 ∷ 49 ∷ 50 ∷ []) is (0 ∷ 1 ∷ 0 ∷ []))
