@@ -3,3 +3,4 @@ pub mod Volume004
 pub mod Sheet
 pub mod OpeningRules
 pub mod WalkRules
+pub mod CompareRules
