@@ -191,8 +191,3 @@ bool is_block(uint32_t answer)
 {
     return answer == HARPTIMBER_DATA || answer == HARPTIMBER_HOLE;
 }
-
-uint32_t list_number(const uint8_t *list, uint32_t i)
-{
-    return harptimber_list_entry(list, i);
-}

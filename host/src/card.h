@@ -58,7 +58,4 @@ struct harptimber_pulled card_pull(const struct card *card, const char *name, ui
 /* Whether a pull's answer is a block: data or a hole. */
 bool is_block(uint32_t answer);
 
-/* Number `i` of a list. */
-uint32_t list_number(const uint8_t *list, uint32_t i);
-
 #endif

@@ -86,7 +86,7 @@ static void show_words(const struct cat *cat)
     show(stderr, cat->name);
     fprintf(stderr, ", block %" PRIu32 ": ", cat->blocks);
     struct asked asked = pull_of(&cat->card, cat->name, cat->blocks);
-    show_asked(stderr, cat->answer, meaning_of(cat->answer), &asked);
+    show_asked(stderr, cat->answer, harptimber_answer_words(cat->answer), &asked);
     fputs("; ", stderr);
     if (!has_written(cat)) {
         fputs("nothing was written\n", stderr);
@@ -102,7 +102,7 @@ static void show_json(const struct cat *cat)
     uint32_t answer = whole ? HARPTIMBER_DATA : cat->answer;
     FILE *out = output_is_standard(cat->request->output) ? stderr : stdout;
     struct asked asked = pull_of(&cat->card, cat->name, cat->blocks);
-    struct json json = json_begin(out, "cat", answer, meaning_of(answer));
+    struct json json = json_begin(out, "cat", answer, harptimber_answer_words(answer));
     json_asked(&json, answer, &asked);
     json_string(&json, "image", cat->card.path);
     json_name(&json, cat->name);

@@ -69,7 +69,7 @@ static bool find(struct comparison *c, uint32_t index, struct finding *found)
 static uint32_t node_in_block(const struct comparison *c, const struct finding *found)
 {
     for (uint32_t i = 0; i < found->pulled.node_count; i++) {
-        uint32_t node = list_number(found->lists.nodes, i);
+        uint32_t node = harptimber_list_entry(found->lists.nodes, i);
         struct harptimber_entry entry = harptimber_node_lookup(c->kept->bytes, c->kept->len, node);
         if (entry.answer == HARPTIMBER_DATA && entry.address == found->verdict.number)
             return node;
@@ -81,7 +81,7 @@ static uint32_t node_in_block(const struct comparison *c, const struct finding *
 static bool is_of_directory(const struct comparison *c, uint32_t number)
 {
     for (uint32_t i = 0; i < c->had.block_count; i++)
-        if (list_number(c->had.lists.blocks, i) == number)
+        if (harptimber_list_entry(c->had.lists.blocks, i) == number)
             return true;
     return false;
 }

@@ -51,7 +51,7 @@ static void json_why(struct json *json, const char *key, const struct card *card
 
 static void json_verdict(struct json *json, const struct comparison *c, const struct run *run)
 {
-    json_answer(json, run->verdict.answer, meaning_of(run->verdict.answer));
+    json_answer(json, run->verdict.answer, harptimber_answer_words(run->verdict.answer));
     if (!is_changed(run))
         return;
     json_number(json, "kind", run->verdict.kind);
@@ -130,7 +130,7 @@ void compare_json(const struct comparison *all, size_t count, bool several)
     for (size_t i = 1; i < count; i++)
         worst = compare_status(&all[i]) > compare_status(worst) ? &all[i] : worst;
     uint32_t answer = compare_answer(worst);
-    struct json json = json_begin(stdout, "compare", answer, meaning_of(answer));
+    struct json json = json_begin(stdout, "compare", answer, harptimber_answer_words(answer));
     json_string(&json, "kept", all->kept->path);
     json_string(&json, "new", all->new->path);
     if (several)
@@ -138,7 +138,7 @@ void compare_json(const struct comparison *all, size_t count, bool several)
     for (size_t i = 0; i < count; i++) {
         if (several) {
             json_open(&json, NULL, '{');
-            json_answer(&json, compare_answer(&all[i]), meaning_of(compare_answer(&all[i])));
+            json_answer(&json, compare_answer(&all[i]), harptimber_answer_words(compare_answer(&all[i])));
         }
         json_file(&json, &all[i]);
         if (several)

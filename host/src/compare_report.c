@@ -67,7 +67,7 @@ static void words_answer(const struct comparison *c, const struct card *card, co
 {
     struct asked asked = pull_of(card, c->name, index);
     printf("on %s: ", where);
-    show_asked(stdout, answer, meaning_of(answer), &asked);
+    show_asked(stdout, answer, harptimber_answer_words(answer), &asked);
 }
 
 static void words_kept(const struct comparison *c, uint32_t index, uint32_t answer)
@@ -321,7 +321,7 @@ static void words_not_both(const struct comparison *c)
     uint32_t had = c->had.answer, has = c->has.answer;
     if (is_on_neither(c)) {
         printf("on neither card: ");
-        show_answer(stdout, had, meaning_of(had), c->kept, c->name);
+        show_answer(stdout, had, harptimber_answer_words(had), c->kept, c->name);
     } else if (had == HARPTIMBER_PAST_END) {
         words_one(c, has == HARPTIMBER_NO_NAME ? "gone" : "no longer readable", &c->had, has);
     } else if (has == HARPTIMBER_PAST_END) {
@@ -337,7 +337,7 @@ static void words_refusal(const struct comparison *c)
     const struct card *card = c->side == HARPTIMBER_FRESH ? c->new : c->kept;
     show(stdout, c->side == NO_SIDE ? c->name : card->path);
     printf(": ");
-    show_answer(stdout, c->refusal, meaning_of(c->refusal), card, c->name);
+    show_answer(stdout, c->refusal, harptimber_answer_words(c->refusal), card, c->name);
     printf("\n");
 }
 

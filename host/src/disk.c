@@ -57,7 +57,7 @@ const uint8_t *disk_file(const struct card *card, const char *name)
     if (pulled.answer != HARPTIMBER_PAST_END && pulled.answer != HARPTIMBER_KIND_NOT_READ)
         return NULL;
     for (uint32_t i = 0; i < pulled.node_count; i++) {
-        uint32_t number = list_number(lists.nodes, i);
+        uint32_t number = harptimber_list_entry(lists.nodes, i);
         const uint8_t *node = disk_node(card, number);
         if (number != DISK_ROOT && node != NULL && disk32(node + DISK_FOOTER_INODE) == number)
             return node; /* others in the list are the root directory's */

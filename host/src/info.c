@@ -39,7 +39,7 @@ static void read_info(struct info *info, const struct card *card)
 
 static const char *meaning(uint32_t answer)
 {
-    return answer == HARPTIMBER_DATA ? "can be read" : meaning_of(answer);
+    return answer == HARPTIMBER_DATA ? "can be read" : harptimber_answer_words(answer);
 }
 
 /* Packs are looked at once a copy of the superblock says where they are. */

@@ -40,7 +40,7 @@ static void words_name(struct listing *listing, const struct listed *listed)
     printf("  ");
     show_bytes(stdout, listed->name, listed->len);
     printf(": ");
-    show_asked(stdout, told.answer, meaning_of(told.answer), &told.asked);
+    show_asked(stdout, told.answer, harptimber_answer_words(told.answer), &told.asked);
     printf("\n");
 }
 
@@ -69,7 +69,7 @@ static void json_listed(struct json *json, struct listing *listing, const struct
         json_string(json, "kind", kind_of(disk_inode_of(told.inode).mode));
         json_number(json, "size", disk_inode_of(told.inode).size);
     }
-    json_answer(json, told.answer, meaning_of(told.answer));
+    json_answer(json, told.answer, harptimber_answer_words(told.answer));
     json_asked(json, told.answer, &told.asked);
     json_close(json, '}');
 }
@@ -94,7 +94,7 @@ static void show_json(struct listing *listing)
 static void show_refusal(const struct request *request, const struct card *card, uint32_t answer)
 {
     if (request->json) {
-        struct json json = json_begin(stdout, "ls", answer, meaning_of(answer));
+        struct json json = json_begin(stdout, "ls", answer, harptimber_answer_words(answer));
         json_reason(&json, answer, card, NULL);
         json_string(&json, "image", card->path);
         json_end(&json);
@@ -102,7 +102,7 @@ static void show_refusal(const struct request *request, const struct card *card,
     }
     show(stdout, card->path);
     printf(": ");
-    show_answer(stdout, answer, meaning_of(answer), card, NULL);
+    show_answer(stdout, answer, harptimber_answer_words(answer), card, NULL);
     printf("\n");
 }
 

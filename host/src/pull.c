@@ -34,7 +34,7 @@ static void show_list(FILE *out, const char *what, const uint8_t *list, uint32_t
 {
     fprintf(out, "%s:", what);
     for (uint32_t i = 0; i < count; i++)
-        fprintf(out, " %" PRIu32, list_number(list, i));
+        fprintf(out, " %" PRIu32, harptimber_list_entry(list, i));
     fputc('\n', out);
 }
 
@@ -44,7 +44,7 @@ static void show_words(FILE *out, const struct pull *pull, bool lists)
     show(out, pull->name);
     fprintf(out, ", block %" PRIu32 ": ", pull->index);
     struct asked asked = pull_of(pull->card, pull->name, pull->index);
-    show_asked(out, pulled->answer, meaning_of(pulled->answer), &asked);
+    show_asked(out, pulled->answer, harptimber_answer_words(pulled->answer), &asked);
     if (is_block(pulled->answer)) {
         fputs(", ", out);
         show_count(out, pulled->byte_count, "byte");
@@ -67,7 +67,7 @@ static void json_list(struct json *json, const char *key, const uint8_t *list, u
 {
     json_open(json, key, '[');
     for (uint32_t i = 0; i < count; i++)
-        json_number(json, NULL, list_number(list, i));
+        json_number(json, NULL, harptimber_list_entry(list, i));
     json_close(json, ']');
 }
 
@@ -75,7 +75,7 @@ static void show_json(FILE *out, const struct pull *pull)
 {
     const struct harptimber_pulled *pulled = &pull->pulled;
     struct asked asked = pull_of(pull->card, pull->name, pull->index);
-    struct json json = json_begin(out, "pull", pulled->answer, meaning_of(pulled->answer));
+    struct json json = json_begin(out, "pull", pulled->answer, harptimber_answer_words(pulled->answer));
     json_asked(&json, pulled->answer, &asked);
     json_string(&json, "image", pull->card->path);
     json_name(&json, pull->name);

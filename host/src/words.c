@@ -11,11 +11,6 @@
 
 enum { GIB = 1 << 30 };
 
-const char *meaning_of(uint32_t answer)
-{
-    return harptimber_answer_words(answer);
-}
-
 const char *lookup_meaning_of(uint32_t answer)
 {
     switch (answer) {
@@ -26,7 +21,7 @@ const char *lookup_meaning_of(uint32_t answer)
     case HARPTIMBER_NO_NODE:
         return "out of range";
     default:
-        return meaning_of(answer);
+        return harptimber_answer_words(answer);
     }
 }
 

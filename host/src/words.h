@@ -8,10 +8,7 @@
 #include "card.h"
 #include "json.h"
 
-/* What an answer number means. */
-const char *meaning_of(uint32_t answer);
-
-/* The same for node and place, which read no file. */
+/* What an answer number means for node and place, which read no file. */
 const char *lookup_meaning_of(uint32_t answer);
 
 /* A call of the library, as far as its words need it. */
