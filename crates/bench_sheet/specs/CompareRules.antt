@@ -28,6 +28,9 @@ takes nodes n blocks b = yes (listsInShape main (listing (bytesOf nodes) n) (lis
 abbrev takesBlock : ℕ → ℕ
 takesBlock b = takes (3 ∷ []) 1 (b ∷ []) 1
 
+abbrev takesRest : ℕ → ℕ
+takesRest count = yes (listsInShape main (listing (bytesOf (3 ∷ [])) 1) (listing (bytesOf (4096 ∷ []) ++ (1 ∷ 16 ∷ 0 ∷ [])) count))
+
 -- ---- two cards: the tables differ at 5 and 7, blocks 4,100 and 4,200 in their last byte
 abbrev kept : View
 kept = record { table = λ n. Entry n 1; block = λ b. 1 ∷ 2 ∷ [] }
@@ -53,9 +56,10 @@ listRules =
     ∷ ((takes (3 ∷ []) 1 (4096 ∷ 4097 ∷ []) 2 ∷ takes (3 ∷ []) 1 (4096 ∷ 4096 ∷ []) 2 ∷ []) is (1 ∷ 0 ∷ []))
     -- only the entries up to the count are looked at
     ∷ ((takes (4 ∷ 3 ∷ []) 1 [] 0 ∷ takes (3 ∷ []) 1 (4096 ∷ 1 ∷ []) 1 ∷ []) is (1 ∷ 1 ∷ []))
-    -- "a count exceeds its slice"; "a remainder isn't used"
-    ∷ ((takes (3 ∷ []) 2 [] 0 ∷ takes (3 ∷ []) 1 (4096 ∷ []) 2 ∷ []) is (0 ∷ 0 ∷ []))
+    -- "a count exceeds its slice"; "a remainder isn't used": three bytes behind the last number would be 4, or 4,097, so that only the
+    -- count is at fault
     ∷ ((yes (listsInShape main (listing (bytesOf (3 ∷ []) ++ (4 ∷ 0 ∷ 0 ∷ [])) 2) (listing [] 0)) ∷ []) is (0 ∷ []))
+    ∷ ((takesRest 1 ∷ takesRest 2 ∷ []) is (1 ∷ 0 ∷ []))
     -- "a listed block lies outside the kept main area"
     ∷ (List.map takesBlock (4095 ∷ 4096 ∷ 25599 ∷ 25600 ∷ []) is (0 ∷ 1 ∷ 1 ∷ 0 ∷ []))
     ∷ []

@@ -102,6 +102,17 @@ pub struct Knobs {
 }
 
 impl Knobs {
+    /// A card with room everywhere, so that a small change breaks one rule and no other.
+    pub fn roomy() -> Knobs {
+        Knobs {
+            segment0: 5,
+            spare_segments: 2,
+            spare_blocks: 600,
+            spare_image_blocks: 600,
+            ..Knobs::sound()
+        }
+    }
+
     /// A sound card of 16 MB without any room to spare, with one pack.
     pub fn sound() -> Knobs {
         Knobs {

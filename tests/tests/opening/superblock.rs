@@ -84,17 +84,6 @@ fn run_in(settings: &[Setting], lookups: &mut Lookups, knobs: &Knobs, cases: &[C
     }
 }
 
-/// A card with room everywhere, so that a small change breaks one rule and no other.
-fn roomy() -> Knobs {
-    Knobs {
-        segment0: 5,
-        spare_segments: 2,
-        spare_blocks: 600,
-        spare_image_blocks: 600,
-        ..Knobs::sound()
-    }
-}
-
 /// What the copy has, by the knobs.
 fn built(knobs: &Knobs, field: Field) -> u64 {
     let fields = knobs.superblock_fields();
@@ -131,7 +120,7 @@ fn single_numbers() {
         let passing = passing.iter().map(|value| case(value, true));
         let failing = failing.iter().map(|value| case(value, false));
         let cases: Vec<Case> = passing.chain(failing).collect();
-        run(&mut lookups, &roomy(), &cases);
+        run(&mut lookups, &Knobs::roomy(), &cases);
     }
     lookups.finish(3 * 53, &[0, 5, 6]);
 }
@@ -141,7 +130,7 @@ fn every_bit_of_the_mark() {
     let mut lookups = Lookups::new("node lookup by the superblock's mark");
     let flipped = |bit| (vec![(MAGIC, F2FS_SUPER_MAGIC ^ (1u64 << bit))], false);
     let cases: Vec<Case> = (0..32).map(flipped).collect();
-    run(&mut lookups, &roomy(), &cases);
+    run(&mut lookups, &Knobs::roomy(), &cases);
     lookups.finish(3 * 32, &[5, 6]);
 }
 
@@ -167,7 +156,7 @@ fn sector_logs() {
         cases.push(logs(sector, per_block, false));
         cases.push(logs(per_block, sector, false));
     }
-    run(&mut lookups, &roomy(), &cases);
+    run(&mut lookups, &Knobs::roomy(), &cases);
     lookups.finish(3 * (17 * 17 + 6), &[0, 5, 6]);
 }
 
@@ -193,7 +182,7 @@ fn segment_counts() {
     ];
     for (knob, passing, failing) in rules {
         for count in passing.iter().chain(failing) {
-            let mut knobs = roomy();
+            let mut knobs = Knobs::roomy();
             *knob(&mut knobs) = *count;
             run_unchanged(&mut lookups, &knobs, passing.contains(count));
         }
@@ -218,7 +207,7 @@ fn start_of_segment_0() {
 #[test]
 fn starts_of_areas() {
     let mut lookups = Lookups::new("node lookup by starts of areas");
-    let knobs = roomy();
+    let knobs = Knobs::roomy();
     let mut cases = Vec::new();
     for by in [-512, -2, -1, 1, 2, 512] {
         for start in STARTS {
@@ -275,14 +264,14 @@ fn ends() {
 #[test]
 fn high_half_of_the_block_count() {
     let mut lookups = Lookups::new("node lookup by the block count's high half");
-    let good = built(&roomy(), BLOCK_COUNT);
+    let good = built(&Knobs::roomy(), BLOCK_COUNT);
     let high = (32..64).map(|bit| good | 1 << bit);
     let others = [u64::MAX, good << 32, good | good << 32];
     let cases: Vec<Case> = high
         .chain(others)
         .map(|count| (vec![(BLOCK_COUNT, count)], false))
         .collect();
-    run(&mut lookups, &roomy(), &cases);
+    run(&mut lookups, &Knobs::roomy(), &cases);
     lookups.finish(3 * 35, &[5, 6]);
 }
 
@@ -299,7 +288,7 @@ const COUNTS: [Field; 6] = [
 #[test]
 fn counts_that_wrap() {
     let mut lookups = Lookups::new("node lookup by counts that wrap");
-    let knobs = roomy();
+    let knobs = Knobs::roomy();
     let mut cases = Vec::new();
     for times in [1, 2, 3, 128, 255, 256, 511] {
         let wrapped = |field| moved(&knobs, field, times * WRAPS as i64);
@@ -320,7 +309,7 @@ fn counts_that_wrap() {
 #[test]
 fn starts_that_wrap() {
     let mut lookups = Lookups::new("node lookup by starts that wrap");
-    let knobs = roomy();
+    let knobs = Knobs::roomy();
     let mut cases = Vec::new();
     // An area that takes so many segments that the next one starts before it.
     let areas = [
@@ -351,7 +340,10 @@ fn starts_that_wrap() {
 fn features_and_payload_of_the_copy_used() {
     let mut lookups = Lookups::new("node lookup by feature and payload");
     for (copy, copies) in [(0, [true, false]), (0, [true, true]), (1, [false, true])] {
-        let mut image = Image::new(&Knobs { copies, ..roomy() });
+        let mut image = Image::new(&Knobs {
+            copies,
+            ..Knobs::roomy()
+        });
         for field in [FEATURE, CP_PAYLOAD] {
             for bit in 0..32 {
                 image.set(copy, field, 1 << bit);
@@ -376,7 +368,7 @@ fn features_and_payload_of_the_copy_used() {
 #[test]
 fn features_and_payload_of_the_other_copy() {
     let mut lookups = Lookups::new("node lookup by the other copy's feature and payload");
-    let mut image = Image::new(&roomy());
+    let mut image = Image::new(&Knobs::roomy());
     for field in [FEATURE, CP_PAYLOAD] {
         image.set(1, field, 1);
         lookups.expect(&image, NUMBER, 0);
@@ -394,7 +386,7 @@ fn features_and_payload_of_the_other_copy() {
 #[test]
 fn numbers_of_the_copy_used() {
     let mut lookups = Lookups::new("node lookup in copies that differ");
-    let knobs = roomy();
+    let knobs = Knobs::roomy();
     let past = knobs.node_numbers();
     let longer = Knobs {
         nat_segments: 4,

@@ -273,17 +273,6 @@ fn published_cards() {
     }
 }
 
-/// A card with room everywhere, so that a small change breaks one rule and no other.
-fn roomy() -> Knobs {
-    Knobs {
-        segment0: 5,
-        spare_segments: 2,
-        spare_blocks: 600,
-        spare_image_blocks: 600,
-        ..Knobs::sound()
-    }
-}
-
 /// Changes to a copy of that card's superblock, and why it doesn't pass by them.
 const COPY_RULES: [(Field, u64, &str); 24] = [
     (MAGIC, 1, "no F2FS mark"),
@@ -367,7 +356,7 @@ const COPY_RULES: [(Field, u64, &str); 24] = [
 /// In one copy or in both.
 #[test]
 fn superblock_rules() {
-    let mut disk = OnDisk::new(Image::new(&roomy()));
+    let mut disk = OnDisk::new(Image::new(&Knobs::roomy()));
     for (field, value, why) in COPY_RULES {
         for damaged in [&[0][..], &[1], &[0, 1]] {
             for &copy in damaged {
