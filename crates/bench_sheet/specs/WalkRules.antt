@@ -16,7 +16,8 @@ use Rattle.place.specs.Place.{placeOf}
 use Rattle.checkpoint.specs.declared.Volume.{Volume}
 use Rattle.nat.specs.declared.TableAnswer.{TableAnswer}
 use Rattle.nat.specs.declared.TableAnswer.the-variants.{OutOfRange, Entry}
-use Rattle.nat.specs.Entry.{entriesFrom, inJournal}
+use Rattle.journal.specs.Journal.{searchFrom, journalFind}
+use Rattle.nat.specs.Entry.{inJournal}
 use Rattle.nat.specs.Table.{inRange, tableAddress, entryIn, inTable, tableAnswer}
 use Rattle.walk.specs.Walk.{Walk, done, Outcome, ok, stop, Ran, empty, run, bind, onward, andThen}
 use Rattle.inode.specs.declared.Inode.{Inode}
@@ -322,7 +323,7 @@ pullRules =
     ∷ []
 
 pub lookup-rules : Holds lookupRules
-unfolding le16 le32 topBit bytesOf entriesFrom inJournal inRange tableAddress entryIn inTable tableAnswer
+unfolding le16 le32 topBit bytesOf searchFrom journalFind inJournal inRange tableAddress entryIn inTable tableAnswer
 lookup-rules = refl
 
 pub node-rules : Holds nodeRules

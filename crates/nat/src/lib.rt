@@ -51,16 +51,10 @@ pub fn journal_entry(journal: &[u8], number: u32) -> InJournal
     requires { ⌜ (496 ≤ length (now journal)) × (le16 (now journal) 0 ≤ 38) ⌝ }
     ensures { λ r. ⌜ r ≡ inJournal (now (journal .entry)) number ⌝ }
 {
-    let count = field::get16(journal, 0) as usize;
-    let mut left = count;
-    while 0 < left {
-        let at = 2 + 13 * (count - left);
-        if field::get32(journal, at) == number {
-            return InJournal::Held(inode_at(journal, at + 4), address_at(journal, at + 4));
-        }
-        left -= 1;
+    match journal::find_entry(journal, 13, number) {
+        journal::Sought::At(at) => InJournal::Held(inode_at(journal, at + 4), address_at(journal, at + 4)),
+        journal::Sought::Absent => InJournal::Absent,
     }
-    InJournal::Absent
 }
 
 fn journal_says(image: &[u8], v: checkpoint::Volume, number: u32) -> InJournal

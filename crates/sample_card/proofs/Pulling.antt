@@ -7,7 +7,8 @@ use Rattle.field.specs.Bytes.{sameAt}
 use Rattle.name_hash.specs.Hash.{halfRound, round, rounds, tea, pushAll, keyOf, absorb, hashOf}
 use Rattle.place.specs.Place.{placeOf}
 use Rattle.nat.specs.declared.TableAnswer.the-variants.{Entry}
-use Rattle.nat.specs.Entry.{entriesFrom, inJournal}
+use Rattle.journal.specs.Journal.{searchFrom, journalFind}
+use Rattle.nat.specs.Entry.{inJournal}
 use Rattle.nat.specs.Table.{inRange, tableAddress, entryIn, inTable, tableAnswer}
 use Rattle.inode.specs.Inode.{inodeOf, notInline, isDirectory, isRegular, addressesIn, isPast, countIn}
 use Rattle.list.specs.Lists.{bytesOf, insert}
@@ -24,7 +25,7 @@ use Rattle.sample_card.specs.Volume.{volume}
 
 -- the root's from the journal, the file's from the table
 pub table-entries : (tableAnswer card volume 3 ≡ Entry 3 3074) × (tableAnswer card volume 4 ≡ Entry 4 3076)
-unfolding blocks pack journal natBlock filled bytesOf le16 le32 topBit entriesFrom inJournal inRange tableAddress entryIn inTable tableAnswer
+unfolding blocks pack journal natBlock filled bytesOf le16 le32 topBit searchFrom journalFind inJournal inRange tableAddress entryIn inTable tableAnswer
 table-entries = (refl, refl)
 
 -- block 1 of the file; its block 0, a hole; block 2, past its end; a name that isn't there
@@ -38,7 +39,7 @@ unfolding
     blocks pack journal natBlock rootInode fileInode dentryBlock filled bytesOf
     le16 le32 le64 topBit lowBit sameAt
     halfRound round rounds tea pushAll keyOf absorb hashOf
-    placeOf entriesFrom inJournal inRange tableAddress entryIn inTable tableAnswer
+    placeOf searchFrom journalFind inJournal inRange tableAddress entryIn inTable tableAnswer
     inodeOf notInline isDirectory isRegular addressesIn isPast countIn
     insert run bind onward andThen
     inMain belongs atBlock atEntry nodeWalk isHole dataWalk wayWalk blockWalk
