@@ -1,4 +1,5 @@
-//! A plain second reading of the F2FS rules in document 01, to compare against.
+//! A plain second reading of the F2FS rules in document 01, and of the requests in document 02
+//! that have landed, to compare against.
 //!
 //! One module per topic; each uses only the ones above it.
 
@@ -12,6 +13,7 @@ pub mod open;
 pub mod lookup;
 pub mod pull;
 pub mod compare;
+pub mod segments;
 
 #[cfg(test)]
 mod sample;

@@ -25,6 +25,13 @@ pub struct Volume<'a> {
     pub main_start: u32,
     /// First block after the main area.
     pub main_end: u32,
+    pub main_segments: u32,
+    pub sit_address: u32,
+    pub sit_segments: u32,
+    pub sit_map: &'a [u8],
+    /// The rest of a block from the SIT journal's count on. Opening leaves the count unchecked:
+    /// its 8 "is only for calls that read SIT entries".
+    pub sit_journal: &'a [u8],
     pub nat_address: u32,
     pub nat_segments: u32,
     pub nat_map: &'a [u8],
@@ -55,13 +62,19 @@ pub fn open(image: &[u8]) -> Result<Volume<'_>, u32> {
         return Err(6);
     }
     let pack = chosen_pack(image, &superblock).ok_or(7u32)?;
-    let nat_map = nat_map(image, &superblock, &pack).ok_or(8u32)?;
-    let journal = journal(image, &pack).ok_or(8u32)?;
+    let (sit_map, nat_map) = maps(image, &superblock, &pack).ok_or(8u32)?;
+    let (nat_place, sit_place) = journal_places(image, &pack).ok_or(8u32)?;
+    let journal = nat_journal(nat_place).ok_or(8u32)?;
     Ok(Volume {
         image,
         main_start: superblock.main_address,
         // At most the image's blocks, so it fits.
         main_end: superblock.main_end() as u32,
+        main_segments: superblock.main_segments,
+        sit_address: superblock.sit_address,
+        sit_segments: superblock.sit_segments,
+        sit_map,
+        sit_journal: sit_place,
         nat_address: superblock.nat_address,
         nat_segments: superblock.nat_segments,
         nat_map,
@@ -256,8 +269,8 @@ fn checkpoint_block_passes(block: &[u8]) -> bool {
     le32(block, 164) as usize == CHECKSUM_AT && le32(block, CHECKSUM_AT) == checksum(covered)
 }
 
-/// The NAT map of the chosen pack; `None` if the maps make the pack unreadable.
-fn nat_map<'a>(image: &'a [u8], superblock: &Superblock, pack: &Pack) -> Option<&'a [u8]> {
+/// The SIT and NAT maps of the chosen pack; `None` if they make the pack unreadable.
+fn maps<'a>(image: &'a [u8], superblock: &Superblock, pack: &Pack) -> Option<(&'a [u8], &'a [u8])> {
     let first = block(image, pack.start);
     // "Answer 8 if the large map is set"
     if le32(first, 132) & LARGE_NAT_MAP != 0 {
@@ -277,14 +290,23 @@ fn nat_map<'a>(image: &'a [u8], superblock: &Superblock, pack: &Pack) -> Option<
         return None;
     }
     // "The SIT map starts at 192, the NAT map after it."
-    let start = (MAPS_AT + sit_size) as usize;
-    first.get(start..start + nat_size as usize)
+    let both = first.get(MAPS_AT as usize..(MAPS_AT + sit_size + nat_size) as usize)?;
+    both.split_at_checked(sit_size as usize)
 }
 
-/// The NAT journal's entries; `None` if the journal block is out of place or counts too many.
-fn journal<'a>(image: &'a [u8], pack: &Pack) -> Option<&'a [u8]> {
-    let (journal_block, at) = journal_place(block(image, pack.start), pack.total)?;
-    let journal = block(image, pack.start + journal_block).get(at..)?;
+/// The bytes of the chosen pack that start with the NAT journal and those that start with the SIT
+/// journal; `None` if the journal block is out of place.
+fn journal_places<'a>(image: &'a [u8], pack: &Pack) -> Option<(&'a [u8], &'a [u8])> {
+    let first = block(image, pack.start);
+    let (nat_block, nat_at) = journal_place(first, pack.total)?;
+    let (sit_block, sit_at) = sit_journal_place(first, nat_block);
+    let nat = block(image, pack.start + nat_block).get(nat_at..)?;
+    let sit = block(image, pack.start + sit_block).get(sit_at..)?;
+    Some((nat, sit))
+}
+
+/// The NAT journal's entries; `None` if it counts too many.
+fn nat_journal(journal: &[u8]) -> Option<&[u8]> {
     // "A journal is a 16-bit count, at most 38 (else 8), then 13-byte entries"
     let count = usize::from(le16(journal, 0));
     if count > JOURNAL_MOST {
@@ -293,7 +315,7 @@ fn journal<'a>(image: &'a [u8], pack: &Pack) -> Option<&'a [u8]> {
     journal.get(2..2 + count * JOURNAL_ENTRY_SIZE)
 }
 
-/// The journal's block within the pack and its first byte there.
+/// The NAT journal's block within the pack and its first byte there.
 fn journal_place(first: &[u8], total: u64) -> Option<(u64, usize)> {
     let flags = le32(first, 132);
     // "Compact: the journal block is the start-of-summaries number (140), 1 to total − 2; NAT
@@ -307,6 +329,17 @@ fn journal_place(first: &[u8], total: u64) -> Option<(u64, usize)> {
     let back = if flags & (UNMOUNT | FASTBOOT) != 0 { 7 } else { 4 };
     let summary = total.checked_sub(back)?;
     (summary >= 1).then_some((summary, 3584))
+}
+
+/// The same for the SIT journal: "Compact packs hold that journal at byte 507, others at 3,584 of
+/// the summary two blocks after hot data." Hot data's summary is the journal block. Plain packs
+/// have it at total − 4 or before, so two blocks on is still in the pack.
+fn sit_journal_place(first: &[u8], journal_block: u64) -> (u64, usize) {
+    if le32(first, 132) & COMPACT != 0 {
+        (journal_block, 507)
+    } else {
+        (journal_block + 2, 3584)
+    }
 }
 
 #[cfg(test)]
@@ -410,6 +443,26 @@ mod tests {
         assert_eq!(journal_place(&first, 5), None);
         first[140] = 0;
         assert_eq!(journal_place(&first, 2), None);
+    }
+
+    #[test]
+    fn sit_journal_places() {
+        let mut first = vec![0; 4096];
+        assert_eq!(sit_journal_place(&first, 4), (6, 3584));
+        first[132] = 0x21;
+        assert_eq!(sit_journal_place(&first, 1), (3, 3584));
+        first[132] = 0x25;
+        assert_eq!(sit_journal_place(&first, 1), (1, 507));
+    }
+
+    #[test]
+    fn sit_map_before_the_nat_map() {
+        let mut sample = Sample::new();
+        sample.put(FIRST_PACK, 192 + 63, &[1, 2]);
+        sample.seal(FIRST_PACK);
+        let volume = open(&sample.bytes).unwrap();
+        assert_eq!((volume.sit_map.len(), volume.sit_map[63]), (64, 1));
+        assert_eq!((volume.nat_map.len(), volume.nat_map[0]), (64, 2));
     }
 
     #[test]

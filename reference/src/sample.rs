@@ -93,6 +93,27 @@ impl Sample {
         }
     }
 
+    /// A SIT entry in a slot of a table block.
+    pub fn put_sit(&mut self, table_block: usize, slot: usize, entry: &[u8; 74]) {
+        self.put(table_block, slot * 74, entry);
+    }
+
+    /// A SIT journal of segment numbers with their entries, from byte `at` of a block.
+    pub fn put_sit_journal(&mut self, block: usize, at: usize, entries: &[(u32, [u8; 74])]) {
+        self.put16(block, at, entries.len() as u16);
+        for (position, (segment, entry)) in entries.iter().enumerate() {
+            let at = at + 2 + 78 * position;
+            self.put32(block, at, *segment);
+            self.put(block, at + 4, entry);
+        }
+    }
+
+    /// Sets the first pack's flags.
+    pub fn put_flags(&mut self, flags: u32) {
+        self.put32(FIRST_PACK, 132, flags);
+        self.seal(FIRST_PACK);
+    }
+
     /// A node's table entry (numbers below 455) and footer.
     pub fn put_node(&mut self, number: u32, inode: u32, place: u32, address: u32) {
         self.put_nat(NAT, number as usize, inode, address);
@@ -118,4 +139,16 @@ impl Sample {
         self.put16(block, entry + 8, name.len() as u16);
         self.put(block, 2384 + 8 * slot, name);
     }
+}
+
+/// A SIT entry's bytes: the word, a map with its lowest `ones` bits set, and a time of ones that
+/// nobody may count.
+pub fn sit_entry(word: u16, ones: usize) -> [u8; 74] {
+    let mut entry = [0xFF; 74];
+    entry[..2].copy_from_slice(&word.to_le_bytes());
+    entry[2..66].fill(0);
+    for bit in 0..ones {
+        entry[2 + bit / 8] |= 1 << (bit % 8);
+    }
+    entry
 }

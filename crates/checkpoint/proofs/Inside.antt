@@ -30,7 +30,7 @@ use Rattle.checkpoint.specs.Volume.{mapsReadable, volumeOf, journalOf, j
 use Rattle.checkpoint.specs.Volume.{opened, openedImage, PlacesIn, VolumeIn}
 use Rattle.checkpoint.proofs.Choosing.{chosen-passes}
 use Rattle.checkpoint.proofs.Passing.{passing-total}
-use Rattle.checkpoint.proofs.Reading.{journal-starts, map-inside, journal-inside}
+use Rattle.checkpoint.proofs.Reading.{journal-starts, map-starts, map-inside, cold-inside, journal-inside}
 use Rattle.checkpoint.proofs.Ways.{maps-refuse, journal-refuses, pack-opens, shape-refuses, shape-opens}
 
 -- an opening is an answer from 5 to 8, or a volume inside the card
@@ -57,8 +57,10 @@ module _ (card : Card) (a : Areas) (areas : AreasIn (card .blocks) a) where
         record {
           areasIn = areas;
           packInside = omega arith;
+          mapStarts = map-starts a header m;
           mapInside = map-inside a header m;
           journalInside = omega (arith, passing-total card start p, journal-inside a header m);
+          coldInside = λ e. omega (arith, passing-total card start p, cold-inside a header m e);
           journalStarts = journal-starts header;
         }
 

@@ -1,7 +1,7 @@
 -- Opening a card: the volume that its superblock and its chosen pack describe, or the answer 5 to 8.
 use mathlib.Core.Path.{_≡_}
 use mathlib.Core.List.{List}
-use mathlib.Core.Bool.{Bool, _&&_, not}
+use mathlib.Core.Bool.{Bool, false, _&&_, not}
 use mathlib.Core.Logic.{_⊎_}
 use Prim.Native.Nat.{ℕ, _+_, _*_, _≤_, _<_}
 use lib.ListN.{length, drop}
@@ -22,7 +22,7 @@ use Rattle.checkpoint.specs.declared.Opening.{Opening}
 use Rattle.checkpoint.specs.declared.Opening.the-variants.{Opened, Refused}
 use Rattle.checkpoint.specs.Checkpoint.{headerOf}
 use Rattle.checkpoint.specs.Pack.{chosen}
-use Rattle.checkpoint.specs.Journal.{largeNatMap, journalIn, journalPlaced, journalAt}
+use Rattle.checkpoint.specs.Journal.{flagSet, largeNatMap, journalIn, journalPlaced, journalAt}
 
 -- "The SIT map starts at 192, the NAT map after it"
 abbrev pub natMapAt : Checkpoint → ℕ
@@ -79,12 +79,19 @@ opened card = openAreas card (found card)
 unfoldable pub openedImage : List ℕ → Opening
 openedImage image = choose (inShape (length image)) (opened (cardOf image)) (Refused 4)
 
--- what holds of an opened volume on a card of so many blocks: what node lookup and a walk read lies inside the card
+-- the chosen pack is compact
+abbrev pub isCompact : Volume → Bool
+isCompact v = flagSet (v .flags) 4
+
+-- what holds of an opened volume on a card of so many blocks: what node lookup, a walk and a reader of SIT entries read lies inside
+-- the card. A pack that isn't compact has a block for each summary: cold data's is the second behind hot data's, the journal block
 pub record PlacesIn (blocks : ℕ) (v : Volume) : Type 0 where
   pub areasIn : AreasIn blocks (v .areas)
   pub packInside : v .pack < blocks
+  pub mapStarts : v .«nat_map» ≡ 192 + 32 * v .areas .«sit_segments»
   pub mapInside : v .«nat_map» + 32 * v .areas .«nat_segments» ≤ 4092
   pub journalInside : v .«journal_block» < blocks
+  pub coldInside : isCompact v ≡ false → v .«journal_block» + 2 < blocks
   pub journalStarts : (v .«journal_at» ≡ 0) ⊎ (v .«journal_at» ≡ 3584)
 
 -- and what the card holds there is readable

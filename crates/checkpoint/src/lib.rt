@@ -16,7 +16,7 @@ ghost use Rattle.checkpoint.specs.Volume.{mapsReadable, volumeOf, journa
 // The flags of a pack.
 const UNMOUNT: u32 = 1;
 
-const COMPACT: u32 = 4;
+pub const COMPACT: u32 = 4;
 
 const FASTBOOT: u32 = 32;
 
@@ -171,7 +171,7 @@ fn choose_pack(image: &[u8], address: u32) -> Chosen
     }
 }
 
-fn flag_set(flags: u32, one: u32) -> bool
+pub fn flag_set(flags: u32, one: u32) -> bool
     requires { ⌜ 0 < one ⌝ }
     ensures { λ r. ⌜ r ≡ flagSet flags one ⌝ }
 {
