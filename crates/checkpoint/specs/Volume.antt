@@ -84,14 +84,15 @@ abbrev pub isCompact : Volume → Bool
 isCompact v = flagSet (v .flags) 4
 
 -- what holds of an opened volume on a card of so many blocks: what node lookup, a walk and a reader of SIT entries read lies inside
--- the card. A pack that isn't compact has a block for each summary: cold data's is the second behind hot data's, the journal block
+-- the card. A pack that isn't compact has a block for each summary: cold data's is the second behind hot data's, which is the journal
+-- block
 pub record PlacesIn (blocks : ℕ) (v : Volume) : Type 0 where
   pub areasIn : AreasIn blocks (v .areas)
   pub packInside : v .pack < blocks
   pub mapStarts : v .«nat_map» ≡ 192 + 32 * v .areas .«sit_segments»
   pub mapInside : v .«nat_map» + 32 * v .areas .«nat_segments» ≤ 4092
   pub journalInside : v .«journal_block» < blocks
-  pub coldInside : isCompact v ≡ false → v .«journal_block» + 2 < blocks
+  pub coldInside : isCompact v ≡ false → v .«journal_block» + 2 < v .areas .sit
   pub journalStarts : (v .«journal_at» ≡ 0) ⊎ (v .«journal_at» ≡ 3584)
 
 -- and what the card holds there is readable

@@ -1,0 +1,3 @@
+pub mod Counting
+pub mod Openings
+pub mod Inside

@@ -1,0 +1,3 @@
+pub mod Entry
+pub mod Table
+pub mod Opening
