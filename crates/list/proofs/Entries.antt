@@ -3,7 +3,7 @@ use Prim.Native.Nat.{ℕ, zero, suc, _+_, _-_, _*_, _≤_, _<_}
 use mathlib.Core.Path.{_≡_, refl, ap, sym, subst, _∙_}
 use mathlib.Core.List.{List, [], _∷_, _++_, append-assoc, append-nil}
 use native.Mathlib.Omega.{arith}
-use lib.ListN.{length, drop, length-append}
+use lib.ListN.{length, drop, length-append, length-set}
 use lib.Seq.{drop-drop}
 use Rattle.field.specs.Number.{le32, put32At}
 use Rattle.list.specs.declared.Spot.{Spot}
@@ -108,7 +108,7 @@ module _ (l : List ℕ) (n x : ℕ) where
 -- ---- the shift
 
 -- after a store at entry i: the run up to it, and a run after it
-put-front : (l : List ℕ) (i x : ℕ) → 4 * (i + 1) ≤ length l → numbers (put32At l (4 * i) x) 0 (i + 1) ≡ numbers l 0 i ++ (x ∷ [])
+pub put-front : (l : List ℕ) (i x : ℕ) → 4 * (i + 1) ≤ length l → numbers (put32At l (4 * i) x) 0 (i + 1) ≡ numbers l 0 i ++ (x ∷ [])
 put-front l i x h =
     let s : numbers (put32At l (4 * i) x) 0 i ≡ numbers l 0 i =
     numbers-same l (put32At l (4 * i) x) 0 i (λ j p q. le32-other l (4 * i) x (4 * j) (λ a b c d e. omega arith)) in
@@ -187,6 +187,11 @@ drop-more l d a b h e =
 
 pub grown-same : (l : List ℕ) (n : ℕ) → Grown l n l n
 grown-same l n = record { more = omega arith; rest = refl; size = refl }
+
+-- a store behind the first n
+pub put-grown : (l : List ℕ) (n x : ℕ) → Grown l n (put32At l (4 * n) x) (n + 1)
+unfolding put32At
+put-grown l n x = record { more = omega arith; rest = drop-put l (4 * n) x (4 * (n + 1)) (omega arith); size = simp length-set }
 
 pub grown-on : {d l m : List ℕ} {n p q : ℕ} → Grown d n l p → Grown l p m q → Grown d n m q
 grown-on {d = d} {l = l} {p = p} {q = q} g h = record {
