@@ -121,6 +121,16 @@ pub rising-front : (a b : List ℕ) → Rising (a ++ b) → Rising a
 rising-front [] b h = tt
 rising-front (x ∷ a) b h = (all-front (λ y. x < y) a b (h .0), rising-front a b (h .1))
 
+-- one number more at the end
+pub all-behind : (P : ℕ → Type 0) (a : List ℕ) (x : ℕ) → AllOf P a → P x → AllOf P (a ++ (x ∷ []))
+all-behind P [] x h p = (p, tt)
+all-behind P (y ∷ a) x h p = (h .0, all-behind P a x (h .1) p)
+
+-- a number above all others, behind them
+pub rising-behind : (a : List ℕ) (x : ℕ) → Rising a → AllOf (λ y. y < x) a → Rising (a ++ (x ∷ []))
+rising-behind [] x r h = (tt, tt)
+rising-behind (y ∷ a) x r h = (all-behind (λ z. y < z) a x (r .0) (h .0), rising-behind a x (r .1) (h .1))
+
 -- its last number is above all others
 rising-last : (a : List ℕ) (y : ℕ) → Rising (a ++ (y ∷ [])) → AllOf (λ z. z < y) a
 rising-last [] y h = tt
