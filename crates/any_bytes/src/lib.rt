@@ -35,3 +35,7 @@ pub fn compare(
 ) -> compare::Compared {
     harptimber::harptimber_compare(kept, fresh, nodes, node_count, blocks, block_count)
 }
+
+pub fn segment_report(image: &[u8], list: &mut [u8]) -> segment_report::Segments {
+    harptimber::harptimber_segment_report(image, list)
+}

@@ -8,6 +8,7 @@ ghost use Rattle.nat.specs.Lookup.{tableNumbers, lookupOf};
 ghost use Rattle.pull.specs.Pull.{lending, result, pulled};
 ghost use Rattle.list.specs.Lists.{listing};
 ghost use Rattle.compare.specs.Compare.{compared};
+ghost use Rattle.segment_report.specs.Report.{reported, segmentReport};
 ghost use Rattle.harptimber.specs.NameHash.{nameHash};
 ghost use Rattle.harptimber.specs.FilePlace.{crossing, placed, filePlace};
 
@@ -147,4 +148,11 @@ pub extern "C" fn harptimber_compare(
         (listing (now (blocks .entry)) «block_count») ⌝ }
 {
     compare::compare(kept, fresh, nodes, node_count, blocks, block_count)
+}
+
+#[no_mangle]
+pub extern "C" fn harptimber_segment_report(image: &[u8], list: &mut [u8]) -> segment_report::Segments
+    ensures { λ r. ⌜ reported r (now (list .exit)) ≡ segmentReport (now (image .entry)) (now (list .entry)) ⌝ }
+{
+    segment_report::report(image, list)
 }
