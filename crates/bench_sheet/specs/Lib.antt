@@ -3,4 +3,5 @@ pub mod Volume004
 pub mod Sheet
 pub mod OpeningRules
 pub mod WalkRules
+pub mod SegmentRules
 pub mod CompareRules
