@@ -151,7 +151,10 @@ pub extern "C" fn harptimber_compare(
 }
 
 #[no_mangle]
-pub extern "C" fn harptimber_segment_report(image: &[u8], list: &mut [u8]) -> segment_report::Segments
+pub extern "C" fn harptimber_segment_report(
+    image: &[u8],
+    list: &mut [u8],
+) -> segment_report::Segments
     ensures { λ r. ⌜ reported r (now (list .exit)) ≡ segmentReport (now (image .entry)) (now (list .entry)) ⌝ }
 {
     segment_report::report(image, list)

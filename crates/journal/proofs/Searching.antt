@@ -12,7 +12,6 @@ use lib.Dec.{eqb}
 use borrow.Author.Tests.{eq-eqb, ne-eqb}
 use Rattle.field.specs.Number.{le16, le32}
 use Rattle.field.proofs.Choosing.{either}
-use Rattle.journal.specs.declared.Sought.{Sought}
 use Rattle.journal.specs.declared.Sought.the-variants.{At, Absent}
 use Rattle.journal.specs.Journal.{entryStart, searchFrom, journalFind}
 

@@ -52,7 +52,10 @@ pub fn journal_entry(journal: &[u8], number: u32) -> InJournal
     ensures { λ r. ⌜ r ≡ inJournal (now (journal .entry)) number ⌝ }
 {
     match journal::find_entry(journal, 13, number) {
-        journal::Sought::At(at) => InJournal::Held(inode_at(journal, at + 4), address_at(journal, at + 4)),
+        journal::Sought::At(at) => InJournal::Held(
+            inode_at(journal, at + 4),
+            address_at(journal, at + 4),
+        ),
         journal::Sought::Absent => InJournal::Absent,
     }
 }

@@ -9,7 +9,7 @@ use lib.Seq.{take-at, drop-append-add, drop-nil}
 use Rattle.field.specs.Card.{cardOf, blockOf}
 use Rattle.superblock.specs.Shape.{inShape}
 use Rattle.list.specs.Lists.{bytesOf}
-use Rattle.sample_card.specs.Image.{filled, zeros, superblock, pack, journal, natBlock, rootInode, fileInode, dentryBlock, dataBlock}
+use Rattle.sample_card.specs.Image.{filled, zeros, superblock, pack, journal, sitBlock, natBlock, rootInode, fileInode, dentryBlock, dataBlock}
 use Rattle.sample_card.specs.Image.{mainArea, blocks, joined, image, card}
 
 -- ---- any blocks
@@ -47,10 +47,10 @@ unfolding rootInode fileInode dentryBlock dataBlock filled bytesOf
 main-whole = refl then refl then refl then refl then whole-run 508 zeros zeros-length none
 
 blocks-whole : Whole blocks
-unfolding blocks superblock pack journal natBlock filled bytesOf
+unfolding blocks superblock pack journal sitBlock natBlock filled bytesOf
 blocks-whole =
-    refl then refl then refl then refl then refl then whole-run 2045 zeros zeros-length
-    (refl then whole-run 1023 zeros zeros-length main-whole)
+    refl then refl then refl then refl then refl then whole-run 1021 zeros zeros-length
+    (refl then whole-run 1023 zeros zeros-length (refl then whole-run 1023 zeros zeros-length main-whole))
 
 image-length : length image ≡ 14688256
 unfolding image blocks

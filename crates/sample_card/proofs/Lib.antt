@@ -3,4 +3,5 @@ mod ZeroRuns
 mod Checksum
 mod Opening
 mod Pulling
+mod Reporting
 pub mod Theorems

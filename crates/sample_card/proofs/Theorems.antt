@@ -1,6 +1,6 @@
 -- Some card opens, and a pull on it answers 0: the definitions don't refuse everything. Each theorem is stated of the image's bytes,
 -- over the definitions that the contracts cite; all numbers are computed by them, the checksum and the name's hash too.
-use Prim.Native.Nat.{ℕ}
+use Prim.Native.Nat.{ℕ, _/_, _≤_}
 use mathlib.Core.Path.{_≡_, refl, ap, _∙_}
 use mathlib.Core.Bool.{true}
 use mathlib.Core.List.{List, [], _∷_, _++_}
@@ -10,7 +10,11 @@ use Rattle.checkpoint.specs.declared.Opening.the-variants.{Opened}
 use Rattle.checkpoint.specs.Volume.{opened, openedImage}
 use Rattle.name_hash.specs.Name.{nameBytes, isName}
 use Rattle.nat.specs.Lookup.{tableNumbers, lookupOf}
-use Rattle.list.specs.Lists.{over}
+use Rattle.list.specs.Lists.{bytesOf, over}
+use Rattle.sit.specs.Opening.{openedWithSit}
+use Rattle.sit.proofs.Openings.{journal-opens}
+use Rattle.segment_report.specs.Report.{reported, offOn, reportOf, segmentReport}
+use Rattle.segment_report.proofs.Ends.{made}
 use Rattle.walk.specs.Walk.{Ran, Outcome}
 use Rattle.pull.specs.Walk.{Block}
 use Rattle.pull.specs.Pull.{Lent, lending, Result, result, lentInShape, written, pullRun, pulled}
@@ -20,6 +24,7 @@ use Rattle.sample_card.specs.Volume.{volume}
 use Rattle.sample_card.proofs.Joined.{image-shape, image-card}
 use Rattle.sample_card.proofs.Opening.{card-opens}
 use Rattle.sample_card.proofs.Pulling.{table-entries, walks}
+use Rattle.sample_card.proofs.Reporting.{sit-journal-readable, segments}
 
 pub some-card-opens : openedImage image ≡ Opened volume
 unfolding openedImage
@@ -70,3 +75,12 @@ module _ (lent : Lent) (fits : lentInShape lent ≡ true) where
   pub past-the-end-answers-3 : pulled image name 2 lent ≡ leaves 3 0 (lent .block) (3 ∷ 4 ∷ []) (3074 ∷ 3075 ∷ 3076 ∷ []) lent
   unfolding nameBytes
   past-the-end-answers-3 = walk-leaves name 2 _ refl (walks .2)
+
+-- ---- Segment report: the one main segment has a list's room of one number; its count isn't off, and four of its blocks are valid
+opens-with-sit : openedWithSit image ≡ Opened volume
+opens-with-sit = journal-opens image volume some-card-opens (rw image-card sit-journal-readable)
+
+pub a-report-answers-0 : (list : List ℕ) → 1 ≤ length list / 4
+    → segmentReport image list ≡ reported (record { answer = 0; count = 0; «valid_blocks» = 4 }) list
+unfolding reportOf offOn over bytesOf
+a-report-answers-0 list h = made image list volume opens-with-sit h ∙ rw (image-card, segments .0, segments .1)

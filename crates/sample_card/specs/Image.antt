@@ -1,4 +1,4 @@
--- One small card, written out: 3,586 blocks, of which ten hold something. Its root directory has one file, "brake.log", of 4,103
+-- One small card, written out: 3,586 blocks, of which eleven hold something. Its root directory has one file, "brake.log", of 4,103
 -- bytes: a hole, and seven bytes in its block 1. Offsets are document 01's.
 use Prim.Native.Nat.{ℕ, _+_, _-_}
 use mathlib.Core.List.{List, [], _∷_, _++_}
@@ -76,6 +76,10 @@ pack =
 unfoldable pub journal : List ℕ
 journal = filled 0 (at 0 (1 ∷ 0 ∷ []) ∷ numbersAt 2 (3 ∷ []) ∷ numbersAt 7 (3 ∷ 3074 ∷ []) ∷ [])
 
+-- the first block of the SIT has the entry of the one main segment: its first four blocks are valid
+unfoldable pub sitBlock : List ℕ
+sitBlock = filled 0 (at 0 (4 ∷ 0 ∷ 0xF0 ∷ []) ∷ [])
+
 -- the first block of the NAT has one more: the file, inode 4, is at block 3076
 unfoldable pub natBlock : List ℕ
 natBlock = filled 0 (numbersAt 37 (4 ∷ 3076 ∷ []) ∷ [])
@@ -123,9 +127,13 @@ mainArea = rootInode ∷ dentryBlock ∷ fileInode ∷ dataBlock ∷ replicate 5
 abbrev pub fromNat : List (List ℕ)
 fromNat = natBlock ∷ (replicate 1023 zeros ++ mainArea)
 
+-- from the SIT on, block 1026
+abbrev pub fromSit : List (List ℕ)
+fromSit = sitBlock ∷ (replicate 1023 zeros ++ fromNat)
+
 -- all blocks in order: both copies of the superblock, the checkpoint pack from block 2 on, and the rest
 unfoldable pub blocks : List (List ℕ)
-blocks = superblock ∷ superblock ∷ pack ∷ journal ∷ pack ∷ (replicate 2045 zeros ++ fromNat)
+blocks = superblock ∷ superblock ∷ pack ∷ journal ∷ pack ∷ (replicate 1021 zeros ++ fromSit)
 
 -- one block behind the other
 unfoldable pub joined : List (List ℕ) → List ℕ

@@ -2,21 +2,20 @@
 -- the contract cites.
 use Prim.Native.Nat.{ℕ, zero, suc, _/_, _*_, _<_, _≤_}
 use native.Mathlib.Omega.{arith}
-use native.Mathlib.Nat.{lt-of-not-le}
 use native.Mathlib.Numerals.{add-one}
-use mathlib.Core.Path.{_≡_, refl, sym, subst, ap, _∙_}
+use mathlib.Core.Path.{_≡_, refl}
 use mathlib.Core.Bool.{true, false}
 use mathlib.Core.Logic.{_⊎_, inl, inr, ⊎-elim, _↔_}
 use mathlib.Core.List.{List, [], _∷_, _++_, List·Memᴰ, List·Memᴰ·head, List·Memᴰ·not-nil, Memᴰ·append-left, Memᴰ·append-right}
 use lib.ListN.{length}
 use lib.Dec.{eqb, leb}
 use borrow.Author.Tests.{leb-true, leb-false, eqb-true, eqb-false, not-true, not-false}
-use Rattle.field.specs.Card.{Card, cardOf}
+use Rattle.field.specs.Card.{cardOf}
 use Rattle.field.proofs.Choosing.{either}
 use Rattle.checkpoint.specs.declared.Volume.{Volume}
 use Rattle.checkpoint.specs.declared.Opening.{Opening}
 use Rattle.checkpoint.specs.declared.Opening.the-variants.{Opened, Refused}
-use Rattle.list.specs.Lists.{Rising, AllOf, Listed, listing, numbers, entries}
+use Rattle.list.specs.Lists.{Rising, AllOf, listing, numbers, entries}
 use Rattle.list.proofs.Rises.{all-map, all-mem, all-behind, rising-behind}
 use Rattle.list.proofs.Written.{numbers-over}
 use Rattle.sit.specs.Entry.{validCount, mapOnes}
@@ -113,6 +112,7 @@ module _ (entry : ℕ → List ℕ) where
           (λ t. absurd (List·Memᴰ·not-nil (rw e at (off-exactly n s .1 (h, eqb-false _ _ t)))))
           (either (eqb (validCount (entry s)) (mapOnes (entry s))))
       agrees (x ∷ xs) e z s h = absurd (omega arith)
+
       none : (l : List ℕ) → segmentsOff entry n ≡ l → ((s : ℕ) → s < n → validCount (entry s) ≡ mapOnes (entry s)) → length l ≡ 0
       none [] e f = refl
       none (x ∷ xs) e f =

@@ -17,7 +17,13 @@ pub struct Segments {
 }
 
 // One segment more: its ones are added, and it is listed if its count is off.
-fn add_segment(image: &[u8], v: checkpoint::Volume, list: &mut [u8], tally: Segments, segment: u32) -> Segments
+fn add_segment(
+    image: &[u8],
+    v: checkpoint::Volume,
+    list: &mut [u8],
+    tally: Segments,
+    segment: u32,
+) -> Segments
     requires { ⌜ SitIn (cardOf (now image)) v ⌝ }
     requires { ⌜ (segment < v .areas .«main_segments») × (4 * v .areas .«main_segments» ≤ length (now list)) ⌝ }
     requires { ⌜ (tally .count ≤ segment) × (tally .«valid_blocks» ≤ 512 * segment) ⌝ }

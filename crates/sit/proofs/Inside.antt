@@ -3,7 +3,7 @@ use mathlib.Core.Path.{_≡_, refl}
 use mathlib.Core.Bool.{true, false}
 use mathlib.Core.List.{List}
 use mathlib.Core.Logic.{⊎-elim}
-use Prim.Native.Nat.{ℕ, _+_, _*_, _/_, _%_, _≤_, _<_}
+use Prim.Native.Nat.{ℕ, _+_, _*_, _%_, _≤_, _<_}
 use native.Mathlib.Omega.{arith}
 use lib.ListN.{length, drop, length-drop}
 use lib.Seq.{length-take-le}
@@ -19,7 +19,7 @@ use Rattle.journal.specs.declared.Sought.{Sought}
 use Rattle.journal.specs.declared.Sought.the-variants.{At, Absent}
 use Rattle.journal.specs.Journal.{entryStart, journalFind}
 use Rattle.journal.proofs.Searching.{found-inside}
-use Rattle.sit.specs.Table.{sitJournalOf, tableBlock, copyAddress, sitMapOf, tableAddress, entryAt, inTable, orTable, sitEntry}
+use Rattle.sit.specs.Table.{sitJournalOf, tableBlock, sitMapOf, tableAddress, entryAt, inTable, orTable, sitEntry}
 use Rattle.sit.specs.Opening.{SitIn}
 
 -- ---- the table

@@ -1,13 +1,12 @@
 -- Opening for SIT entries: the ways that it goes, what is known of a volume that was opened so, and the answers that refuse an image.
-use mathlib.Core.Path.{_≡_, refl, sym, ap, _∙_}
+use mathlib.Core.Path.{_≡_, refl}
 use mathlib.Core.Bool.{true, false}
 use mathlib.Core.List.{List}
 use mathlib.Core.Logic.{⊎-elim}
 use Prim.Native.Nat.{ℕ, _≤_}
 use native.Mathlib.Omega.{arith}
 use borrow.Author.Tests.{leb-true}
-use Rattle.field.specs.Number.{le16}
-use Rattle.field.specs.Card.{Card, cardOf}
+use Rattle.field.specs.Card.{cardOf}
 use Rattle.field.proofs.Choosing.{either}
 use Rattle.superblock.proofs.Shaped.{shape-card}
 use Rattle.checkpoint.specs.declared.Volume.{Volume}
@@ -16,7 +15,7 @@ use Rattle.checkpoint.specs.declared.Opening.the-variants.{Opened, Refused}
 use Rattle.checkpoint.specs.Volume.{openedImage}
 use Rattle.checkpoint.proofs.Inside.{image-shaped, image-volume, refusals}
 use Rattle.sit.specs.Table.{sitJournalOf}
-use Rattle.sit.specs.Opening.{journalReadable, withSit, openedWithSit, SitIn}
+use Rattle.sit.specs.Opening.{journalReadable, openedWithSit, SitIn}
 
 module _ (image : List ℕ) where
   abbrev journal : Volume → List ℕ

@@ -1,13 +1,11 @@
 // The segment information table (SIT): a main segment's entry, by the journal first and then by the table.
 // What each means is in specs/: Entry, Table, Opening.
 ghost use mathlib.Core.Path.{_≡_};
-ghost use mathlib.Core.Bool.{false};
 ghost use Prim.Native.Nat.{_+_, _*_, _≤_, _<_};
 ghost use lib.ListN.{length};
 ghost use Rattle.field.specs.Map.{topBit};
 ghost use Rattle.field.specs.Card.{cardOf};
-ghost use Rattle.superblock.specs.Areas.{AreasIn};
-ghost use Rattle.checkpoint.specs.Volume.{isCompact, PlacesIn};
+ghost use Rattle.checkpoint.specs.Volume.{PlacesIn};
 ghost use Rattle.sit.specs.Entry.{validCount, onesBelow};
 ghost use Rattle.sit.specs.Table.{sitJournalOf, copyAddress, sitMapIn, inTable, sitEntry};
 ghost use Rattle.sit.specs.Opening.{journalReadable, openedWithSit, SitIn};

@@ -1,6 +1,6 @@
 use borrow.Author.Needs.{needs}
 use native.Mathlib.Omega.{arith}
-use mathlib.Core.Path.{_≡_, _∙_, sym}
+use mathlib.Core.Path.{_∙_, sym}
 use Rattle.journal.proofs.Searching.{Searching, search-starts, search-over, entry-inside, search-found, search-passed}
 use Rattle.journal.proofs.find_entry.Statement.{statement}
 use Rattle.journal.proofs.find_entry.Tie as tie

@@ -1,7 +1,7 @@
 use borrow.Author.Needs.{needs}
 use native.Mathlib.Omega.{arith}
 use denote.Ref.{now}
-use mathlib.Core.Path.{_≡_, refl}
+use mathlib.Core.Path.{_≡_}
 use Prim.Native.Nat.{_+_, _-_, _*_, _%_, _<_}
 use Rattle.field.specs.Card.{Card, cardOf}
 use Rattle.field.proofs.Blocks.{length-of-block}
@@ -61,7 +61,8 @@ returns : tie.Need-returns
 unfolding inTable
 returns c =
     let at = c .before .before in
-    let e : 74 * (at .before .before .before .before .args .segment % 55) + 74 - 74 * (at .before .before .before .before .args .segment % 55) ≡ 74 = omega arith in
+    let start = 74 * (at .before .before .before .before .args .segment % 55) in
+    let e : start + 74 - start ≡ 74 = omega arith in
     rw (e, c .before .block-at2 .ensures, addressed at)
 
 pub table-entry-spec : {M : Type 1} → statement M
