@@ -49,7 +49,7 @@ static void read_report(struct report *report)
 
 static const char *meaning(uint32_t answer)
 {
-    return answer == HARPTIMBER_DATA ? "counted" : harptimber_answer_words(answer);
+    return answer == HARPTIMBER_DATA ? "can be read" : harptimber_answer_words(answer);
 }
 
 /* So much of a list is shown. */
