@@ -50,7 +50,7 @@ uint32_t sit_journal_count(const struct opening *opening, const struct card *car
     return opens(opening) ? disk16(journal_of(opening, card)) : 0;
 }
 
-/* The table's entries of all segments. Returns false if one isn't on the card, as after a change to its superblock meanwhile. */
+/* The table's entries of all segments. Returns false if one isn't on the card. */
 static bool read_table(struct sit *sit, const struct opening *opening, const struct card *card, const uint8_t *superblock)
 {
     const uint8_t *copies = disk_block(card, opening->pack_first) + COPIES_AT;
@@ -85,6 +85,7 @@ bool sit_read(struct sit *sit, const struct opening *opening, const struct card 
     uint32_t count = sit_journal_count(opening, card);
     if (!opens(opening) || count > SIT_JOURNAL_MOST)
         return false;
+    /* Where the card is changed meanwhile, its superblock may say anything by now. */
     const uint8_t *superblock = disk_superblock(card, (uint32_t)opening->copy_in_use);
     sit->segments = disk_area_segments(superblock, DISK_MAIN);
     if (sit->segments > HARPTIMBER_SEGMENTS_MOST || !read_table(sit, opening, card, superblock))

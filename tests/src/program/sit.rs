@@ -24,7 +24,7 @@ const VBLOCKS: Field = Field {
 const COUNT_BITS: u64 = 0x3FF;
 
 /// A segment's entry: how many valid blocks it counts, which its map marks, and what isn't consulted.
-#[derive(Clone, Debug, PartialEq, Eq)]
+#[derive(Clone, Copy, Debug, PartialEq, Eq)]
 pub struct Entry {
     pub count: u32,
     pub map: [u8; MAP_SIZE],

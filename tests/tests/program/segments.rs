@@ -15,9 +15,9 @@ use harptimber_tests::program::segments::Segments;
 use harptimber_tests::program::sit::{packs, reported, Entry, Sit};
 use harptimber_tests::program::special_build::SpecialBuild;
 use harptimber_tests::program::{ran, run, run_on_terminal, run_on_terminal_after, Ran, Words};
-use harptimber_tests::sizes::SEGMENTS_MOST;
+use harptimber_tests::sizes::{CARD_BLOCKS_MOST, SEGMENTS_MOST};
 use harptimber_tests::tools::outside::CardFile;
-use harptimber_tests::tools::published::{self, contents, filled_with, formatted};
+use harptimber_tests::tools::published::{self, contents, filled_with, formatted, Scratch};
 use harptimber_tests::trial::Random;
 
 /// A card with so many main segments and zeros in its SIT: each is empty, and counts nothing.
@@ -158,21 +158,23 @@ fn no_main_segments() {
     assert_eq!(on_terminal.words(), ran.words());
 }
 
-/// As many main segments as there can be, each of them off.
+/// As many main segments as there can be, each of them off, and a journal that names one more.
 #[test]
 fn largest_card() {
-    let knobs = Knobs {
+    let of = |segments| Knobs {
         ssa_segments: 0,
-        ..card_of(SEGMENTS_MOST)
+        ..card_of(segments)
     };
-    let mut card = Put::new(&knobs);
+    assert!(of(SEGMENTS_MOST + 1).image_blocks() > CARD_BLOCKS_MOST);
+    let mut card = Put::new(&of(SEGMENTS_MOST));
     for segment in 0..SEGMENTS_MOST {
         card.put(segment, &Entry::new(segment + 1, segment));
     }
+    let behind = [(SEGMENTS_MOST, Entry::new(1, 0)); 6];
+    card.sit.put_journal(&mut card.disk.image, &behind);
     card.expect();
-    let json = run(&[&"segments", &"--json", &card.disk.path()])
-        .expect(1)
-        .json();
+    let words: Words = &[&"segments", &"--json", &card.disk.path()];
+    let json = SpecialBuild::sanitized().run(words).expect(1).json();
     assert_eq!(json["count"].number(), 505);
 }
 
@@ -519,6 +521,21 @@ fn expect_bare_words(ran: &Ran, told: &[u32], valid: &str, agrees: bool) {
     assert_eq!(words.contains('%'), agrees, "of {ran:?}");
     let more = words.contains("  2 more segments; --json has all\n");
     assert_eq!(more, told.len() == 12, "of {ran:?}");
+}
+
+/// Also where the program sees no card at all.
+#[test]
+fn library_against_no_card() {
+    let build = SpecialBuild::with_any_answer();
+    let scratch = Scratch::new();
+    let path = scratch.path("zeros.img");
+    for len in [1, 4096, 8192, 1 << 20] {
+        std::fs::write(&path, vec![0; len]).unwrap();
+        let mut command = build.command(&[&"segments", &path]);
+        let variables = [("ANY_ANSWER", "0"), ("ANY_LIST", "7"), ("ANY_VALID", "2")];
+        let ran = ran(command.envs(variables), Stdio::piped()).expect(1);
+        expect_bare_words(&ran, &[7], "2", false);
+    }
 }
 
 /// A refusal that the program finds no reason for.
