@@ -1,7 +1,7 @@
 /*
  * Harptimber: a proved library for reading F2FS cards. It pulls one block of a named file from a card
  * image, lists what the answer rested on, and says from those lists whether another image gives the
- * same answer.
+ * same answer. It also says which segments' valid counts are off.
  *
  * Link with -lharptimber, as `pkg-config --libs harptimber` says. A call keeps nothing for the next one
  * and touches only the memory that it is lent.
@@ -42,9 +42,9 @@ extern "C" {
 
 /* The version of this header, and of the library that is installed with it. */
 #define HARPTIMBER_VERSION_MAJOR 0
-#define HARPTIMBER_VERSION_MINOR 1
+#define HARPTIMBER_VERSION_MINOR 2
 #define HARPTIMBER_VERSION_PATCH 0
-#define HARPTIMBER_VERSION "0.1.0"
+#define HARPTIMBER_VERSION "0.2.0"
 
 enum {
     /* Of what is asked: a card's blocks, and a name's bytes. */
@@ -56,7 +56,15 @@ enum {
     HARPTIMBER_NODES_MOST = 179,
     HARPTIMBER_BLOCKS_MOST = 238,
     HARPTIMBER_NODES_BYTES = 4 * HARPTIMBER_NODES_MOST,
-    HARPTIMBER_BLOCKS_BYTES = 4 * HARPTIMBER_BLOCKS_MOST
+    HARPTIMBER_BLOCKS_BYTES = 4 * HARPTIMBER_BLOCKS_MOST,
+    /*
+     * The most main segments that a card has, 505, and the bytes to lend for a list of all of them. Before
+     * the main area lie at least the two copies of the superblock, a block each, and two segments each of
+     * checkpoint, SIT and NAT.
+     */
+    HARPTIMBER_SEGMENT_BLOCKS = 512,
+    HARPTIMBER_SEGMENTS_MOST = (HARPTIMBER_CARD_BLOCKS_MOST - 2) / HARPTIMBER_SEGMENT_BLOCKS - 6,
+    HARPTIMBER_SEGMENTS_BYTES = 4 * HARPTIMBER_SEGMENTS_MOST
 };
 
 /* What an answer number means, harptimber_answer_words says. */
@@ -88,11 +96,11 @@ static inline const char *harptimber_answer_words(uint32_t answer)
         /*  1 */ "hole: zeros",
         /*  2 */ "no such name in the root directory",
         /*  3 */ "past the end of the file",
-        /*  4 */ "out of shape: the image's length, the name or A",
+        /*  4 */ "out of shape: the image's length, the name, A or a list",
         /*  5 */ "neither copy of the superblock passes",
         /*  6 */ "the card has features or a payload, which aren't read",
         /*  7 */ "neither checkpoint pack passes",
-        /*  8 */ "the checkpoint pack in use has its maps or journal out of place",
+        /*  8 */ "the checkpoint pack in use has its maps or a journal out of place",
         /*  9 */ "a node number out of range or not in use",
         /* 10 */ "a node's address lies outside the main area",
         /* 11 */ "a node block belongs elsewhere",
@@ -227,6 +235,28 @@ struct harptimber_compared harptimber_compare(const uint8_t *kept, size_t kept_l
                                               size_t fresh_len, const uint8_t *nodes, size_t nodes_len,
                                               uint32_t node_count, const uint8_t *blocks,
                                               size_t blocks_len, uint32_t block_count);
+
+/* The result of harptimber_segment_report. */
+struct harptimber_segments {
+    uint32_t answer;       /* HARPTIMBER_DATA, or 4 to 8 */
+    uint32_t count;        /* how many segments were listed */
+    uint32_t valid_blocks; /* the ones in the maps of all main segments */
+};
+
+/*
+ * Which main segments' valid counts are off: that isn't the number of ones in the segment's map. Count
+ * and map are those of its SIT entry, from the SIT journal if that has one for the segment, else from
+ * the table copy in use.
+ *
+ * `list` has at least four bytes a main segment; HARPTIMBER_SEGMENTS_BYTES are always enough. With
+ * HARPTIMBER_DATA it holds the numbers of the segments that are off, rising, as many as `count`, the
+ * first main segment being 0; entries behind them, and with 4 to 8 the whole list, are untouched.
+ *
+ * 4 is answered, first, for the image's length; then 5 to 8 as by a pull, and 8 also for a SIT journal
+ * that counts more than 6 entries; then 4 for a list that is too short.
+ */
+struct harptimber_segments harptimber_segment_report(const uint8_t *image, size_t image_len, uint8_t *list,
+                                                     size_t list_len);
 
 #ifdef __cplusplus
 }

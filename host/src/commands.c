@@ -63,6 +63,16 @@ const struct command commands[] = {
      "  4  neither card has the name\n"
      "     With several names it is the highest of theirs.\n",
      run_compare},
+    {"segments", "IMAGE", 1, 1, A_PART | TAKES(JSON),
+     "which segments' valid counts are off, and how full the card is",
+     "Say which main segments of the card IMAGE are off: the valid count in the segment's SIT entry isn't\n"
+     "the number of blocks that the entry's map marks. Such a card may seem full and have room, or the\n"
+     "other way round; fsck.f2fs -f counts anew. Then say how many of all blocks are valid; on a terminal\n"
+     "a line of bars shows how they lie.\n",
+     "  0  no segment is off\n"
+     "  1  some are\n"
+     "  2  the card can't be read\n",
+     run_segments},
     {"node", "IMAGE NUMBER", 2, 2, A_PART | TAKES(JSON),
      "a node's entry in the node address table",
      "Say what the node address table of the card IMAGE, with its journal, has for node NUMBER.\n",

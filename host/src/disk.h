@@ -77,7 +77,7 @@ enum { DISK_AREAS = 5, DISK_CHECKPOINT = 0, DISK_SIT = 1, DISK_NAT = 2, DISK_MAI
 
 extern const struct disk_area disk_areas[DISK_AREAS];
 
-enum { DISK_SEGMENT_BLOCKS = 512 };
+enum { DISK_SEGMENT_BLOCKS = HARPTIMBER_SEGMENT_BLOCKS };
 
 /* An area's first block, its segments, and the first block behind it, by a superblock. */
 uint32_t disk_area_first(const uint8_t *superblock, int area);

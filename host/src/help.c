@@ -37,7 +37,7 @@ void show_overview(FILE *out)
     show_option(out, 0, "version", NULL, "print the version");
     fputs("Options may stand anywhere; behind -- every word is a name or a number.\n\n"
           "'harptimber COMMAND --help' is that command's own page.\n\n"
-          "Exit status: 0 read or still good, 1 changed, 2 refused, 3 usage, 4 no such name on either card.\n", out);
+          "Exit status: 0 read or still good, 1 changed or off, 2 refused, 3 usage, 4 no such name on either card.\n", out);
 }
 
 void show_page(FILE *out, const struct command *command)

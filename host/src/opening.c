@@ -173,38 +173,36 @@ static bool maps_pass(const uint8_t *superblock, const uint8_t *first, char *why
     return true;
 }
 
-/* The block of the NAT journal, counted in its pack, and the journal's first byte there. */
-struct journal_place {
-    uint32_t block;
-    size_t at;
-};
-
-static bool journal_is_in_place(const uint8_t *first, const struct opening_pack *pack, struct journal_place *place, char *why)
+/* Puts both journals' places: a compact pack has them in one block, others in the summaries of hot and of cold data. */
+static bool journals_are_in_place(struct opening *opening, const uint8_t *first)
 {
+    const struct opening_pack *pack = &opening->packs[opening->pack_in_use];
     uint32_t start = disk32(first + 140), total = pack->total;
     bool clean = (pack->flags & (DISK_UNMOUNT | DISK_FASTBOOT)) != 0;
     uint32_t from_end = clean ? 7 : 4;
-    *place = (struct journal_place){start, 0};
-    if ((pack->flags & DISK_COMPACT) != 0)
+    if ((pack->flags & DISK_COMPACT) != 0) {
+        opening->nat_journal = (struct journal_place){opening->pack_first + start, 0};
+        opening->sit_journal = (struct journal_place){opening->pack_first + start, 507};
         return (start >= 1 && start <= total - 2) ||
-               because(why, "the journal block is out of place: cp_pack_start_sum is %" PRIu32 " in a pack of %" PRIu32
-                            " blocks", start, total);
-    *place = (struct journal_place){total - from_end, 3584};
+               because(opening->why, "the journal block is out of place: cp_pack_start_sum is %" PRIu32
+                                     " in a pack of %" PRIu32 " blocks", start, total);
+    }
+    uint32_t hot_data = opening->pack_first + total - from_end;
+    opening->nat_journal = (struct journal_place){hot_data, 3584};
+    opening->sit_journal = (struct journal_place){hot_data + 2, 3584};
     return total > from_end ||
-           because(why, "the journal block is out of place: the pack has %" PRIu32 " blocks, and it lies %" PRIu32
-                        " before the end", total, from_end);
+           because(opening->why, "the journal block is out of place: the pack has %" PRIu32 " blocks, and it lies %" PRIu32
+                                 " before the end", total, from_end);
 }
 
-static bool pack_is_readable(const struct card *card, const uint8_t *superblock, const struct opening_pack *pack,
-                             uint32_t first, char *why)
+static bool pack_is_readable(struct opening *opening, const struct card *card, const uint8_t *superblock)
 {
-    struct journal_place place;
-    const uint8_t *block = disk_block(card, first);
-    if (!maps_pass(superblock, block, why) || !journal_is_in_place(block, pack, &place, why))
+    const uint8_t *first = disk_block(card, opening->pack_first);
+    if (!maps_pass(superblock, first, opening->why) || !journals_are_in_place(opening, first))
         return false;
-    const uint8_t *journal = disk_block(card, first + place.block);
-    uint16_t count = journal == NULL ? 0 : disk16(journal + place.at);
-    return count <= 38 || because(why, "the NAT journal counts %" PRIu16 " entries, at most 38 fit", count);
+    const uint8_t *journal = disk_block(card, opening->nat_journal.block);
+    uint16_t count = journal == NULL ? 0 : disk16(journal + opening->nat_journal.at);
+    return count <= 38 || because(opening->why, "the NAT journal counts %" PRIu16 " entries, at most 38 fit", count);
 }
 
 /* Reads both packs, and returns which is in use: the one with the greater version, or the first of two alike. */
@@ -249,10 +247,8 @@ static uint32_t judge(struct opening *opening, const struct card *card)
         because_both(opening->why, "pack", packs[0].why, packs[1].why);
         return HARPTIMBER_NO_CHECKPOINT;
     }
-    const struct opening_pack *used = &packs[opening->pack_in_use];
-    first += (uint32_t)opening->pack_in_use * DISK_SEGMENT_BLOCKS;
-    bool readable = pack_is_readable(card, superblock, used, first, opening->why);
-    return readable ? HARPTIMBER_DATA : HARPTIMBER_UNREADABLE;
+    opening->pack_first = first + (uint32_t)opening->pack_in_use * DISK_SEGMENT_BLOCKS;
+    return pack_is_readable(opening, card, superblock) ? HARPTIMBER_DATA : HARPTIMBER_UNREADABLE;
 }
 
 void opening_read(struct opening *opening, const struct card *card)

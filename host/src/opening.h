@@ -24,6 +24,12 @@ struct opening_pack {
     char why[WHY_ROOM];
 };
 
+/* Where a journal starts: its block on the card, and its first byte there. */
+struct journal_place {
+    uint32_t block;
+    size_t at;
+};
+
 enum { NONE_IN_USE = -1 };
 
 struct opening {
@@ -33,6 +39,8 @@ struct opening {
     int copy_in_use;
     struct opening_pack packs[2]; /* read if a copy is in use */
     int pack_in_use;
+    uint32_t pack_first;                           /* the first block of the pack in use, */
+    struct journal_place nat_journal, sit_journal; /* and its journals, if the card opens */
     char why[WHY_ROOM]; /* of answers 5 to 8: the reason, in plain text; empty if there are no words for it */
 };
 

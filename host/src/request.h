@@ -6,7 +6,7 @@
 #include <stdint.h>
 
 /* What the program ends with; the man page promises these. */
-enum status { DONE = 0, CHANGED = 1, REFUSED = 2, MISUSED = 3, NOT_FOUND = 4 };
+enum status { DONE = 0, CHANGED = 1, OFF = 1, REFUSED = 2, MISUSED = 3, NOT_FOUND = 4 };
 
 struct request {
     const char *command;
@@ -23,6 +23,7 @@ enum status run_ls(const struct request *request);
 enum status run_pull(const struct request *request);
 enum status run_cat(const struct request *request);
 enum status run_compare(const struct request *request);
+enum status run_segments(const struct request *request);
 enum status run_node(const struct request *request);
 enum status run_place(const struct request *request);
 enum status run_hash(const struct request *request);

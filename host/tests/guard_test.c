@@ -9,9 +9,12 @@
  *     pull NAME INDEX ANSWER KEPT FRESH      a pull's answer, and those of compares with the sound image
  *                                            that have the damaged one as the kept and as the new one
  *     node NUMBER ANSWER
- *     cut LEN NAME INDEX ANSWER              a pull from the first bytes of the image
+ *     segments COUNT ANSWER                  a segment report with room in its list for so many main segments,
+ *                                            which is just enough, with a little more, and with less
+ *     cut LEN NAME INDEX ANSWER              a pull and a report from the first bytes of the image
  *     plant SLICE NAME INDEX                 a pull of data with that slice shorter than the call is told,
  *                                            which has to end in a fault
+ *     plant_report SLICE                     the same for a report that lists a segment
  *     unset                                  a compare with lists that were never written, for valgrind
  *
  * Bytes and names are in hexadecimal behind an x. `guard_test heap SCRIPT` has each slice on the heap
@@ -27,17 +30,19 @@
 #define BLOCK_SIZE ((size_t)HARPTIMBER_BLOCK_BYTES)
 #define LEAST_NODES ((size_t)HARPTIMBER_NODES_BYTES)
 #define LEAST_BLOCKS ((size_t)HARPTIMBER_BLOCKS_BYTES)
+#define PATTERN 0xA5
 #define COUNT_OF(array) (sizeof(array) / sizeof *(array))
 
 /* What a call is lent and told, and what it returned. Each call takes some of it. */
 struct call {
-    struct slice image, fresh, name, block, nodes, blocks;
+    struct slice image, fresh, name, block, nodes, blocks, list;
     uint32_t index, node_count, block_count;
     struct harptimber_pulled pulled;
     struct harptimber_compared compared;
     struct harptimber_entry entry;
     struct harptimber_hashed hashed;
     struct harptimber_place place;
+    struct harptimber_segments segments;
 };
 
 static size_t line_number; /* of the script; 0 outside */
@@ -76,10 +81,16 @@ static void make_place(void *with)
     c->place = harptimber_file_place(c->name.len % 2 == 0 ? 873 : 923, c->index);
 }
 
+static void make_report(void *with)
+{
+    struct call *c = with;
+    c->segments = harptimber_segment_report(c->image.bytes, c->image.len, c->list.bytes, c->list.len);
+}
+
 /* Says where a call went wrong, and which slice was left if one was. */
 static void say(const char *what, const struct call *c, int faulted)
 {
-    const struct slice *slices[] = {&c->image, &c->fresh, &c->name, &c->block, &c->nodes, &c->blocks};
+    const struct slice *slices[] = {&c->image, &c->fresh, &c->name, &c->block, &c->nodes, &c->blocks, &c->list};
     printf("FAILED %s, line %zu of the script, slices %s guard pages", what, line_number,
            placement == BEHIND_GUARD ? "behind" : "before");
     for (size_t i = 0; faulted && i < COUNT_OF(slices); i++) {
@@ -114,7 +125,7 @@ static void use(const uint8_t *bytes, size_t len)
 {
     static volatile unsigned used;
     for (size_t i = 0; i < len; i++)
-        if (bytes[i] == 0xA5)
+        if (bytes[i] == PATTERN)
             used++;
 }
 
@@ -224,6 +235,44 @@ static void look_up_nodes(const struct call *pull)
     }
 }
 
+/* Whether a report's list is as it was behind what was listed. On the heap it was never written. */
+static int rest_stays(const struct call *c)
+{
+    for (size_t i = 4 * c->segments.count; placement != ON_HEAP && i < c->list.len; i++)
+        if (c->list.bytes[i] != PATTERN)
+            return 0;
+    return 1;
+}
+
+/* A report with so many bytes lent for its list. What is refused can't write to them. */
+static void expect_report(struct slice image, size_t list_len, uint32_t answer)
+{
+    struct call c = {.image = image, .list = lend("segment list", list_len)};
+    if (placement != ON_HEAP && list_len != 0)
+        memset(c.list.bytes, PATTERN, list_len);
+    if (refused(answer))
+        seal(&c.list);
+    if (stays_inside("segment report", make_report, &c)) {
+        expect("segment report", &c, c.segments.answer, answer);
+        use(c.list.bytes, 4 * c.segments.count);
+        if (fails(rest_stays(&c)))
+            say("segment report, which writes behind its count", &c, 0);
+    }
+    give_back(&c.list);
+}
+
+/* Lists around the least that is enough for so many main segments, and none at all. */
+static void expect_reports(struct slice image, size_t count, uint32_t answer)
+{
+    size_t least_list = 4 * count;
+    uint32_t if_short = refused(answer) || count == 0 ? answer : HARPTIMBER_OUT_OF_SHAPE;
+    expect_report(image, least_list, answer);
+    expect_report(image, least_list + 3, answer);
+    expect_report(image, HARPTIMBER_SEGMENTS_BYTES, answer);
+    expect_report(image, 0, if_short);
+    expect_report(image, count == 0 ? 3 : least_list - 1, if_short);
+}
+
 static unsigned turn; /* so that pulls take turns in what else is tried with them */
 
 static void expect_odd_room(struct call *c, uint32_t answer)
@@ -289,6 +338,7 @@ static void run_cut(size_t len, struct slice name, uint32_t index, uint32_t answ
 {
     struct slice cut = copied("image", damaged.bytes, len);
     struct call c = {.image = cut, .name = name, .index = index};
+    expect_report(cut, HARPTIMBER_SEGMENTS_BYTES, refused(answer) ? answer : ANY);
     expect_pull(&c, &least, answer);
     look_up_nodes(&c);
     expect_compare(&c, damaged, &nothing, ANY);
@@ -316,7 +366,17 @@ static size_t last_block(const struct call *c)
     return harptimber_list_entry(c->blocks.bytes, c->pulled.block_count - 1);
 }
 
-/* A pull that is told more than there is of one slice, which has to end in a fault. */
+/* A call that leaves one slice has to end in a fault. */
+static void expect_noticed(const char *which, void (*make)(void *), struct call *c)
+{
+    int faulted = faults(make, c);
+    /* On the heap valgrind notices it. The first bytes of an image decide nothing. */
+    int noticed = placement == BEFORE_GUARD || (placement == BEHIND_GUARD && strcmp(which, "image") != 0);
+    if (noticed && fails(faulted))
+        printf("FAILED to notice a call that leaves the %s\n", which);
+}
+
+/* A pull that is told more than there is of one slice. */
 static void run_plant(const char *which, struct slice name, uint32_t index)
 {
     struct call c = {.image = damaged, .name = name, .index = index};
@@ -337,11 +397,26 @@ static void run_plant(const char *which, struct slice name, uint32_t index)
     for (size_t i = 0; i < COUNT_OF(plants); i++)
         if (strcmp(which, plants[i].name) == 0)
             *plants[i].slice = shorter(plants[i].slice, plants[i].len);
-    int faulted = faults(make_pull, &c);
-    /* On the heap valgrind notices it. The first bytes of an image decide nothing. */
-    int noticed = placement == BEFORE_GUARD || (placement == BEHIND_GUARD && strcmp(which, "image") != 0);
-    if (noticed && fails(faulted))
-        printf("FAILED to notice a pull that leaves the %s\n", which);
+    expect_noticed(which, make_pull, &c);
+}
+
+/* Where the superblock has the first block of the SIT area. */
+#define SIT_ADDRESS_AT (1024 + 80)
+
+/* The same for a report. Its image ends where the SIT table starts, its list inside the last number that is written. */
+static void run_plant_report(const char *which)
+{
+    struct call c = {.image = damaged, .list = lend("segment list", HARPTIMBER_SEGMENTS_BYTES)};
+    make_report(&c);
+    if (fails(c.segments.count != 0)) {
+        printf("FAILED: no segment is listed\n");
+        return;
+    }
+    if (strcmp(which, "image") == 0)
+        c.image = shorter(&c.image, BLOCK_SIZE * harptimber_list_entry(c.image.bytes + SIT_ADDRESS_AT, 0));
+    else
+        c.list = shorter(&c.list, 4 * c.segments.count - 1);
+    expect_noticed(which, make_report, &c);
 }
 
 /* A compare with lists that were never written, for valgrind to notice. */
@@ -459,6 +534,10 @@ static void run_line(char *text)
         run_undo();
     } else if (strcmp(command, "unset") == 0) {
         run_unset();
+    } else if (strcmp(command, "plant_report") == 0 && line.words[1] != NULL) {
+        run_plant_report(line.words[1]);
+    } else if (strcmp(command, "segments") == 0) {
+        expect_reports(damaged, number(&line, 1), number(&line, 2));
     } else if (strcmp(command, "node") == 0) {
         struct call c = {.image = damaged, .index = number(&line, 1)};
         if (stays_inside("node lookup", make_lookup, &c))
@@ -562,6 +641,7 @@ static void test_zeros(void)
         int shaped = len % BLOCK_SIZE == 0 && len >= 2 * BLOCK_SIZE;
         uint32_t answer = shaped ? HARPTIMBER_NO_SUPERBLOCK : HARPTIMBER_OUT_OF_SHAPE;
         run_pull(name, 0, answer, answer, answer);
+        expect_reports(damaged, 1, answer);
         give_back(&sound);
         give_back(&damaged);
     }
@@ -586,6 +666,7 @@ static void test_nulls(void)
     struct call c = {.image = copied("image", zeros, sizeof zeros), .name = copied("name", (const uint8_t *)"x", 1)};
     c.fresh = c.image;
     lend_room(&c, &least);
+    c.list = lend("segment list", HARPTIMBER_SEGMENTS_BYTES);
     struct slice *pulled[] = {&c.image, &c.name, &c.block, &c.nodes, &c.blocks};
     for (size_t i = 0; i < COUNT_OF(pulled); i++)
         expect_null("pull", make_pull, &c, pulled[i], &c.pulled.answer, HARPTIMBER_OUT_OF_SHAPE);
@@ -595,8 +676,11 @@ static void test_nulls(void)
         expect_null("compare", make_compare, &c, lists[i], &c.compared.answer, HARPTIMBER_NO_SUPERBLOCK);
     }
     expect_null("node lookup", make_lookup, &c, &c.image, &c.entry.answer, HARPTIMBER_OUT_OF_SHAPE);
+    expect_null("segment report", make_report, &c, &c.image, &c.segments.answer, HARPTIMBER_OUT_OF_SHAPE);
+    expect_null("segment report", make_report, &c, &c.list, &c.segments.answer, HARPTIMBER_NO_SUPERBLOCK);
     expect_null("name hash", make_hash, &c, &c.name, &c.hashed.answer, HARPTIMBER_OUT_OF_SHAPE);
     give_room_back(&c);
+    give_back(&c.list);
     give_back(&c.name);
     give_back(&c.image);
 }

@@ -1,12 +1,7 @@
 /* Looks up nodes from C, in images that are too short or empty: each is refused whatever the number. */
 #include <inttypes.h>
-#include <stdlib.h>
 
-#include "check.h"
-#include "harptimber.h"
-
-#define BLOCK_SIZE ((size_t)HARPTIMBER_BLOCK_BYTES)
-#define MOST_BLOCKS ((size_t)HARPTIMBER_CARD_BLOCKS_MOST)
+#include "zeros.h"
 
 static void expect_refusal(const uint8_t *image, size_t len, uint32_t number, uint32_t answer)
 {
@@ -27,20 +22,5 @@ static void expect_refusals(const uint8_t *zeros, size_t len, uint32_t answer)
 
 int main(void)
 {
-    /* Memory that is never touched costs nothing, so that this may be a gigabyte. */
-    uint8_t *zeros = calloc(MOST_BLOCKS + 1, BLOCK_SIZE);
-    if (zeros == NULL) {
-        fails(0);
-        printf("FAILED to get memory for an image\n");
-        return finish();
-    }
-    expect_refusals(zeros, 0, HARPTIMBER_OUT_OF_SHAPE);
-    expect_refusals(zeros, BLOCK_SIZE, HARPTIMBER_OUT_OF_SHAPE);
-    expect_refusals(zeros, 2 * BLOCK_SIZE - 1, HARPTIMBER_OUT_OF_SHAPE);
-    expect_refusals(zeros, 2 * BLOCK_SIZE, HARPTIMBER_NO_SUPERBLOCK);
-    expect_refusals(zeros, 2 * BLOCK_SIZE + 1, HARPTIMBER_OUT_OF_SHAPE);
-    expect_refusals(zeros, MOST_BLOCKS * BLOCK_SIZE, HARPTIMBER_NO_SUPERBLOCK);
-    expect_refusals(zeros, (MOST_BLOCKS + 1) * BLOCK_SIZE, HARPTIMBER_OUT_OF_SHAPE);
-    free(zeros);
-    return finish();
+    return refuse_zeros(expect_refusals);
 }

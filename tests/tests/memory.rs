@@ -9,6 +9,7 @@ use harptimber_tests::calls::pulls::{lists, Call};
 use harptimber_tests::cards::card::{Card, ROOT};
 use harptimber_tests::cards::damage::Damage;
 use harptimber_tests::cards::directory::{in_slot, Dentry};
+use harptimber_tests::cards::image::Image;
 use harptimber_tests::cards::knobs::Knobs;
 use harptimber_tests::cards::layout::dentry::{NAME_LEN, NR_DENTRY_IN_BLOCK};
 use harptimber_tests::cards::layout::inode::{ADDRESSES, I_MODE};
@@ -17,6 +18,7 @@ use harptimber_tests::cards::random::pick;
 use harptimber_tests::cards::random_files::{any_target, random_files, RandomFiles};
 use harptimber_tests::cards::walk_damage::{strike_block, strike_either};
 use harptimber_tests::node_lookup;
+use harptimber_tests::program::sit::{packs, Entry, Sit};
 use harptimber_tests::program::{built, program};
 use harptimber_tests::tools::outside::CardFile;
 use harptimber_tests::tools::published::{contents, filled_with, ran, File};
@@ -208,6 +210,53 @@ fn tight_card(script: &mut Script) {
     tight.ends(script);
 }
 
+/// Cards with a SIT of random entries, damaged in what they are opened by and there. The last has no main segment, so
+/// that it takes any list.
+fn damage_sits(script: &mut Script, random: &mut Random, damages: u64) {
+    for (segments, pack) in [1, 55, 57, 3].into_iter().zip(packs()) {
+        let mut image = Image::new(&segmented(segments).with_pack(0, pack));
+        let sit = Sit::of(&image);
+        sit.put_random(&mut image, random);
+        image.settle("random entries");
+        let opening = Damage::of(&image);
+        script.card(&image);
+        assert_eq!(script.segments(&image), 0);
+        for _ in 0..damages {
+            match random.below(OPENING) {
+                0 => opening.strike(&mut image, random),
+                _ => sit.strike(&mut image, random),
+            }
+            script.segments(&image);
+            image.undo(0);
+        }
+    }
+    let none = Image::new(&segmented(0));
+    script.card(&none);
+    assert_eq!(script.segments(&none), 0);
+}
+
+/// A card with so many main segments.
+fn segmented(segments: u32) -> Knobs {
+    Knobs {
+        main_segments: segments,
+        ..Knobs::sound()
+    }
+}
+
+/// The slices of a report, each of which is once shorter than the call is told.
+const REPORT_PLANTS: [&str; 2] = ["list", "image"];
+
+/// A card with two segments that are off.
+fn off_card() -> Image {
+    let mut image = Image::new(&segmented(3));
+    let sit = Sit::of(&image);
+    for segment in [0, 2] {
+        sit.put(&mut image, segment, 0, &Entry::new(1, 0));
+    }
+    image.settle("two segments off");
+    image
+}
+
 /// A card by the published tools, damaged in what it is opened by and in blocks that a pull reads.
 fn damage_published(script: &mut Script, random: &mut Random, damages: u64) {
     let file = (b"file".to_vec(), contents(random, 880 * BLOCK_SIZE));
@@ -217,6 +266,7 @@ fn damage_published(script: &mut Script, random: &mut Random, damages: u64) {
     let opening = Damage::of(&sound);
     script.card(&sound);
     script.pull(&sound, &sound, b"short", 1);
+    assert_eq!(script.segments(&sound), 0);
     for _ in 0..damages {
         let index = pick(random, &[0, 872, 873, 879, 880]);
         let (_, blocks) = lists(&Call::new(&image, b"file", index));
@@ -245,6 +295,11 @@ fn guard_pages() {
         damage_files(&mut script, &mut random, 150);
     }
     damage_published(&mut script, &mut random, 200);
+    damage_sits(&mut script, &mut random, 150);
+    script.card(&off_card());
+    for slice in REPORT_PLANTS {
+        script.plant_report(slice);
+    }
     script.pass(&mut guarded(), 40_000, &every_answer());
 }
 
@@ -257,6 +312,7 @@ fn valgrind() {
         damage_files(&mut script, &mut random, 100);
     }
     damage_published(&mut script, &mut random, 60);
+    damage_sits(&mut script, &mut random, 60);
     script.pass(&mut memchecked(), 5_000, &every_answer());
 }
 
@@ -271,9 +327,19 @@ fn valgrind_on_plants() {
             "unset" => script.unset(),
             _ => script.plant(slice, NAME, ADDRESSES),
         }
-        let status = ran(script.given_to(&mut memchecked())).status;
-        assert_eq!(status, 9, "{slice} is seen");
+        expect_seen(&script, slice);
     }
+    for slice in REPORT_PLANTS {
+        let mut script = Script::new();
+        script.card(&off_card());
+        script.plant_report(slice);
+        expect_seen(&script, slice);
+    }
+}
+
+fn expect_seen(script: &Script, slice: &str) {
+    let status = ran(script.given_to(&mut memchecked())).status;
+    assert_eq!(status, 9, "{slice} is seen");
 }
 
 /// Runs the program under memcheck, which has to end with this status.
@@ -298,6 +364,8 @@ fn valgrind_on_program() {
     let read = expect_status(0, &[word("cat"), kept, word("short")]);
     assert!(read == short, "bytes of the file");
     expect_status(2, &[word("cat"), fresh, word("short")]);
+    expect_status(0, &[word("segments"), kept]);
+    expect_status(0, &[word("segments"), word("--json"), fresh]);
     for (status, image) in [(0, kept), (2, fresh)] {
         let options = [word("pull"), word("--lists")];
         expect_status(

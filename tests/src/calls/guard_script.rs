@@ -8,6 +8,7 @@ use crate::calls::answers::Answers;
 use crate::calls::lent::Lent;
 use crate::calls::pulls::{reference_pull, Call, Outcome};
 use crate::cards::image::Image;
+use crate::program::sit::reported;
 use crate::tools::published::{run, Scratch};
 
 pub struct Script {
@@ -15,6 +16,8 @@ pub struct Script {
     scratch: Scratch,
     cards: usize,
     answers: Answers,
+    /// Of segment reports, with lists that are long enough.
+    reports: Answers,
 }
 
 impl Script {
@@ -24,6 +27,7 @@ impl Script {
             scratch: Scratch::new(),
             cards: 0,
             answers: Answers::default(),
+            reports: Answers::default(),
         }
     }
 
@@ -43,9 +47,7 @@ impl Script {
     /// A pull from the card with the damage that this image has, and compares with the sound one.
     /// Returns the pull's answer.
     pub fn pull(&mut self, sound: &Image, image: &Image, name: &[u8], index: u32) -> u32 {
-        for (at, bytes) in image.written() {
-            self.line(format!("put {at} {}", hex(bytes)));
-        }
+        self.damage(image);
         let cards = [image, sound];
         let [kept, fresh] = cards.map(|card| pulled(&Call::new(card, name, index)));
         let answer = kept.pulled.answer;
@@ -53,9 +55,32 @@ impl Script {
         let as_fresh = compared(sound, image, &fresh);
         let name = hex(name);
         self.line(format!("pull {name} {index} {answer} {as_kept} {as_fresh}"));
+        self.report(image);
         self.line("undo".to_string());
         self.answers.note(answer);
         answer
+    }
+
+    /// A segment report on the card with the damage that this image has. Returns its answer.
+    pub fn segments(&mut self, image: &Image) -> u32 {
+        self.damage(image);
+        let answer = self.report(image);
+        self.line("undo".to_string());
+        answer
+    }
+
+    /// A report on the card as it was damaged.
+    fn report(&mut self, image: &Image) -> u32 {
+        let (segments, answer) = reported(image);
+        self.line(format!("segments {segments} {answer}"));
+        self.reports.note(answer);
+        answer
+    }
+
+    fn damage(&mut self, image: &Image) {
+        for (at, bytes) in image.written() {
+            self.line(format!("put {at} {}", hex(bytes)));
+        }
     }
 
     /// A pull from the first bytes of the card.
@@ -81,6 +106,11 @@ impl Script {
         self.line(format!("plant {slice} {} {index}", hex(name)));
     }
 
+    /// A report, of a card with a segment that is off, that is told more of a slice than there is.
+    pub fn plant_report(&mut self, slice: &str) {
+        self.line(format!("plant_report {slice}"));
+    }
+
     /// A compare with lists that were never written.
     pub fn unset(&mut self) {
         self.line("unset".to_string());
@@ -93,7 +123,7 @@ impl Script {
         command.arg("script").current_dir(self.scratch.path("."))
     }
 
-    /// Runs a command that has to pass at least so many tests, after pulls with each of these answers.
+    /// Runs a command that has to pass at least so many tests, after pulls with each of these answers, and after reports.
     pub fn pass(&self, command: &mut Command, at_least: u64, answers: &[u32]) {
         let output = run(self.given_to(command));
         let output = String::from_utf8_lossy(&output);
@@ -103,6 +133,7 @@ impl Script {
         let passed: Option<u64> = passed.and_then(|passed| passed.parse().ok());
         assert!(passed >= Some(at_least), "fewer than {at_least}: {output}");
         self.answers.finish(answers);
+        self.reports.finish(&[0, 5, 6, 7, 8]);
     }
 }
 

@@ -1,4 +1,7 @@
-/* Linked into a build of the program in place of the library: every call answers ANY_ANSWER, whatever it is given. */
+/*
+ * Linked into a build of the program in place of the library: every call answers ANY_ANSWER, whatever it is given. A segment
+ * report lists the numbers in ANY_LIST, and has ANY_VALID valid blocks, if they are there.
+ */
 #include <stdlib.h>
 
 #include "harptimber.h"
@@ -42,4 +45,21 @@ struct harptimber_compared harptimber_compare(const uint8_t *kept, size_t kept_l
     (void)kept, (void)kept_len, (void)fresh, (void)fresh_len, (void)nodes, (void)nodes_len, (void)node_count;
     (void)blocks, (void)blocks_len, (void)block_count;
     return (struct harptimber_compared){.answer = answer()};
+}
+
+struct harptimber_segments harptimber_segment_report(const uint8_t *image, size_t image_len, uint8_t *list, size_t list_len)
+{
+    (void)image, (void)image_len, (void)list_len;
+    struct harptimber_segments segments = {.answer = answer()};
+    const char *valid = getenv("ANY_VALID"), *rest = getenv("ANY_LIST");
+    segments.valid_blocks = valid == NULL ? 0 : (uint32_t)strtoul(valid, NULL, 10);
+    while (rest != NULL && *rest != '\0') {
+        char *behind;
+        unsigned long number = strtoul(rest, &behind, 10);
+        for (int byte = 0; byte < 4; byte++)
+            list[4 * segments.count + (unsigned)byte] = (uint8_t)(number >> 8 * byte);
+        segments.count++;
+        rest = behind;
+    }
+    return segments;
 }

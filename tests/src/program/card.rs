@@ -15,6 +15,7 @@ use crate::cards::layout::inode::{ADDRESSES, INLINE_DATA, I_MODE, S_IFDIR};
 use crate::cards::layout::{footer, BLOCK_SIZE};
 use crate::cards::on_disk::{OnDisk, Shared};
 use crate::cards::one_file::small_knobs;
+use crate::program::sit::Sit;
 use crate::trial::Random;
 
 pub const ROAD: &[u8] = b"road.bin";
@@ -97,6 +98,7 @@ impl ProgramCard {
             card.set_entry(nid, ino, 0);
             nid
         });
+        Sit::of(&card.image).put_sound(&mut card.image, 300);
         card.image.settle("a card for the program");
         ProgramCard {
             disk: OnDisk::new(card.image.clone()),

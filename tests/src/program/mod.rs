@@ -6,6 +6,8 @@ pub mod compares;
 pub mod held;
 pub mod json;
 pub mod page;
+pub mod segments;
+pub mod sit;
 pub mod special_build;
 
 use std::collections::BTreeSet;
@@ -120,12 +122,17 @@ pub fn run_by_shell(line: &str, words: Words) -> Ran {
 
 /// On a terminal, which is both standard output and standard error; with a file, only standard error.
 pub fn run_on_terminal(words: Words, output: Option<&Path>) -> Ran {
+    run_on_terminal_after("", words, output)
+}
+
+/// The same behind something for the shell, that sets the terminal's columns or a variable.
+pub fn run_on_terminal_after(setting: &str, words: Words, output: Option<&Path>) -> Ran {
     let quoted = |word: &OsStr| {
         let text = word.to_str().expect("words for the shell");
         format!("'{}'", text.replace('\'', "'\\''"))
     };
     let command = command(words);
-    let mut line = quoted(command.get_program());
+    let mut line = format!("{setting} {}", quoted(command.get_program()));
     for word in command.get_args() {
         line = format!("{line} {}", quoted(word));
     }

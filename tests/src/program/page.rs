@@ -9,7 +9,7 @@ use crate::program::json::Json;
 const HEAD: [&str; 4] = ["command", "answer", "meaning", "reason"];
 
 /// The keys that each command's JSON may have beside them.
-const KEYS: [(&str, &[&str]); 8] = [
+const KEYS: [(&str, &[&str]); 9] = [
     (
         "info",
         &[
@@ -66,13 +66,17 @@ const KEYS: [(&str, &[&str]); 8] = [
             "files",
         ],
     ),
+    (
+        "segments",
+        &["image", "count", "valid_blocks", "segments", "empty", "off"],
+    ),
     ("node", &["image", "number", "inode", "address"]),
     ("place", &["addresses", "index", "way"]),
     ("hash", &["name", "name_hex", "hash", "hash_hex"]),
 ];
 
 /// Those of the objects inside, by the key under which they stand.
-const INNER_KEYS: [(&str, &[&str]); 8] = [
+const INNER_KEYS: [(&str, &[&str]); 9] = [
     ("areas", &["area", "first", "segments"]),
     ("copies", &["passes", "in_use", "reason"]),
     (
@@ -119,6 +123,7 @@ const INNER_KEYS: [(&str, &[&str]); 8] = [
             "new_reason",
         ],
     ),
+    ("off", &["segment", "count", "ones", "journal", "block"]),
     ("way", &["place", "slot"]),
 ];
 

@@ -6,10 +6,10 @@ use std::process::{Command, Stdio};
 
 use harptimber_tests::calls::lent::Lens;
 use harptimber_tests::cards::layout::dentry::LONGEST_NAME;
-use harptimber_tests::cards::layout::BLOCK_SIZE;
+use harptimber_tests::cards::layout::{BLOCK_SIZE, SEGMENT_BLOCKS};
 use harptimber_tests::program::page::meaning;
 use harptimber_tests::program::{host, ran};
-use harptimber_tests::sizes::{BLOCKS_MOST, CARD_BLOCKS_MOST, NODES_MOST};
+use harptimber_tests::sizes::{BLOCKS_MOST, CARD_BLOCKS_MOST, NODES_MOST, SEGMENTS_MOST};
 use harptimber_tests::tools::published::Scratch;
 
 /// What a C program prints that has these statements.
@@ -41,6 +41,9 @@ fn sizes() {
         ("BLOCKS_BYTES", blocks),
         ("NODES_MOST", NODES_MOST as usize),
         ("BLOCKS_MOST", BLOCKS_MOST as usize),
+        ("SEGMENTS_MOST", SEGMENTS_MOST as usize),
+        ("SEGMENTS_BYTES", 4 * SEGMENTS_MOST as usize),
+        ("SEGMENT_BLOCKS", SEGMENT_BLOCKS as usize),
         ("CARD_BLOCKS_LEAST", 2),
         ("CARD_BLOCKS_MOST", CARD_BLOCKS_MOST as usize),
         ("NAME_BYTES_MOST", LONGEST_NAME),

@@ -17,7 +17,9 @@ const NO_IMAGE: &str = "is neither a file nor a block device";
 fn expect_unreadable(bad: &Path, why: &str, run: impl Fn(Words) -> Ran) {
     let card = shared_card();
     let (good, bad) = (card.disk.path(), bad.to_path_buf());
-    let lines: [Words; 7] = [
+    let lines: [Words; 9] = [
+        &[&"segments", &bad],
+        &[&"segments", &"--json", &bad],
         &[&"pull", &bad, &ROAD, &"0"],
         &[&"pull", &"--json", &bad, &ROAD, &"0"],
         &[&"cat", &bad, &ROAD],

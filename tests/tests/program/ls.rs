@@ -57,7 +57,7 @@ impl Expected {
         });
         let said = format!("{} (answer {})", meaning("pull", self.answer), self.answer);
         // Of all that can be out of shape, only what is.
-        let said = said.replace(": the image's length, the name or A", "");
+        let said = said.replace(": the image's length, the name, A or a list", "");
         let reason = self.reason.iter().map(|reason| format!(": {reason}"));
         let reason: String = reason.collect();
         format!("{size:>14}  {}: {said}{reason}\n", in_words(&self.name))

@@ -16,6 +16,7 @@ mod progress;
 mod pull;
 mod reasons;
 mod refusals;
+mod segments;
 mod usage;
 mod while_read;
 mod whole;

@@ -86,8 +86,9 @@ fn expect_table(disk: &Disk, kind: &str, answer: u32, puts: &[Put]) {
 /// A hint at the end of each command's words, and of the reason in its JSON.
 fn expect_hint(disk: &Disk, answer: u32, hint: &str) {
     let path = disk.path();
-    let lines: [Words; 4] = [
+    let lines: [Words; 5] = [
         &[&"info", &path],
+        &[&"segments", &path],
         &[&"pull", &path, &ROAD, &"0"],
         &[&"node", &path, &"3"],
         &[&"cat", &path, &ROAD],
@@ -102,8 +103,9 @@ fn expect_hint(disk: &Disk, answer: u32, hint: &str) {
         );
     }
     let output = disk.scratch.path("output");
-    let lines: [Words; 4] = [
+    let lines: [Words; 5] = [
         &[&"info", &"--json", &path],
+        &[&"segments", &"--json", &path],
         &[&"pull", &"--json", &path, &ROAD, &"0"],
         &[&"node", &"--json", &path, &"3"],
         &[&"cat", &"--json", &"-o", &output, &path, &ROAD],
@@ -143,6 +145,9 @@ fn expect_card(disk: &Disk, part: &[&str]) {
     let nodes = [(&alone, &[][..]), (&path, &words[..])]
         .map(|(path, part)| run(&[part, &[&"node", path, &ino]].concat()).expect(0).out);
     assert_eq!(nodes[0], nodes[1]);
+    let segments = run(&[&words[..], &[&"segments", &path]].concat()).expect(0);
+    let line = "\n300 of 512 blocks valid in 1 segment (58.6 %), 0 of them empty\n";
+    assert!(segments.words().ends_with(line), "of {segments:?}");
     let info = run(&[&words[..], &[&"info", &"--json", &path]].concat())
         .expect(0)
         .json();
@@ -213,8 +218,9 @@ fn cards_of_an_mbr() {
 /// A part that isn't there, for every command.
 fn refuse(disk: &Disk, part: &[&str; 2], message: &str) {
     let (path, other) = (disk.path(), shared_card().disk.path());
-    let lines: [Words; 5] = [
+    let lines: [Words; 6] = [
         &[&"info", &path],
+        &[&"segments", &path],
         &[&"pull", &path, &ROAD, &"0"],
         &[&"cat", &path, &ROAD],
         &[&"node", &path, &"3"],

@@ -211,6 +211,10 @@ fn as_json() {
         let numbers = ["number", "inode", "address"].map(|key| json[key].number());
         assert_eq!(numbers, [3, 0, 0]);
         assert_eq!(json["image"].text(), path.to_str().unwrap());
+        let json = refused("segments", &[path], *answer);
+        assert_eq!(json["count"].number() + json["valid_blocks"].number(), 0);
+        assert_eq!(json["off"].list().len(), 0);
+        assert_eq!(json["image"].text(), path.to_str().unwrap());
         assert!(!output.exists(), "output of a refused image");
     }
     let answers: Vec<u32> = images.unopened.iter().map(|image| image.answer).collect();
@@ -223,8 +227,9 @@ fn in_words() {
     let sound = OnDisk::new(sound());
     let good = sound.path();
     for Unopened { path, answer, why } in &images.unopened {
-        let lines: [Words; 6] = [
+        let lines: [Words; 7] = [
             &[&"info", path],
+            &[&"segments", path],
             &[&"pull", path, &NAME, &"0"],
             &[&"pull", &"--lists", path, &NAME, &"0"],
             &[&"node", path, &"3"],

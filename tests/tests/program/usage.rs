@@ -7,12 +7,13 @@ use harptimber_tests::program::page::{expect_keys_on_page, meaning};
 use harptimber_tests::program::{host, ran, run, Word, Words};
 
 /// Each command with as many words as it needs. The files aren't there: usage comes first.
-const COMMANDS: [(&str, &[&str]); 8] = [
+const COMMANDS: [(&str, &[&str]); 9] = [
     ("info", &["card.img"]),
     ("ls", &["card.img"]),
     ("pull", &["card.img", "road.bin", "0"]),
     ("cat", &["card.img", "road.bin"]),
     ("compare", &["kept.img", "new.img", "road.bin"]),
+    ("segments", &["card.img"]),
     ("node", &["card.img", "3"]),
     ("place", &["923", "0"]),
     ("hash", &["road.bin"]),
@@ -74,10 +75,11 @@ fn unknown_commands_and_options() {
 /// An option of another command.
 #[test]
 fn options_elsewhere() {
-    for command in ["info", "ls", "cat", "compare", "node", "place", "hash"] {
+    let each = || COMMANDS.iter().map(|(command, _)| *command);
+    for command in each().filter(|of| *of != "pull") {
         expect_usage_with(&line_of(command), &["--lists"]);
     }
-    for command in ["info", "ls", "pull", "cat", "node", "place", "hash"] {
+    for command in each().filter(|of| *of != "compare") {
         for option in ["-q", "--quiet", "-v", "--verbose", "--index=0"] {
             expect_usage_with(&line_of(command), &[option]);
         }
@@ -86,7 +88,7 @@ fn options_elsewhere() {
         expect_usage_with(&line_of(command), &["--offset", "0"]);
         expect_usage_with(&line_of(command), &["--partition=1"]);
     }
-    for command in ["info", "ls", "compare", "node", "place", "hash"] {
+    for command in each().filter(|of| *of != "pull" && *of != "cat") {
         expect_usage_with(&line_of(command), &["-o", "file"]);
         expect_usage_with(&line_of(command), &["--output=file"]);
     }
@@ -231,7 +233,7 @@ fn help() {
 }
 
 /// The options of each command's own page, beside --help.
-const PAGES: [(&str, &[&str]); 8] = [
+const PAGES: [(&str, &[&str]); 9] = [
     ("info", &["--offset", "--partition", "--json"]),
     ("ls", &["--offset", "--partition", "--json"]),
     (
@@ -243,6 +245,7 @@ const PAGES: [(&str, &[&str]); 8] = [
         "compare",
         &["--index", "-q", "-v", "--offset", "--partition", "--json"],
     ),
+    ("segments", &["--offset", "--partition", "--json"]),
     ("node", &["--offset", "--partition", "--json"]),
     ("place", &["--json"]),
     ("hash", &["--json"]),

@@ -9,6 +9,7 @@ use std::time::{Duration, SystemTime};
 
 use harptimber_tests::program::card::{shared_card, ProgramCard, LONG, ROAD};
 use harptimber_tests::program::held::{Files, Hold, Holder};
+use harptimber_tests::program::sit::Sit;
 use harptimber_tests::program::{Ran, Words};
 use harptimber_tests::tools::published::Scratch;
 
@@ -76,6 +77,10 @@ impl Images {
         let pack = Hold { image: 0, block };
         expect(&[&"info", &kept], pack);
         expect(&[&"info", &"--json", &kept], pack);
+        let (block, _) = Sit::of(&self.card.card.image).in_table(0, 0);
+        let sit = Hold { image: 0, block };
+        expect(&[&"segments", &kept], sit);
+        expect(&[&"segments", &"--json", &kept], sit);
         expect(&[&"node", &kept, &ino], table);
         expect(&[&"node", &"--json", &kept, &ino], table);
         for (whole, one) in [(long, road), (on_new(long), on_new(road))] {

@@ -1,0 +1,565 @@
+//! `harptimber segments`: what it says of cards whose SIT entries are known, against what was put there.
+
+use std::path::PathBuf;
+use std::process::{Command, Stdio};
+
+use harptimber_tests::cards::damage::Damage;
+use harptimber_tests::cards::image::Image;
+use harptimber_tests::cards::knobs::Knobs;
+use harptimber_tests::cards::layout::Field;
+use harptimber_tests::cards::on_disk::OnDisk;
+use harptimber_tests::cards::random::pick;
+use harptimber_tests::program::json::Json;
+use harptimber_tests::program::page::{expect_head, meaning, status_of};
+use harptimber_tests::program::segments::Segments;
+use harptimber_tests::program::sit::{packs, reported, Entry, Sit};
+use harptimber_tests::program::special_build::SpecialBuild;
+use harptimber_tests::program::{ran, run, run_on_terminal, run_on_terminal_after, Ran, Words};
+use harptimber_tests::sizes::{CARD_BLOCKS_MOST, SEGMENTS_MOST};
+use harptimber_tests::tools::outside::CardFile;
+use harptimber_tests::tools::published::{self, contents, filled_with, formatted, Scratch};
+use harptimber_tests::trial::Random;
+
+/// A card with so many main segments and zeros in its SIT: each is empty, and counts nothing.
+fn card_of(segments: u32) -> Knobs {
+    Knobs {
+        main_segments: segments,
+        ..Knobs::sound()
+    }
+}
+
+/// A card on which the entries are put as they should be told.
+struct Put {
+    disk: OnDisk,
+    sit: Sit,
+    segments: Segments,
+}
+
+impl Put {
+    fn new(knobs: &Knobs) -> Put {
+        let image = Image::new(knobs);
+        let sit = Sit::of(&image);
+        let empty = |segment| Entry::new(0, 0).segment(false, sit.in_table(segment, 0).0);
+        let segments = Segments((0..sit.segments).map(empty).collect());
+        let disk = OnDisk::new(image);
+        Put {
+            disk,
+            sit,
+            segments,
+        }
+    }
+
+    /// Puts the entry of a segment, which is told from the first copy.
+    fn put(&mut self, segment: u32, entry: &Entry) {
+        self.sit.put(&mut self.disk.image, segment, 0, entry);
+        let (block, _) = self.sit.in_table(segment, 0);
+        self.segments.0[segment as usize] = entry.segment(false, block);
+    }
+
+    /// Writes it, and says that the program tells it so.
+    fn expect(&self) -> Ran {
+        self.disk.image.save(&self.disk.path());
+        self.segments.expect(&self.disk.path())
+    }
+}
+
+/// The words of a small card, in full.
+#[test]
+fn words() {
+    let mut card = Put::new(&card_of(48));
+    for segment in 0..20 {
+        card.put(segment, &Entry::new(512, 512));
+    }
+    let path = card.disk.path().display().to_string();
+    let fill = "10,240 of 24,576 blocks valid in 48 segments (41.7 %), 28 of them empty\n";
+    let none = format!("{path}: can be read (answer 0): no segment is off\n{fill}");
+    assert_eq!(card.expect().words(), none);
+    card.put(7, &Entry::new(1023, 512));
+    card.put(19, &Entry::new(1, 512));
+    let two = format!(
+        "{path}: can be read (answer 0): 2 segments are off
+  segment 7 counts 1,023 valid blocks, its map marks 512 (SIT table, block 1026)
+  segment 19 counts 1 valid block, its map marks 512 (SIT table, block 1026)
+off: by its valid count F2FS knows how full a segment is, by its map which blocks are in use; they disagree
+a count that is too high makes the card seem fuller than it is
+fsck.f2fs -f counts anew; it writes to the card, so keep a copy
+{fill}"
+    );
+    assert_eq!(card.expect().words(), two);
+}
+
+/// Ten are told in words, and the eleventh isn't.
+#[test]
+fn many() {
+    let mut card = Put::new(&card_of(30));
+    for (segment, lines) in (0..30).zip([1, 2, 3, 4, 5, 6, 7, 8, 9, 10, 11, 11, 11]) {
+        card.put(29 - 2 * segment % 29, &Entry::new(segment, segment + 1));
+        let ran = card.expect();
+        let told = ran.words().lines().filter(|line| line.starts_with("  "));
+        assert_eq!(told.count(), lines, "of {ran:?}");
+    }
+}
+
+/// Counts beside the ones of maps from none to all, whatever the type and the time are.
+#[test]
+fn counts() {
+    let mut card = Put::new(&card_of(60));
+    let ones = [0, 1, 255, 256, 257, 511, 512];
+    let near = |ones: u32| [ones.saturating_sub(1), ones, ones + 1, 0, 512, 1023];
+    let pairs = ones
+        .into_iter()
+        .flat_map(|ones| near(ones).map(|count| (count, ones)));
+    for (segment, (count, ones)) in (0..).zip(pairs) {
+        let kind = segment % 64;
+        let time = u64::from(segment);
+        card.put(
+            segment,
+            &Entry {
+                kind,
+                time,
+                ..Entry::new(count, ones)
+            },
+        );
+    }
+    card.expect();
+    assert!(card.segments.off().len() > 20);
+}
+
+#[test]
+fn random_cards() {
+    let mut random = Random::new(51);
+    let mut off = 0;
+    for round in 0..24 {
+        let pack = packs()[round % 4].clone();
+        let knobs = Knobs {
+            sit_segments: 2 * (1 + round as u32 % 2),
+            main_segments: pick(&mut random, &[3, 55, 56, 111]),
+            segment0: pick(&mut random, &[2, 512]),
+            ..Knobs::sound()
+        };
+        let knobs = knobs.with_pack(round / 4 % 2, pack);
+        let mut card = Put::new(&knobs);
+        card.segments = card.sit.put_random(&mut card.disk.image, &mut random);
+        card.expect();
+        off += card.segments.off().len();
+    }
+    println!("segments of random cards: 24 inputs compared, {off} off");
+    assert!(off > 150);
+}
+
+/// Nothing to show by bars.
+#[test]
+fn no_main_segments() {
+    let card = Put::new(&card_of(0));
+    let ran = card.expect();
+    let last = "0 of 0 blocks valid in 0 segments (0.0 %), 0 of them empty";
+    assert_eq!(ran.words().lines().last(), Some(last));
+    let on_terminal = run_on_terminal(&[&"segments", &card.disk.path()], None).expect(0);
+    assert_eq!(on_terminal.words(), ran.words());
+}
+
+/// As many main segments as there can be, each of them off, and a journal that names one more.
+#[test]
+fn largest_card() {
+    let of = |segments| Knobs {
+        ssa_segments: 0,
+        ..card_of(segments)
+    };
+    assert!(of(SEGMENTS_MOST + 1).image_blocks() > CARD_BLOCKS_MOST);
+    let mut card = Put::new(&of(SEGMENTS_MOST));
+    for segment in 0..SEGMENTS_MOST {
+        card.put(segment, &Entry::new(segment + 1, segment));
+    }
+    let behind = [(SEGMENTS_MOST, Entry::new(1, 0)); 6];
+    card.sit.put_journal(&mut card.disk.image, &behind);
+    card.expect();
+    let words: Words = &[&"segments", &"--json", &card.disk.path()];
+    let json = SpecialBuild::sanitized().run(words).expect(1).json();
+    assert_eq!(json["count"].number(), 505);
+}
+
+/// What dump.f2fs says of each segment: how many valid blocks it counts.
+fn dumped(path: &PathBuf) -> Vec<u32> {
+    let folder = path.parent().unwrap();
+    let mut dump = Command::new("dump.f2fs");
+    published::run(dump.args(["-s", "0~-1"]).arg(path).current_dir(folder));
+    let dump = std::fs::read_to_string(folder.join("dump_sit")).unwrap();
+    let counts = dump.lines().filter_map(|line| {
+        let (_, rest) = line.split_once("vblocks:")?;
+        rest.split_whitespace().next()?.parse().ok()
+    });
+    counts.collect()
+}
+
+/// How many valid blocks there are by a pack.
+const VALID_BLOCK_COUNT: Field = Field {
+    name: "VALID_BLOCK_COUNT",
+    at: 16,
+    size: 8,
+};
+
+/// Cards as the tools wrote them: as they come out of mkfs.f2fs, most entries are in the journal.
+fn published_cards() -> [Image; 2] {
+    let mut random = Random::new(5);
+    let files = [("a", 3_000_000), ("b", 500_000), ("c", 10)];
+    let files = files.map(|(name, size)| (name.into(), contents(&mut random, size)));
+    [formatted(64, ""), filled_with(100, "", &files)]
+}
+
+#[test]
+fn published() {
+    for image in published_cards() {
+        let card = CardFile::of(&image);
+        let json = run(&[&"segments", &"--json", &card.path()])
+            .expect(0)
+            .json();
+        expect_head(&json, "segments", 0);
+        let valid = image.get(image.first_block(0), VALID_BLOCK_COUNT);
+        let counts = dumped(&card.path());
+        assert_eq!(json["valid_blocks"].number(), valid);
+        assert_eq!(u64::from(counts.iter().sum::<u32>()), valid);
+        assert_eq!(json["segments"].number(), counts.len() as u64);
+        let empty = counts.iter().filter(|&&count| count == 0).count();
+        assert_eq!(json["empty"].number(), empty as u64);
+        assert_eq!(json["off"].list().len(), 0);
+    }
+}
+
+/// One that the table has; the last one is empty. What the program advises helps.
+#[test]
+fn published_and_damaged() {
+    for mut image in published_cards() {
+        let sit = Sit::of(&image);
+        let last = sit.segments - 1;
+        sit.set_count(&mut image, last, 13);
+        let card = CardFile::of(&image);
+        let path = card.path();
+        let json = run(&[&"segments", &"--json", &path]).expect(1).json();
+        expect_head(&json, "segments", 0);
+        assert_eq!(json["count"].number(), 1);
+        let [off] = json["off"].list() else {
+            panic!("{json:?}");
+        };
+        let numbers = ["segment", "count", "ones", "block"].map(|key| off[key].number() as u32);
+        assert_eq!(numbers, [last, 13, 0, sit.in_table(last, 0).0]);
+        assert_eq!(off["journal"], Json::Bool(false));
+        let advised = run(&[&"segments", &path]).expect(1);
+        assert!(advised.words().contains("\nfsck.f2fs -f counts anew"));
+        let mut fsck = Command::new("fsck.f2fs");
+        published::ran(fsck.args(["-f", "-y"]).arg(&path));
+        run(&[&"segments", &path]).expect(0);
+    }
+}
+
+/// More entries than are read: only this command refuses the card, and says why.
+#[test]
+fn journal_counts() {
+    for pack in packs() {
+        let image = Image::new(&card_of(3).with_pack(0, pack));
+        let sit = Sit::of(&image);
+        let mut disk = OnDisk::new(image);
+        for count in [0, 1, 6, 7, 8, 255, 256, 65535] {
+            disk.image.set(sit.journal.0, sit.journal_count(), count);
+            disk.write_blocks(&[sit.journal.0]);
+            let answer = if count <= 6 { 0 } else { 8 };
+            let status = status_of(answer);
+            let json = run(&[&"segments", &"--json", &disk.path()])
+                .expect(status)
+                .json();
+            expect_head(&json, "segments", answer);
+            let reason = format!("the SIT journal counts {count} entries, at most 6 fit");
+            let told = json.get("reason").map(Json::text);
+            assert_eq!(told, (count > 6).then_some(reason.as_str()));
+            let ran = run(&[&"segments", &disk.path()]).expect(status);
+            let words = format!(": {} (answer 8): {reason}\n", meaning("segments", 8));
+            assert_eq!(ran.words().ends_with(&words), count > 6, "of {ran:?}");
+            assert_eq!(ran.words().lines().count() == 1, count > 6, "of {ran:?}");
+            let info = run(&[&"info", &"--json", &disk.path()]).expect(0).json();
+            expect_head(&info, "info", 0);
+        }
+    }
+}
+
+const BLOCKS: [char; 9] = [' ', '▁', '▂', '▃', '▄', '▅', '▆', '▇', '█'];
+const PLAIN: [char; 9] = [' ', '.', ':', '-', '=', '+', '*', '%', '#'];
+
+/// A card with each height of a bar, and one block away from empty and full.
+fn stepped(segments: u32) -> Put {
+    let mut card = Put::new(&card_of(segments));
+    let ones = [
+        0, 1, 73, 74, 146, 147, 219, 220, 292, 293, 365, 366, 438, 439, 511, 512,
+    ];
+    for segment in 0..segments {
+        let ones = ones[segment as usize % ones.len()];
+        card.put(segment, &Entry::new(ones, ones));
+    }
+    card
+}
+
+/// The bars, segment by segment, as they look.
+#[test]
+fn bars() {
+    let card = stepped(16);
+    let words = card.expect();
+    let path = card.disk.path();
+    for (locale, full, line) in [
+        ("C.UTF-8", "█", "[ ▁▁▂▂▃▃▄▄▅▅▆▆▇▇█]"),
+        ("C", "#", "[ ..::--==++**%%#]"),
+        ("no_SUCH.locale", "#", "[ ..::--==++**%%#]"),
+    ] {
+        let setting = format!("LC_ALL={locale}");
+        let ran = run_on_terminal_after(&setting, &[&"segments", &path], None).expect(0);
+        let legend = format!("a column is 1 segment, blank if empty, {full} if full");
+        assert_eq!(ran.words(), format!("{}{legend}\n{line}\n", words.words()));
+    }
+}
+
+/// As many segments a column as it takes, and 80 columns where the terminal doesn't say.
+#[test]
+fn widths() {
+    for segments in [1, 8, 78, 79, 100] {
+        let card = stepped(segments);
+        let words = card.expect();
+        let path = card.disk.path();
+        for columns in [3, 4, 10, 80, 81, 102, 200] {
+            for (locale, bars) in [("C.UTF-8", BLOCKS), ("C", PLAIN)] {
+                let setting = format!("stty cols {columns}; LC_ALL={locale}");
+                let ran = run_on_terminal_after(&setting, &[&"segments", &path], None).expect(0);
+                let lines = card.segments.bars(columns, bars);
+                assert_eq!(ran.words(), format!("{}{lines}", words.words()));
+            }
+        }
+        for unknown in [0, 1, 2] {
+            let setting = format!("stty cols {unknown}; LC_ALL=C");
+            let ran = run_on_terminal_after(&setting, &[&"segments", &path], None).expect(0);
+            let lines = card.segments.bars(80, PLAIN);
+            assert_eq!(ran.words(), format!("{}{lines}", words.words()));
+        }
+    }
+}
+
+/// None where the words go to a file, in JSON, and of what is refused.
+#[test]
+fn no_bars() {
+    let mut card = stepped(16);
+    let words = card.expect();
+    let path = card.disk.path();
+    let output = card.disk.scratch.path("output");
+    run_on_terminal(&[&"segments", &path], Some(&output)).expect(0);
+    assert_eq!(std::fs::read(&output).unwrap(), words.out);
+    let json = run_on_terminal(&[&"segments", &"--json", &path], None).expect(0);
+    card.segments.expect_json(&json.json());
+    let sit = &card.sit;
+    card.disk.image.set(sit.journal.0, sit.journal_count(), 7);
+    card.disk.write_blocks(&[sit.journal.0]);
+    let refused = run_on_terminal(&[&"segments", &path], None).expect(2);
+    assert_eq!(refused.words().lines().count(), 1, "of {refused:?}");
+}
+
+/// What the program finds has to lead to the library's answer: on a card that opens, all is told.
+fn expect_agreement(image: &Image, ran: &Ran) -> u32 {
+    let (there, answer) = reported(image);
+    let json = ran.json();
+    expect_head(&json, "segments", answer);
+    let off = json["off"].list();
+    assert_eq!(json["count"].number(), off.len() as u64, "{json:?}");
+    let status = if off.is_empty() { status_of(answer) } else { 1 };
+    assert_eq!(ran.status, status, "of {ran:?} on {image:?}");
+    assert_eq!(json.get("reason").is_some(), answer != 0, "{json:?}");
+    let segments = json.get("segments").map(Json::number);
+    let there = (answer == 0).then_some(u64::from(there));
+    assert_eq!(segments, there, "{json:?} on {image:?}");
+    for off in off {
+        assert!(off["count"].number() != off["ones"].number(), "{json:?}");
+    }
+    answer
+}
+
+/// Damages a card so many times, in what it is opened by and in its SIT. Returns each answer.
+fn damage(card: Put, random: &mut Random, damages: u32, run: impl Fn(Words) -> Ran) -> Vec<u32> {
+    let (sit, mut disk) = (card.sit, card.disk);
+    sit.put_random(&mut disk.image, random);
+    disk.image.settle("random entries");
+    disk.image.save(&disk.path());
+    let opening = Damage::of(&disk.image);
+    let mut blocks = vec![0, 1, sit.journal.0];
+    for which in 0..2 {
+        blocks.extend((0..16).map(|block| disk.image.first_block(which) + block));
+        blocks.extend([0, 57].map(|segment| sit.in_table(segment, which as u32).0));
+    }
+    let each = (0..damages).map(|_| {
+        for _ in 0..1 + random.below(3) {
+            match random.below(2) {
+                0 => opening.strike(&mut disk.image, random),
+                _ => sit.strike(&mut disk.image, random),
+            }
+        }
+        disk.write_blocks(&blocks);
+        let ran = run(&[&"segments", &"--json", &disk.path()]);
+        let answer = expect_agreement(&disk.image, &ran);
+        run(&[&"segments", &disk.path()]).expect(ran.status);
+        disk.image.undo(0);
+        answer
+    });
+    each.collect()
+}
+
+/// Cards with each kind of pack, and with one of these numbers of main segments each.
+fn damage_cards(random: &mut Random, segments: &[u32], damages: u32, run: impl Fn(Words) -> Ran) {
+    let mut answers = Vec::new();
+    for (kind, pack) in packs().into_iter().enumerate() {
+        for which in 0..2 {
+            let segments = segments[(kind + which) % segments.len()];
+            let card = Put::new(&card_of(segments).with_pack(which, pack.clone()));
+            answers.extend(damage(card, random, damages, &run));
+        }
+    }
+    let seen = [0, 5, 6, 7, 8].map(|answer| answers.iter().filter(|&&seen| seen == answer).count());
+    let all = answers.len();
+    println!("segments of damaged cards: {all} inputs compared, answers {seen:?}");
+    assert!(seen.iter().all(|&count| count > 0), "{seen:?}");
+}
+
+#[test]
+fn damaged_cards() {
+    let random = &mut Random::new(61);
+    damage_cards(random, &[1, 3, 58], 80, |words| run(words));
+}
+
+/// The larger card only as it is: it takes its time to be read.
+#[test]
+fn damaged_cards_sanitized() {
+    let build = SpecialBuild::sanitized();
+    let random = &mut Random::new(62);
+    damage_cards(random, &[1, 3], 20, |words| build.run(words));
+    let mut card = Put::new(&card_of(57));
+    card.put(56, &Entry::new(1, 2));
+    card.expect();
+    build.run(&[&"segments", &card.disk.path()]).expect(1);
+}
+
+/// Images that are cut anywhere.
+#[test]
+fn cut_cards_sanitized() {
+    let build = SpecialBuild::sanitized();
+    let card = Put::new(&card_of(3));
+    let path = card.disk.path();
+    let sit = u64::from(card.sit.in_table(0, 0).0) * 4096;
+    for len in [sit + 4096, sit + 74, sit, 8193, 8192, 5120, 4096, 1] {
+        let file = std::fs::File::options().write(true).open(&path);
+        file.unwrap().set_len(len).unwrap();
+        let answer = if len % 4096 == 0 && len >= 8192 { 5 } else { 4 };
+        let json = build.run(&[&"segments", &"--json", &path]).expect(2).json();
+        expect_head(&json, "segments", answer);
+        build.run(&[&"segments", &path]).expect(2);
+    }
+}
+
+/// Where the library says something else, its numbers are told and nothing beside them.
+#[test]
+fn library_against_words() {
+    let build = SpecialBuild::with_any_answer();
+    let mut card = Put::new(&card_of(3));
+    card.put(1, &Entry::new(9, 8));
+    card.put(2, &Entry::new(300, 300));
+    card.expect();
+    let path = card.disk.path();
+    for (list, valid, agrees) in [
+        ("1", "308", true),
+        ("", "308", false),
+        ("1", "307", false),
+        ("2", "308", false),
+        ("0 1", "308", false),
+        ("1 2", "308", false),
+        ("4294967295", "308", false),
+        ("0 1 2 3 4 5 6 7 8 9 10 11", "4294967295", false),
+    ] {
+        let told: Vec<u32> = list
+            .split_whitespace()
+            .map(|word| word.parse().unwrap())
+            .collect();
+        let run = |words: Words| {
+            let mut command = build.command(words);
+            let variables = [
+                ("ANY_ANSWER", "0"),
+                ("ANY_LIST", list),
+                ("ANY_VALID", valid),
+            ];
+            let ran = ran(command.envs(variables), Stdio::piped());
+            ran.expect(i32::from(!told.is_empty()))
+        };
+        let json = run(&[&"segments", &"--json", &path]).json();
+        expect_head(&json, "segments", 0);
+        assert_eq!(json["valid_blocks"].number().to_string(), valid);
+        let off = json["off"].list();
+        let numbers = off.iter().map(|off| off["segment"].number() as u32);
+        assert_eq!(numbers.collect::<Vec<_>>(), told);
+        for key in ["count", "ones", "journal", "block"] {
+            let there = off.iter().all(|off| off.get(key).is_some() == agrees);
+            assert!(there, "'{key}' in {json:?}");
+        }
+        for key in ["segments", "empty"] {
+            assert_eq!(json.get(key).is_some(), agrees, "'{key}' in {json:?}");
+        }
+        expect_bare_words(&run(&[&"segments", &path]), &told, valid, agrees);
+    }
+}
+
+fn expect_bare_words(ran: &Ran, told: &[u32], valid: &str, agrees: bool) {
+    let words = ran.words();
+    for number in told.iter().take(10) {
+        let bare = words.contains(&format!("\n  segment {number}\n"));
+        assert_eq!(bare, !agrees, "of {ran:?}");
+    }
+    let last = words.lines().last().unwrap();
+    let plain = last.replace(',', "");
+    assert_eq!(
+        plain == format!("{valid} valid blocks"),
+        !agrees,
+        "of {ran:?}"
+    );
+    assert_eq!(words.contains('%'), agrees, "of {ran:?}");
+    let more = words.contains("  2 more segments; --json has all\n");
+    assert_eq!(more, told.len() == 12, "of {ran:?}");
+}
+
+/// Also where the program sees no card at all.
+#[test]
+fn library_against_no_card() {
+    let build = SpecialBuild::with_any_answer();
+    let scratch = Scratch::new();
+    let path = scratch.path("zeros.img");
+    for len in [1, 4096, 8192, 1 << 20] {
+        std::fs::write(&path, vec![0; len]).unwrap();
+        let mut command = build.command(&[&"segments", &path]);
+        let variables = [("ANY_ANSWER", "0"), ("ANY_LIST", "7"), ("ANY_VALID", "2")];
+        let ran = ran(command.envs(variables), Stdio::piped()).expect(1);
+        expect_bare_words(&ran, &[7], "2", false);
+    }
+}
+
+/// A refusal that the program finds no reason for.
+#[test]
+fn refused_against_words() {
+    let build = SpecialBuild::with_any_answer();
+    let card = Put::new(&card_of(2));
+    for answer in [4, 5, 6, 7, 8] {
+        let run = |words: Words| {
+            let mut command = build.command(words);
+            let ran = ran(
+                command.env("ANY_ANSWER", answer.to_string()),
+                Stdio::piped(),
+            );
+            ran.expect(2)
+        };
+        let path = card.disk.path();
+        let json = run(&[&"segments", &"--json", &path]).json();
+        expect_head(&json, "segments", answer);
+        for key in ["reason", "segments", "empty"] {
+            assert!(json.get(key).is_none(), "'{key}' in {json:?}");
+        }
+        let words = run(&[&"segments", &path]);
+        let end = format!("(answer {answer})\n");
+        assert!(words.words().ends_with(&end), "of {words:?}");
+    }
+}
