@@ -23,7 +23,7 @@ pub const FEATURES: u32 = 6;
 // Neither checkpoint pack passes.
 pub const NO_CHECKPOINT: u32 = 7;
 
-// The checkpoint pack in use has its maps or journal out of place.
+// The checkpoint pack in use has its maps or a journal out of place.
 pub const UNREADABLE: u32 = 8;
 
 // A node number is out of range, or its address is 0.

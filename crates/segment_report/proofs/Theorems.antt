@@ -1,6 +1,6 @@
 -- What is so of every segment report, whatever the image and the lent list. Each is stated over `segmentReport`, the definition that
 -- the contract cites.
-use Prim.Native.Nat.{ℕ, zero, suc, _/_, _*_, _<_, _≤_}
+use Prim.Native.Nat.{ℕ, zero, suc, _-_, _/_, _*_, _<_, _≤_}
 use native.Mathlib.Omega.{arith}
 use native.Mathlib.Numerals.{add-one}
 use mathlib.Core.Path.{_≡_, refl}
@@ -12,16 +12,19 @@ use lib.Dec.{eqb, leb}
 use borrow.Author.Tests.{leb-true, leb-false, eqb-true, eqb-false, not-true, not-false}
 use Rattle.field.specs.Card.{cardOf}
 use Rattle.field.proofs.Choosing.{either}
+use Rattle.superblock.specs.Shape.{mostBlocks}
+use Rattle.superblock.proofs.Shaped.{shape-card}
 use Rattle.checkpoint.specs.declared.Volume.{Volume}
 use Rattle.checkpoint.specs.declared.Opening.{Opening}
 use Rattle.checkpoint.specs.declared.Opening.the-variants.{Opened, Refused}
+use Rattle.checkpoint.proofs.Inside.{image-shaped, image-volume}
 use Rattle.list.specs.Lists.{Rising, AllOf, listing, numbers, entries}
 use Rattle.list.proofs.Rises.{all-map, all-mem, all-behind, rising-behind}
 use Rattle.list.proofs.Written.{numbers-over}
 use Rattle.sit.specs.Entry.{validCount, mapOnes}
 use Rattle.sit.specs.Table.{tableBlock, tableAddress, sitEntry}
 use Rattle.sit.specs.Opening.{openedWithSit}
-use Rattle.sit.proofs.Openings.{opened-sit, refusals-sit}
+use Rattle.sit.proofs.Openings.{opened-image, opened-sit, refusals-sit}
 use Rattle.sit.proofs.Inside.{address-inside}
 use Rattle.segment_report.specs.Off.{isOff, segmentsOff, onesInAll}
 use Rattle.segment_report.specs.Report.{Reported, refusedReport, offOn, reportOf, segmentReport}
@@ -215,3 +218,12 @@ module _ (image list : List ℕ) where
   pub every-segment-has-a-place : (v : Volume) → openedWithSit image ≡ Opened v → (s : ℕ) → s < v .areas .«main_segments»
       → (v .areas .sit ≤ tableAddress (cardOf image) v (tableBlock s)) × (tableAddress (cardOf image) v (tableBlock s) < v .areas .nat)
   every-segment-has-a-place v e s h = address-inside (cardOf image) v (opened-sit image v e) s h
+
+  -- a list of 505 numbers has room for every card: before its main area lie two blocks of superblocks, and two segments each of
+  -- checkpoint, SIT and NAT
+  pub segments-most : (v : Volume) → openedWithSit image ≡ Opened v → v .areas .«main_segments» ≤ (mostBlocks - 2) / 512 - 6
+  segments-most v e =
+      let opens = opened-image image v e in
+      let a = image-volume image v opens .places .areasIn in
+      let shape = shape-card image (image-shaped image v opens) in
+      omega arith

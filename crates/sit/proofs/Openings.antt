@@ -55,12 +55,20 @@ module _ (image : List ℕ) where
       (λ p. refused 8 (omega arith) (omega arith) (journal-refuses v e p))
       (either (journalReadable (journal v)))
 
-  pub opened-sit : (v : Volume) → openedWithSit image ≡ Opened v → SitIn (cardOf image) v
-  opened-sit v h = go (ways (openedImage image) refl)
-    where
-      go : Ways (openedWithSit image) → SitIn (cardOf image) v
-      go (refused n l m e) = let z : _≡_ {A = ℕ} 0 1 = cc in absurd (omega arith)
-      go (opens u f s e) = let same : v ≡ u = cc in rw same s
+  -- a volume that was opened so is the one that opening finds
+  module _ (v : Volume) (h : openedWithSit image ≡ Opened v) where
+    both : (openedImage image ≡ Opened v) × SitIn (cardOf image) v
+    both = go (ways (openedImage image) refl)
+      where
+        go : Ways (openedWithSit image) → (openedImage image ≡ Opened v) × SitIn (cardOf image) v
+        go (refused n l m e) = let z : _≡_ {A = ℕ} 0 1 = cc in absurd (omega arith)
+        go (opens u f s e) = let same : v ≡ u = cc in rw same (f, s)
+
+    pub opened-image : openedImage image ≡ Opened v
+    opened-image = both .0
+
+    pub opened-sit : SitIn (cardOf image) v
+    opened-sit = both .1
 
   -- opening for SIT entries refuses no other answers than opening does
   pub refusals-sit : (n : ℕ) → openedWithSit image ≡ Refused n → (4 ≤ n) × (n ≤ 8)
