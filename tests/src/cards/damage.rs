@@ -3,7 +3,6 @@
 use std::ops::Range;
 
 use crate::cards::image::Image;
-use crate::cards::knobs::Pack;
 use crate::cards::layout::checkpoint::*;
 use crate::cards::layout::{journal, superblock, Field};
 use crate::cards::random::pick;
@@ -43,12 +42,7 @@ impl Damage {
         let number = |field| image.get(first, field) as u32;
         let sizes = number(SIT_VER_BITMAP_BYTESIZE) + number(NAT_VER_BITMAP_BYTESIZE);
         self.maps.end = self.maps.start + sizes as usize;
-        let pack = Pack {
-            total: number(CP_PACK_TOTAL_BLOCK_COUNT),
-            flags: number(CKPT_FLAGS),
-            start_sum: number(CP_PACK_START_SUM),
-            ..Pack::compact(0)
-        };
+        let pack = image.pack(which);
         let (block, at) = pack.journal_place().expect("a sound pack has a journal");
         self.journals.push((first + block, at));
     }
