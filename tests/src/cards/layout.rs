@@ -231,6 +231,17 @@ pub mod sit {
             let [vblocks, mtime] = [&vblocks.to_le_bytes()[..], &self.mtime.to_le_bytes()];
             [vblocks, &self.valid_map, mtime].concat()
         }
+
+        pub fn read(stored: &[u8]) -> SitEntry {
+            let vblocks = u16::from_le_bytes(stored[..VALID_MAP].try_into().unwrap());
+            let (map, rest) = stored[VALID_MAP..].split_at(MAP_SIZE);
+            SitEntry {
+                count: vblocks % (1 << VBLOCKS_SHIFT),
+                seg_type: vblocks >> VBLOCKS_SHIFT,
+                valid_map: map.try_into().unwrap(),
+                mtime: u64::from_le_bytes(rest[..MTIME.size].try_into().unwrap()),
+            }
+        }
     }
 }
 

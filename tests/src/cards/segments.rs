@@ -7,8 +7,8 @@ use crate::cards::image::Image;
 use crate::cards::knobs::{Knobs, Pack};
 use crate::cards::layout::checkpoint::SIT_NAT_VERSION_BITMAP;
 use crate::cards::layout::sit::{SitEntry, ENTRIES_PER_BLOCK, ENTRY_SIZE};
-use crate::cards::layout::sit_journal::{SitJournalEntry, N_SITS};
-use crate::cards::layout::BLOCK_SIZE;
+use crate::cards::layout::sit_journal::{self, SitJournalEntry, MOST_ENTRIES, N_SITS, SEGNO};
+use crate::cards::layout::{BLOCK_SIZE, SEGMENT_BLOCKS};
 use crate::cards::random::pick;
 use crate::trial::Random;
 
@@ -86,25 +86,57 @@ impl SegmentCard {
         card
     }
 
+    /// An image that wasn't built here, with a pack that passes.
+    pub fn read(image: Image) -> SegmentCard {
+        let packs = [0, 1].map(|which| image.pack(which));
+        let which_pack = usize::from(packs[1].version > packs[0].version);
+        SegmentCard {
+            main_segments: (image.areas.main_end - image.areas.main) / SEGMENT_BLOCKS,
+            which_pack,
+            pack: packs[which_pack].clone(),
+            image,
+        }
+    }
+
+    /// Where the entry in use of a segment starts: its block, and its first byte there.
+    pub fn entry_place(&self, segno: u32) -> (u32, usize) {
+        let (block, at) = self.journal_place();
+        let entries = self.image.get(block, N_SITS.moved(at)) as usize;
+        let mut journalled = (0..entries).map(|n| at + n * sit_journal::ENTRY_SIZE);
+        let is_of = |&at: &usize| self.image.get(block, SEGNO.moved(at)) == segno.into();
+        match journalled.find(is_of) {
+            Some(at) => (block, at + SEGNO.at + SEGNO.size),
+            None => self.image.sit_place(segno, self.copy_of(segno)),
+        }
+    }
+
+    /// Which copy of the table has a segment's entry in use, by the map as it was built or read.
+    fn copy_of(&self, segno: u32) -> u32 {
+        self.pack.sit_copy(segno / ENTRIES_PER_BLOCK)
+    }
+
     /// Writes a table entry in the copy in use.
     pub fn set_entry(&mut self, segno: u32, entry: &SitEntry) {
-        let copy = self.pack.sit_copy(segno / ENTRIES_PER_BLOCK);
+        let copy = self.copy_of(segno);
         self.image.set_sit_entry(segno, copy, entry);
     }
 
-    /// Writes other bytes as the SIT map.
+    /// The first block of the pack in use, which has the SIT map.
+    pub fn first_block(&self) -> u32 {
+        self.image.first_block(self.which_pack)
+    }
+
     pub fn set_map(&mut self, map: &[u8]) {
-        let first = self.image.first_block(self.which_pack);
+        let first = self.first_block();
         self.image
             .put("SIT map", first, SIT_NAT_VERSION_BITMAP, map);
         self.image.seal(first);
-        self.pack.sit_map = map.to_vec();
     }
 
     /// The block of the journal in use, and the journal's first byte there.
-    fn journal_place(&self) -> (u32, usize) {
+    pub fn journal_place(&self) -> (u32, usize) {
         let (block, at) = self.pack.sit_journal_place().expect("a journal");
-        (self.image.first_block(self.which_pack) + block, at)
+        (self.first_block() + block, at)
     }
 
     pub fn put_journal(&mut self, entries: &[SitJournalEntry]) {
@@ -112,42 +144,49 @@ impl SegmentCard {
         self.image.put_sit_journal(block, at, entries);
     }
 
-    /// Changes a byte that a report reads, or could read in place of the right one. The checkpoint block
-    /// mostly gets its checksum.
-    pub fn strike(&mut self, random: &mut Random) {
-        let (block, at) = self.place_to_strike(random);
-        let old = self.image.block(block)[at];
-        let flipped = old ^ 1 << random.below(8);
-        let any = random.number() as u8;
-        let byte = pick(random, &[0, 1, 5, 6, 7, 0xFF, flipped, flipped, any]);
-        self.image.put("byte", block, at, &[byte]);
-        if block == self.image.first_block(self.which_pack) && random.below(4) > 0 {
-            self.image.seal(block);
-        }
-    }
-
-    fn place_to_strike(&self, random: &mut Random) -> (u32, usize) {
-        let (journal, at) = self.journal_place();
-        let first = self.image.first_block(self.which_pack);
-        let within = N_SITS.size + random.below(6 * 78) as usize;
-        let segno = random.below(u64::from(self.main_segments) + 1) as u32;
-        let copy = random.below(2) as u32;
-        let (table, entry) = self.image.sit_place(segno, copy);
-        let of_entry = random.below(ENTRY_SIZE as u64) as usize;
-        let of_map = random.below(MAP_BYTES as u64) as usize;
-        let places = [
-            (journal, at),
-            (journal, at + within),
-            (table, entry + of_entry),
-            (first, SIT_NAT_VERSION_BITMAP + of_map),
-        ];
-        pick(random, &places)
-    }
-
     /// Whatever entries are there.
     pub fn set_journal_count(&mut self, count: u64) {
         let (block, at) = self.journal_place();
         self.image.set(block, N_SITS.moved(at), count);
+    }
+}
+
+/// Damage.
+impl SegmentCard {
+    /// Changes a byte that a report reads, or could read in place of the right one. The checkpoint block
+    /// mostly gets its checksum.
+    pub fn strike(&mut self, random: &mut Random) {
+        let (block, at) = self.place_to_strike(random);
+        let flipped = self.image.block(block)[at] ^ 1 << random.below(8);
+        let any = random.number() as u8;
+        let byte = pick(random, &[0, 1, 5, 6, 7, 0xFF, flipped, flipped, any]);
+        self.image.put("byte", block, at, &[byte]);
+        if block == self.first_block() && random.below(4) > 0 {
+            self.image.seal(block);
+        }
+    }
+
+    /// The journal's count, a byte of its entries, of the table in either copy, or of the map.
+    fn place_to_strike(&self, random: &mut Random) -> (u32, usize) {
+        let mut below = |bound: usize| random.below(bound as u64) as usize;
+        let (journal, start) = self.journal_place();
+        let entries = start + N_SITS.size;
+        match below(4) {
+            0 => (journal, start),
+            1 => (
+                journal,
+                entries + below(MOST_ENTRIES * sit_journal::ENTRY_SIZE),
+            ),
+            2 => (
+                self.first_block(),
+                SIT_NAT_VERSION_BITMAP + below(MAP_BYTES),
+            ),
+            _ => {
+                let segno = below(self.main_segments as usize + 1) as u32;
+                let (table, entry) = self.image.sit_place(segno, below(2) as u32);
+                (table, entry + below(ENTRY_SIZE))
+            }
+        }
     }
 }
 
