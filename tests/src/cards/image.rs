@@ -123,6 +123,12 @@ impl Image {
         self.bytes[place].copy_from_slice(bytes);
     }
 
+    /// Fills blocks with random bytes, which aren't undone.
+    pub fn put_junk(&mut self, blocks: Range<u32>, seed: u64) {
+        let len = blocks.len() * BLOCK_SIZE;
+        put_junk(&mut self.bytes[place(blocks.start, 0, len)], seed);
+    }
+
     /// Writes it to a file, in which blocks of zeros take no room.
     pub fn save(&self, path: &Path) {
         let file = File::create(path).expect("an image file");
@@ -328,12 +334,16 @@ fn number_in(bytes: &[u8], block: u32, field: Field) -> u64 {
 fn background(knobs: &Knobs) -> Vec<u8> {
     let mut bytes = vec![0; knobs.image_blocks() as usize * BLOCK_SIZE];
     if let Some(seed) = knobs.junk {
-        let mut random = Random::new(seed);
-        for eight in bytes.chunks_exact_mut(8) {
-            eight.copy_from_slice(&random.number().to_le_bytes());
-        }
+        put_junk(&mut bytes, seed);
     }
     bytes
+}
+
+fn put_junk(bytes: &mut [u8], seed: u64) {
+    let mut random = Random::new(seed);
+    for eight in bytes.chunks_exact_mut(8) {
+        eight.copy_from_slice(&random.number().to_le_bytes());
+    }
 }
 
 /// Where a pack's NAT map starts, and its bytes as far as they lie before the checksum.

@@ -97,6 +97,13 @@ pub mod checkpoint {
         CHECKSUM: 4 at 4092,
     }
 
+    /// How many valid blocks a pack has by its own count, which no call consults.
+    pub const VALID_BLOCK_COUNT: super::Field = super::Field {
+        name: "VALID_BLOCK_COUNT",
+        at: 16,
+        size: 8,
+    };
+
     /// Where the SIT map starts. The NAT map follows it.
     pub const SIT_NAT_VERSION_BITMAP: usize = 192;
 

@@ -1,14 +1,12 @@
 //! The segment table of a card: its entries, both copies of its blocks, the map between them, and the
 //! journal.
 
-use std::ops::Range;
-
 use crate::cards::image::Image;
 use crate::cards::knobs::{Knobs, Pack};
 use crate::cards::layout::checkpoint::SIT_NAT_VERSION_BITMAP;
 use crate::cards::layout::sit::{SitEntry, ENTRIES_PER_BLOCK, ENTRY_SIZE};
 use crate::cards::layout::sit_journal::{self, SitJournalEntry, MOST_ENTRIES, N_SITS, SEGNO};
-use crate::cards::layout::{BLOCK_SIZE, SEGMENT_BLOCKS};
+use crate::cards::layout::SEGMENT_BLOCKS;
 use crate::cards::random::pick;
 use crate::trial::Random;
 
@@ -36,14 +34,6 @@ impl Image {
         let stored: Vec<u8> = entries.iter().flat_map(|entry| entry.stored()).collect();
         self.put("SIT journal entries", block, at + N_SITS.size, &stored);
     }
-
-    fn put_junk(&mut self, blocks: Range<u32>, random: &mut Random) {
-        for block in blocks {
-            let eights = (0..BLOCK_SIZE / 8).flat_map(|_| random.number().to_le_bytes());
-            let junk: Vec<u8> = eights.collect();
-            self.put("junk", block, 0, &junk);
-        }
-    }
 }
 
 /// Enough of a SIT map: no card has more than 10 table blocks in use.
@@ -65,8 +55,7 @@ impl SegmentCard {
             packs: [None, None],
             ..knobs.clone()
         });
-        let mut random = Random::new(u64::from(knobs.main_segments));
-        image.put_junk(image.areas.cp..image.areas.nat, &mut random);
+        image.put_junk(image.areas.cp..image.areas.nat, knobs.main_segments.into());
         for (which, pack) in knobs.packs.iter().enumerate() {
             if let Some(pack) = pack {
                 image.add_pack(which, &with_segments(pack), knobs);

@@ -117,21 +117,21 @@ fn every_bit_of_the_map() {
     reports.finish(2 * 512 * 6, &[0]);
 }
 
-/// Each byte in each place, and the same byte in all.
+/// Each byte in some places, and the same byte in all.
 #[test]
 fn every_byte_of_the_map() {
     let mut reports = Reports::new("segment report by map byte");
     let mut card = OneEntry::new(false);
     for byte in 0..=255u8 {
         let ones = (0..8).filter(|bit| byte >> bit & 1 == 1).count() as u32;
-        for place in 0..MAP_SIZE {
+        for place in [0, 1, 7, 8, 31, 62, 63] {
             let mut map = [0; MAP_SIZE];
             map[place] = byte;
             card.expect(&mut reports, &SitEntry::of(map), ones);
         }
         card.expect(&mut reports, &SitEntry::of([byte; MAP_SIZE]), 64 * ones);
     }
-    reports.finish(256 * 65, &[0]);
+    reports.finish(256 * 8, &[0]);
 }
 
 /// One bit in each byte, the same one in all or another in each.

@@ -186,3 +186,18 @@ fn main_segments_of_the_copy_used() {
     assert_eq!(needed(&card.image), 24);
     reports.finish(2 * 3, &[0, 4]);
 }
+
+/// The pack's own count of valid blocks isn't consulted.
+#[test]
+fn valid_blocks_of_the_pack() {
+    let mut reports = Reports::new("segment report by the pack's count");
+    let mut card = SegmentCard::new(&knobs(3, Pack::compact(1)));
+    card.set_entry(1, &SitEntry::filled(70));
+    card.set_entry(2, &counted(9, 30));
+    let first = card.first_block();
+    for count in [0, 1, 70, 79, 99, 100, 101, u64::MAX] {
+        card.image.set_sealed(first, VALID_BLOCK_COUNT, count);
+        reports.expect(&card.image, &Report::of(&[2], 100));
+    }
+    reports.finish(8, &[0]);
+}
