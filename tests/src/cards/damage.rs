@@ -94,6 +94,24 @@ impl Damage {
     }
 }
 
+/// Gives a card with one pack, its first, a fault for each answer from 8 down to 5. Returns the marks at which
+/// the faults before 6, 7 and 8 are undone, each with its answer.
+pub fn all_faults(image: &mut Image) -> [(usize, u32); 3] {
+    let first = image.first_block(0);
+    image.set_sealed(first, CKPT_FLAGS, u64::from(CP_LARGE_NAT_BITMAP_FLAG));
+    let unreadable = image.mark();
+    image.set(first, CHECKSUM_OFFSET, 0);
+    let no_pack = image.mark();
+    for copy in [0, 1] {
+        image.set(copy, superblock::FEATURE, 1);
+    }
+    let feature = image.mark();
+    for copy in [0, 1] {
+        image.set(copy, superblock::MAGIC, 0);
+    }
+    [(feature, 6), (no_pack, 7), (unreadable, 8)]
+}
+
 /// Whether a pack is there: anything else, junk too, hasn't the checksum offset.
 fn has_pack(image: &Image, which: usize) -> bool {
     image.get(image.first_block(which), CHECKSUM_OFFSET) == CHECKSUM.at as u64

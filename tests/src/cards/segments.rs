@@ -2,7 +2,7 @@
 //! journal.
 
 use crate::cards::image::Image;
-use crate::cards::knobs::{Knobs, Pack};
+use crate::cards::knobs::{Areas, Knobs, Pack};
 use crate::cards::layout::checkpoint::SIT_NAT_VERSION_BITMAP;
 use crate::cards::layout::sit::{SitEntry, ENTRIES_PER_BLOCK, ENTRY_SIZE};
 use crate::cards::layout::sit_journal::{self, SitJournalEntry, MOST_ENTRIES, N_SITS, SEGNO};
@@ -55,7 +55,7 @@ impl SegmentCard {
             packs: [None, None],
             ..knobs.clone()
         });
-        image.put_junk(image.areas.cp..image.areas.nat, knobs.main_segments.into());
+        put_junk(&mut image);
         for (which, pack) in knobs.packs.iter().enumerate() {
             if let Some(pack) = pack {
                 image.add_pack(which, &with_segments(pack), knobs);
@@ -176,6 +176,15 @@ impl SegmentCard {
                 (table, entry + below(ENTRY_SIZE))
             }
         }
+    }
+}
+
+/// In the checkpoint area, and wherever in the table an entry may be sought by a wrong rule.
+fn put_junk(image: &mut Image) {
+    let Areas { cp, sit, nat, .. } = image.areas;
+    image.put_junk(cp..sit, cp.into());
+    for start in (sit..nat).step_by(128) {
+        image.put_junk(start..start + 32, start.into());
     }
 }
 

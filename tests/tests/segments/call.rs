@@ -5,14 +5,11 @@ use harptimber_tests::calls::lookups::Lookups;
 use harptimber_tests::calls::pulls::Pulls;
 use harptimber_tests::calls::segments::{needed, Report, Reports};
 use harptimber_tests::cards::card::{Card, ROOT};
+use harptimber_tests::cards::damage::all_faults;
 use harptimber_tests::cards::directory::Dentry;
 use harptimber_tests::cards::image::Image;
 use harptimber_tests::cards::knobs::{Knobs, Pack};
-use harptimber_tests::cards::layout::checkpoint::{
-    CHECKSUM_OFFSET, CKPT_FLAGS, CP_LARGE_NAT_BITMAP_FLAG, CP_UMOUNT_FLAG,
-};
 use harptimber_tests::cards::layout::sit_journal::N_SITS;
-use harptimber_tests::cards::layout::superblock::{FEATURE, MAGIC};
 use harptimber_tests::cards::layout::{journal, BLOCK_SIZE};
 use harptimber_tests::cards::segments::SegmentCard;
 use harptimber_tests::sizes::CARD_BLOCKS_MOST;
@@ -121,39 +118,16 @@ fn first_answer_that_applies() {
     let (mut card, report) = half_off(3);
     let settled = card.image.mark();
     card.set_journal_count(7);
+    let sit_journal = card.image.mark();
     let image = &mut card.image;
-    let sit_journal = image.mark();
-    let first = image.first_block(0);
-    image.set(first + 1, journal::N_NATS, 39);
+    image.set(image.first_block(0) + 1, journal::N_NATS, 39);
     let nat_journal = image.mark();
-    let large = CP_LARGE_NAT_BITMAP_FLAG | CP_UMOUNT_FLAG;
-    image.set_sealed(first, CKPT_FLAGS, u64::from(large));
-    let unreadable = image.mark();
-    image.set(first, CHECKSUM_OFFSET, 0);
-    let no_pack = image.mark();
-    for copy in [0, 1] {
-        image.set(copy, FEATURE, 1);
-    }
-    let feature = image.mark();
-    for copy in [0, 1] {
-        image.set(copy, MAGIC, 0);
-    }
-    expect_at_length(
-        &mut reports,
-        image,
-        image.bytes().len() - 1,
-        &Report::refused(4),
-    );
+    let faults = all_faults(image);
     let whole = image.bytes().len();
+    expect_at_length(&mut reports, image, whole - 1, &Report::refused(4));
     expect_at_length(&mut reports, image, whole, &Report::refused(5));
-    let steps = [
-        (feature, 6),
-        (no_pack, 7),
-        (unreadable, 8),
-        (nat_journal, 8),
-        (sit_journal, 8),
-    ];
-    for (mark, answer) in steps {
+    let journals = [(nat_journal, 8), (sit_journal, 8)];
+    for (mark, answer) in faults.into_iter().chain(journals) {
         image.undo(mark);
         expect_at_length(&mut reports, image, whole, &Report::refused(answer));
     }

@@ -2,7 +2,7 @@
 
 use harptimber_tests::calls::segments::{Report, Reports};
 use harptimber_tests::cards::knobs::Pack;
-use harptimber_tests::cards::layout::sit::{SitEntry, MAP_SIZE, MTIME, VBLOCKS_SHIFT};
+use harptimber_tests::cards::layout::sit::{SitEntry, MAP_SIZE, VBLOCKS_SHIFT};
 use harptimber_tests::cards::segments::SegmentCard;
 
 use crate::{counted, journalled, knobs};
@@ -94,6 +94,13 @@ fn every_type() {
     reports.finish(2 * 64 * 13, &[0]);
 }
 
+fn counted_in(map: [u8; MAP_SIZE], count: u16) -> SitEntry {
+    SitEntry {
+        count,
+        ..SitEntry::of(map)
+    }
+}
+
 /// One block valid, and all but one, at each place of the segment.
 #[test]
 fn every_bit_of_the_map() {
@@ -105,11 +112,7 @@ fn every_bit_of_the_map() {
                 let mut map = [others; MAP_SIZE];
                 map[block / 8] ^= 0x80 >> (block % 8);
                 for count in [ones - 1, ones, ones + 1] {
-                    let entry = SitEntry {
-                        count: count as u16,
-                        ..SitEntry::of(map)
-                    };
-                    card.expect(&mut reports, &entry, ones);
+                    card.expect(&mut reports, &counted_in(map, count as u16), ones);
                 }
             }
         }
@@ -152,13 +155,6 @@ fn a_bit_in_each_byte() {
     reports.finish(2 * 8 * 4, &[0]);
 }
 
-fn counted_in(map: [u8; MAP_SIZE], count: u16) -> SitEntry {
-    SitEntry {
-        count,
-        ..SitEntry::of(map)
-    }
-}
-
 /// Nothing depends on the time of a segment.
 #[test]
 fn every_time() {
@@ -192,11 +188,11 @@ fn bytes_beside_an_entry() {
         card.set_entry(segno, &late);
     }
     reports.expect(&card.image, &Report::of(&[], 0));
-    let (block, _) = card.image.sit_place(0, 0);
-    card.image.put("rest", block, 55 * 74, &[0xFF; 26]);
-    card.image.put("behind", block + 1, 74, &[0xFF; 74]);
+    // A block's last 26 bytes, and the entry that a segment 56 would have.
+    let [last, next] = [0, 1].map(|table_block| card.image.sit_block(table_block, 0));
+    card.image.put("rest of a block", last, 4070, &[0xFF; 26]);
+    card.image.put("a segment more", next, 74, &[0xFF; 74]);
     reports.expect(&card.image, &Report::of(&[], 0));
-    assert_eq!(MTIME.at + MTIME.size, 74);
     reports.finish(2, &[0]);
 }
 
@@ -257,11 +253,8 @@ fn ones_of_each_segment() {
         for segno in 0..9 {
             let emptied = card.image.mark();
             card.set_entry(segno, &counted(0, 0));
-            let off: Vec<u32> = off
-                .iter()
-                .copied()
-                .filter(|&other| other != segno)
-                .collect();
+            let others = off.iter().filter(|&&other| other != segno);
+            let off: Vec<u32> = others.copied().collect();
             let left = 511 - (1 << segno);
             reports.expect(&card.image, &Report::of(&off, left));
             card.image.undo(emptied);

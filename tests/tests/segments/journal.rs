@@ -5,6 +5,7 @@ use harptimber_tests::cards::knobs::Pack;
 use harptimber_tests::cards::layout::checkpoint::{CP_COMPACT_SUM_FLAG, CP_UMOUNT_FLAG};
 use harptimber_tests::cards::layout::journal;
 use harptimber_tests::cards::layout::nat::NatEntry;
+use harptimber_tests::cards::layout::sit::SitEntry;
 use harptimber_tests::cards::layout::sit_journal::{SitJournalEntry, MOST_ENTRIES};
 use harptimber_tests::cards::random::shuffle;
 use harptimber_tests::cards::segments::SegmentCard;
@@ -32,7 +33,7 @@ fn full() -> Vec<SitJournalEntry> {
     (0..MOST).map(entry).collect()
 }
 
-fn wrong(n: u32) -> harptimber_tests::cards::layout::sit::SitEntry {
+fn wrong(n: u32) -> SitEntry {
     counted(0, 1 << n)
 }
 

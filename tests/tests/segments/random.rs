@@ -4,6 +4,7 @@ use std::ops::RangeInclusive;
 
 use harptimber_tests::calls::segments::{needed, Report, Reports};
 use harptimber_tests::cards::damage::Damage;
+use harptimber_tests::cards::image::Image;
 use harptimber_tests::cards::knobs::Knobs;
 use harptimber_tests::cards::layout::sit::{SitEntry, MAP_SIZE};
 use harptimber_tests::cards::layout::sit_journal::{SitJournalEntry, MOST_ENTRIES};
@@ -17,10 +18,7 @@ use crate::journalled;
 /// Often sound; else with a count that is near, or any.
 fn entry(random: &mut Random) -> SitEntry {
     let mut map = [0; MAP_SIZE];
-    let (and, or) = pick(
-        random,
-        &[(0xFF, 0x00), (0x11, 0x00), (0xFF, 0xEE), (0x00, 0x00)],
-    );
+    let (and, or) = pick(random, &[(0xFF, 0x00), (0x11, 0x00), (0xFF, 0xEE), (0, 0)]);
     map.fill_with(|| random.number() as u8 & and | or);
     let sound = SitEntry::of(map);
     let near = [sound.count.max(1) - 1, sound.count + 1];
@@ -75,7 +73,7 @@ fn card(random: &mut Random) -> (Knobs, SegmentCard, Vec<SitEntry>) {
 
 /// What these entries of the table say, and a journal over them.
 fn report(mut entries: Vec<SitEntry>, journal: &[SitJournalEntry]) -> Report {
-    for JournalledEntry { segno, entry } in journal.iter().rev() {
+    for SitJournalEntry { segno, entry } in journal.iter().rev() {
         if let Some(in_table) = entries.get_mut(*segno as usize) {
             *in_table = *entry;
         }
@@ -89,8 +87,6 @@ fn report(mut entries: Vec<SitEntry>, journal: &[SitJournalEntry]) -> Report {
     Report::of(&off, sound.map(|sound| u32::from(sound.count)).sum())
 }
 
-use harptimber_tests::cards::layout::sit_journal::SitJournalEntry as JournalledEntry;
-
 #[test]
 fn sound_cards() {
     let mut reports = Reports::new("segment report of random cards");
@@ -103,7 +99,23 @@ fn sound_cards() {
     reports.finish(150, &[0]);
 }
 
-/// Sound cards whose journal, table and map change again and again.
+/// Whatever bytes stand in the table and in the map.
+#[test]
+fn junk_tables() {
+    let mut reports = Reports::new("segment report of junk");
+    for _ in 0..reports.trial.times(100) {
+        let random = &mut reports.trial.random;
+        let mut knobs = sound_knobs(random);
+        for pack in knobs.packs.iter_mut().flatten() {
+            pack.sit_journal = Some(journal(random, knobs.main_segments));
+        }
+        let image = Image::new(&knobs);
+        reports.compare(&image, needed(&image));
+    }
+    reports.finish(100, &[0]);
+}
+
+/// Sound cards whose journal and table change again and again.
 #[test]
 fn changing_cards() {
     let mut reports = Reports::new("segment report of changing cards");
