@@ -94,8 +94,8 @@ impl Damage {
     }
 }
 
-/// Gives a card with one pack, its first, a fault for each answer from 8 down to 5. Returns the marks at which
-/// the faults before 6, 7 and 8 are undone, each with its answer.
+/// Gives a card with one pack, its first, a fault for each answer from 8 down to 5. Returns the marks to
+/// undo to, one after the other, and the answer that each of them leads to.
 pub fn all_faults(image: &mut Image) -> [(usize, u32); 3] {
     let first = image.first_block(0);
     image.set_sealed(first, CKPT_FLAGS, u64::from(CP_LARGE_NAT_BITMAP_FLAG));

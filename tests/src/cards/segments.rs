@@ -115,6 +115,11 @@ impl SegmentCard {
         self.image.first_block(self.which_pack)
     }
 
+    /// The SIT map as it was built or read.
+    pub fn map(&self) -> &[u8] {
+        &self.pack.sit_map
+    }
+
     pub fn set_map(&mut self, map: &[u8]) {
         let first = self.first_block();
         self.image

@@ -1,6 +1,6 @@
 //! The segment report of cards that the published tools write, beside what fsck.f2fs finds on them.
-//! mkfs.f2fs writes a compact pack with a full SIT journal, sload.f2fs a plain one with an empty journal;
-//! neither ever uses a second copy of the table.
+//! mkfs.f2fs writes a compact pack with a full SIT journal, sload.f2fs a plain one with an empty journal,
+//! and neither uses a second copy of the table.
 
 use harptimber_tests::calls::segments::{needed, Report, Reports};
 use harptimber_tests::cards::image::Image;
@@ -37,8 +37,9 @@ fn expect_sound(reports: &mut Reports, image: &Image) -> u32 {
     checked.reached
 }
 
-/// Compact or not, and how many entries the SIT journal has.
+/// Whether the pack is compact, and how many entries its SIT journal has. All first copies are in use.
 fn summaries(card: &SegmentCard) -> (bool, u64) {
+    assert!(card.map().iter().all(|&byte| byte == 0));
     let flags = card.image.get(card.first_block(), CKPT_FLAGS);
     let (block, at) = card.journal_place();
     let entries = card.image.get(block, N_SITS.moved(at));
@@ -86,7 +87,7 @@ fn filled() {
     reports.finish(4, &[0]);
 }
 
-/// Changes a segment's count, then one bit of its map: that segment alone is named, and fsck.f2fs says so too.
+/// Changes a segment's count, then one bit of its map: that segment alone is named, by fsck.f2fs too.
 fn expect_named(reports: &mut Reports, card: &mut SegmentCard, segno: u32, ones: u32) {
     let (block, at) = card.entry_place(segno);
     let vblocks = VBLOCKS.moved(at);
