@@ -67,14 +67,28 @@ impl Grid {
     /// In each column but the first, what a side takes more than in the first, as a part of what another
     /// takes more.
     pub fn added(&self, of: usize, to: usize) -> Vec<f64> {
-        let more = |column: usize, side: usize| {
-            let times = self.times[column][side].iter().zip(&self.times[0][side]);
-            median(times.map(|(later, first)| later - first).collect())
-        };
         let later = 1..self.times.len();
         later
-            .map(|column| more(column, of) / more(column, to))
+            .map(|column| self.more(column, of) / self.more(column, to))
             .collect()
+    }
+
+    /// In each column but the first, what a side takes more than in the first for each that the size is
+    /// greater, as a part of the same in the last column. It is 1 where time grows as size does.
+    pub fn steepness(&self, side: usize, sizes: &[u32]) -> Vec<f64> {
+        let steep = |column: usize| {
+            let more = f64::from(sizes[column] - sizes[0]);
+            self.more(column, side) / more
+        };
+        let last = steep(self.times.len() - 1);
+        let later = 1..self.times.len();
+        later.map(|column| steep(column) / last).collect()
+    }
+
+    /// What a side takes more in a column than in the first one.
+    fn more(&self, column: usize, side: usize) -> f64 {
+        let times = self.times[column][side].iter().zip(&self.times[0][side]);
+        median(times.map(|(later, first)| later - first).collect())
     }
 }
 

@@ -63,6 +63,15 @@ pub struct Compared {
     pub number: u32,
 }
 
+/// The result of `segment_report`.
+#[repr(C)]
+#[derive(Clone, Copy, Debug, PartialEq, Eq)]
+pub struct Segments {
+    pub answer: u32,
+    pub count: u32,
+    pub valid_blocks: u32,
+}
+
 #[link(name = "harptimber", kind = "static")]
 extern "C" {
     fn harptimber_name_hash(name: *const u8, name_len: usize) -> Hashed;
@@ -93,6 +102,12 @@ extern "C" {
         blocks_len: usize,
         block_count: u32,
     ) -> Compared;
+    fn harptimber_segment_report(
+        image: *const u8,
+        image_len: usize,
+        list: *mut u8,
+        list_len: usize,
+    ) -> Segments;
 }
 
 pub fn name_hash(name: &[u8]) -> Hashed {
@@ -160,4 +175,10 @@ pub fn compare(
             block_count,
         )
     }
+}
+
+pub fn segment_report(image: &[u8], list: &mut [u8]) -> Segments {
+    // SAFETY: a slice's pointer is never null, the bytes of both can be read and the list's written,
+    // and the list doesn't overlap the image.
+    unsafe { harptimber_segment_report(image.as_ptr(), image.len(), list.as_mut_ptr(), list.len()) }
 }

@@ -1,4 +1,4 @@
-//! Memory that is lent to a pull. It is filled with a pattern beforehand, and so is a margin around
+//! Memory that is lent to a call. It is filled with a pattern beforehand, and so is a margin around
 //! it, to see afterwards each byte that was written.
 
 use std::fmt::{Debug, Formatter, Result};
@@ -62,7 +62,7 @@ pub struct Slice {
 
 impl Slice {
     /// `shift` moves the start, so that it isn't always aligned.
-    fn new(len: usize, pattern: Pattern, shift: usize) -> Slice {
+    pub fn new(len: usize, pattern: Pattern, shift: usize) -> Slice {
         let start = MARGIN + shift;
         let positions = 0..start + len + MARGIN;
         Slice {

@@ -6,3 +6,4 @@ pub mod guard_script;
 pub mod lent;
 pub mod lookups;
 pub mod pulls;
+pub mod segments;

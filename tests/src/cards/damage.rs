@@ -3,7 +3,6 @@
 use std::ops::Range;
 
 use crate::cards::image::Image;
-use crate::cards::knobs::Pack;
 use crate::cards::layout::checkpoint::*;
 use crate::cards::layout::{journal, superblock, Field};
 use crate::cards::random::pick;
@@ -43,12 +42,7 @@ impl Damage {
         let number = |field| image.get(first, field) as u32;
         let sizes = number(SIT_VER_BITMAP_BYTESIZE) + number(NAT_VER_BITMAP_BYTESIZE);
         self.maps.end = self.maps.start + sizes as usize;
-        let pack = Pack {
-            total: number(CP_PACK_TOTAL_BLOCK_COUNT),
-            flags: number(CKPT_FLAGS),
-            start_sum: number(CP_PACK_START_SUM),
-            ..Pack::compact(0)
-        };
+        let pack = image.pack(which);
         let (block, at) = pack.journal_place().expect("a sound pack has a journal");
         self.journals.push((first + block, at));
     }
@@ -98,6 +92,24 @@ impl Damage {
         let place = |&(block, at): &(u32, usize)| (block, field.moved(at));
         self.journals.iter().map(place).collect()
     }
+}
+
+/// Gives a card with one pack, its first, a fault for each answer from 8 down to 5. Returns the marks to
+/// undo to, one after the other, and the answer that each of them leads to.
+pub fn all_faults(image: &mut Image) -> [(usize, u32); 3] {
+    let first = image.first_block(0);
+    image.set_sealed(first, CKPT_FLAGS, u64::from(CP_LARGE_NAT_BITMAP_FLAG));
+    let unreadable = image.mark();
+    image.set(first, CHECKSUM_OFFSET, 0);
+    let no_pack = image.mark();
+    for copy in [0, 1] {
+        image.set(copy, superblock::FEATURE, 1);
+    }
+    let feature = image.mark();
+    for copy in [0, 1] {
+        image.set(copy, superblock::MAGIC, 0);
+    }
+    [(feature, 6), (no_pack, 7), (unreadable, 8)]
 }
 
 /// Whether a pack is there: anything else, junk too, hasn't the checksum offset.

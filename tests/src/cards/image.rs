@@ -8,6 +8,7 @@ use std::os::unix::fs::FileExt;
 use std::path::Path;
 
 use crate::cards::knobs::{Areas, Knobs, Pack};
+use crate::cards::layout::checkpoint::SIT_NAT_VERSION_BITMAP;
 use crate::cards::layout::nat::{NatEntry, ENTRIES_PER_BLOCK, MAP_BYTES_PER_SEGMENT};
 use crate::cards::layout::{checkpoint, footer, journal, nat, superblock};
 use crate::cards::layout::{Field, BLOCK_SIZE, SEGMENT_BLOCKS};
@@ -122,6 +123,12 @@ impl Image {
         self.bytes[place].copy_from_slice(bytes);
     }
 
+    /// Fills blocks with random bytes, which aren't undone.
+    pub fn put_junk(&mut self, blocks: Range<u32>, seed: u64) {
+        let len = blocks.len() * BLOCK_SIZE;
+        put_junk(&mut self.bytes[place(blocks.start, 0, len)], seed);
+    }
+
     /// Writes it to a file, in which blocks of zeros take no room.
     pub fn save(&self, path: &Path) {
         let file = File::create(path).expect("an image file");
@@ -176,6 +183,20 @@ impl Image {
         (u64::from(first) + total - 1) as u32
     }
 
+    /// A pack that is there, as far as its numbers and its SIT map go.
+    pub fn pack(&self, which: usize) -> Pack {
+        let first = self.first_block(which);
+        let number = |field| self.get(first, field);
+        let map_size = number(checkpoint::SIT_VER_BITMAP_BYTESIZE) as usize;
+        Pack {
+            total: number(checkpoint::CP_PACK_TOTAL_BLOCK_COUNT) as u32,
+            flags: number(checkpoint::CKPT_FLAGS) as u32,
+            start_sum: number(checkpoint::CP_PACK_START_SUM) as u32,
+            sit_map: self.block(first)[SIT_NAT_VERSION_BITMAP..][..map_size].to_vec(),
+            ..Pack::compact(number(checkpoint::CHECKPOINT_VER))
+        }
+    }
+
     /// The checksum of a block's first bytes.
     pub fn checksum(&self, block: u32, len: usize) -> u32 {
         reference::checksum::checksum(&self.bytes[place(block, 0, len)])
@@ -196,6 +217,9 @@ impl Image {
     pub fn add_pack(&mut self, which: usize, pack: &Pack, knobs: &Knobs) {
         let first = self.first_block(which);
         self.set_all(first, &pack.fields(knobs));
+        if !pack.sit_map.is_empty() {
+            self.put("SIT map", first, SIT_NAT_VERSION_BITMAP, &pack.sit_map);
+        }
         let (at, map) = nat_map(pack, knobs);
         self.put("NAT map", first, at, &map);
         self.seal(first);
@@ -206,6 +230,9 @@ impl Image {
         self.set_sealed(last, checkpoint::CHECKSUM_OFFSET, offset);
         if let Some((block, at)) = pack.journal_place() {
             self.put_journal(first + block, at, &pack.journal);
+        }
+        if let (Some(journal), Some((block, at))) = (&pack.sit_journal, pack.sit_journal_place()) {
+            self.put_sit_journal(first + block, at, journal);
         }
     }
 
@@ -307,18 +334,22 @@ fn number_in(bytes: &[u8], block: u32, field: Field) -> u64 {
 fn background(knobs: &Knobs) -> Vec<u8> {
     let mut bytes = vec![0; knobs.image_blocks() as usize * BLOCK_SIZE];
     if let Some(seed) = knobs.junk {
-        let mut random = Random::new(seed);
-        for eight in bytes.chunks_exact_mut(8) {
-            eight.copy_from_slice(&random.number().to_le_bytes());
-        }
+        put_junk(&mut bytes, seed);
     }
     bytes
+}
+
+fn put_junk(bytes: &mut [u8], seed: u64) {
+    let mut random = Random::new(seed);
+    for eight in bytes.chunks_exact_mut(8) {
+        eight.copy_from_slice(&random.number().to_le_bytes());
+    }
 }
 
 /// Where a pack's NAT map starts, and its bytes as far as they lie before the checksum.
 fn nat_map(pack: &Pack, knobs: &Knobs) -> (usize, Vec<u8>) {
     let size = |segments| (MAP_BYTES_PER_SEGMENT * segments) as usize;
-    let start = checkpoint::SIT_NAT_VERSION_BITMAP + size(knobs.sit_segments);
+    let start = SIT_NAT_VERSION_BITMAP + size(knobs.sit_segments);
     let mut map = pack.nat_map.clone();
     map.resize(size(knobs.nat_segments), 0);
     map.truncate(checkpoint::CHECKSUM.at.saturating_sub(start));

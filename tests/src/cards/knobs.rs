@@ -3,6 +3,7 @@
 use crate::cards::layout::checkpoint::*;
 use crate::cards::layout::journal::{self, JournalEntry};
 use crate::cards::layout::nat::{BLOCKS_PER_SEGMENT, ENTRIES_PER_BLOCK, MAP_BYTES_PER_SEGMENT};
+use crate::cards::layout::sit_journal::{self, SitJournalEntry};
 use crate::cards::layout::superblock::*;
 use crate::cards::layout::{Field, SEGMENT_BLOCKS};
 
@@ -17,6 +18,9 @@ pub struct Pack {
     /// As stored, so that bit 0 is a byte's top bit. What is missing is 0.
     pub nat_map: Vec<u8>,
     pub journal: Vec<JournalEntry>,
+    /// The same of segments. What is missing isn't written: most calls don't consult it.
+    pub sit_map: Vec<u8>,
+    pub sit_journal: Option<Vec<SitJournalEntry>>,
 }
 
 impl Pack {
@@ -29,6 +33,8 @@ impl Pack {
             start_sum: 1,
             nat_map: Vec::new(),
             journal: Vec::new(),
+            sit_map: Vec::new(),
+            sit_journal: None,
         }
     }
 
@@ -54,10 +60,23 @@ impl Pack {
         (self.total > from_end).then(|| (self.total - from_end, journal::IN_PLAIN_BLOCK))
     }
 
+    /// The same of the SIT journal.
+    pub fn sit_journal_place(&self) -> Option<(u32, usize)> {
+        let (nat_block, _) = self.journal_place()?;
+        if self.flags & CP_COMPACT_SUM_FLAG != 0 {
+            return Some((nat_block, sit_journal::IN_COMPACT_BLOCK));
+        }
+        let block = nat_block + sit_journal::BLOCKS_AFTER_NAT;
+        Some((block, sit_journal::IN_PLAIN_BLOCK))
+    }
+
     /// Which copy of a table block its map says is in use.
     pub fn nat_copy(&self, table_block: u32) -> u32 {
-        let byte = self.nat_map.get(table_block as usize / 8).unwrap_or(&0);
-        u32::from(byte >> (7 - table_block % 8) & 1)
+        bit(&self.nat_map, table_block)
+    }
+
+    pub fn sit_copy(&self, table_block: u32) -> u32 {
+        bit(&self.sit_map, table_block)
     }
 
     /// The numbers of its first block, but for the checksum.
@@ -73,6 +92,12 @@ impl Pack {
             (CHECKSUM_OFFSET, CHECKSUM.at as u64),
         ]
     }
+}
+
+/// A map's bits count from the top of a byte.
+fn bit(map: &[u8], n: u32) -> u32 {
+    let byte = map.get(n as usize / 8).unwrap_or(&0);
+    u32::from(byte >> (7 - n % 8) & 1)
 }
 
 /// A card whose areas follow each other, whatever the counts.

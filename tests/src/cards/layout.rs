@@ -97,6 +97,13 @@ pub mod checkpoint {
         CHECKSUM: 4 at 4092,
     }
 
+    /// How many valid blocks a pack has by its own count, which no call consults.
+    pub const VALID_BLOCK_COUNT: super::Field = super::Field {
+        name: "VALID_BLOCK_COUNT",
+        at: 16,
+        size: 8,
+    };
+
     /// Where the SIT map starts. The NAT map follows it.
     pub const SIT_NAT_VERSION_BITMAP: usize = 192;
 
@@ -176,6 +183,104 @@ pub mod journal {
     impl JournalEntry {
         pub fn stored(self) -> Vec<u8> {
             [&self.nid.to_le_bytes(), self.entry.stored().as_slice()].concat()
+        }
+    }
+}
+
+/// The segment information table.
+pub mod sit {
+    pub const ENTRIES_PER_BLOCK: u32 = 55;
+    pub const ENTRY_SIZE: usize = 74;
+    /// Where the map of valid blocks stands in an entry, and its bytes.
+    pub const VALID_MAP: usize = 2;
+    pub const MAP_SIZE: usize = 64;
+    /// The count has the bits below it, the segment's type those from it on.
+    pub const VBLOCKS_SHIFT: u32 = 10;
+
+    // The numbers of a block's first entry.
+    fields! { from 0:
+        VBLOCKS: 2 at 0,
+        MTIME: 8 at 66,
+    }
+
+    /// What the table says of a segment.
+    #[derive(Clone, Copy, Debug, PartialEq, Eq)]
+    pub struct SitEntry {
+        pub count: u16,
+        pub seg_type: u16,
+        pub valid_map: [u8; MAP_SIZE],
+        pub mtime: u64,
+    }
+
+    impl SitEntry {
+        /// Sound, with this map.
+        pub fn of(valid_map: [u8; MAP_SIZE]) -> SitEntry {
+            let ones = valid_map.iter().map(|byte| byte.count_ones() as u16);
+            SitEntry {
+                count: ones.sum(),
+                seg_type: 0,
+                valid_map,
+                mtime: 0,
+            }
+        }
+
+        /// Sound, with as many valid blocks at the segment's start.
+        pub fn filled(blocks: u32) -> SitEntry {
+            let mut map = [0; MAP_SIZE];
+            for block in 0..blocks as usize {
+                map[block / 8] |= 0x80 >> (block % 8);
+            }
+            SitEntry::of(map)
+        }
+
+        pub fn stored(&self) -> Vec<u8> {
+            let vblocks = self.seg_type << VBLOCKS_SHIFT | self.count;
+            let [vblocks, mtime] = [&vblocks.to_le_bytes()[..], &self.mtime.to_le_bytes()];
+            [vblocks, &self.valid_map, mtime].concat()
+        }
+
+        pub fn read(stored: &[u8]) -> SitEntry {
+            let vblocks = u16::from_le_bytes(stored[..VALID_MAP].try_into().unwrap());
+            let (map, rest) = stored[VALID_MAP..].split_at(MAP_SIZE);
+            SitEntry {
+                count: vblocks % (1 << VBLOCKS_SHIFT),
+                seg_type: vblocks >> VBLOCKS_SHIFT,
+                valid_map: map.try_into().unwrap(),
+                mtime: u64::from_le_bytes(rest[..MTIME.size].try_into().unwrap()),
+            }
+        }
+    }
+}
+
+/// The SIT journal, wherever in its block it starts.
+pub mod sit_journal {
+    use super::sit::SitEntry;
+
+    // The count, and the number of the first entry.
+    fields! { from 0:
+        N_SITS: 2 at 0,
+        SEGNO: 4 at 2,
+    }
+
+    pub const ENTRY_SIZE: usize = 78;
+    /// The most entries that are read.
+    pub const MOST_ENTRIES: usize = 6;
+    /// In a compact pack it stands behind the NAT journal, in the same block.
+    pub const IN_COMPACT_BLOCK: usize = 507;
+    pub const IN_PLAIN_BLOCK: usize = super::journal::IN_PLAIN_BLOCK;
+    /// In a plain pack it is in the summary of cold data; the NAT journal is in that of hot data.
+    pub const BLOCKS_AFTER_NAT: u32 = 2;
+
+    /// A table entry that stands in the journal.
+    #[derive(Clone, Copy, Debug, PartialEq, Eq)]
+    pub struct SitJournalEntry {
+        pub segno: u32,
+        pub entry: SitEntry,
+    }
+
+    impl SitJournalEntry {
+        pub fn stored(&self) -> Vec<u8> {
+            [&self.segno.to_le_bytes(), self.entry.stored().as_slice()].concat()
         }
     }
 }

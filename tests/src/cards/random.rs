@@ -65,6 +65,7 @@ fn sound_pack(random: &mut Random) -> Pack {
         },
         nat_map: random.bytes(256),
         journal: (0..entries).map(|_| journal_entry(random)).collect(),
+        ..Pack::compact(0)
     }
 }
 

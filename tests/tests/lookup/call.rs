@@ -1,12 +1,9 @@
 //! Node lookup: the image's length, and which of several answers comes first.
 
 use harptimber_tests::calls::lookups::Lookups;
+use harptimber_tests::cards::damage::all_faults;
 use harptimber_tests::cards::image::Image;
 use harptimber_tests::cards::knobs::Knobs;
-use harptimber_tests::cards::layout::checkpoint::{
-    CHECKSUM_OFFSET, CKPT_FLAGS, CP_LARGE_NAT_BITMAP_FLAG,
-};
-use harptimber_tests::cards::layout::superblock::{FEATURE, MAGIC};
 use harptimber_tests::cards::layout::BLOCK_SIZE;
 use harptimber_tests::sizes::CARD_BLOCKS_MOST;
 
@@ -80,24 +77,12 @@ fn lengths_of_zeros() {
 fn first_answer_that_applies() {
     let mut lookups = Lookups::new("node lookup with several faults");
     let mut image = Image::new(&Knobs::sound());
-    let first = image.first_block(0);
-    image.set(first, CKPT_FLAGS, u64::from(CP_LARGE_NAT_BITMAP_FLAG));
-    image.seal(first);
-    let unreadable = image.mark();
-    image.set(first, CHECKSUM_OFFSET, 0);
-    let no_pack = image.mark();
-    for copy in [0, 1] {
-        image.set(copy, FEATURE, 1);
-    }
-    let feature = image.mark();
-    for copy in [0, 1] {
-        image.set(copy, MAGIC, 0);
-    }
+    let faults = all_faults(&mut image);
     let odd_length = image.bytes().len() - 1;
     expect_at_length(&mut lookups, &image, odd_length, 4);
     // 0 is out of range in any table.
     lookups.expect(&image, 0, 5);
-    for (mark, answer) in [(feature, 6), (no_pack, 7), (unreadable, 8), (0, 9)] {
+    for (mark, answer) in faults.into_iter().chain([(0, 9)]) {
         image.undo(mark);
         lookups.expect(&image, 0, answer);
     }

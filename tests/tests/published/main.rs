@@ -4,3 +4,4 @@ mod accident;
 mod files;
 mod lookups;
 mod outside_readers;
+mod segments;

@@ -1,6 +1,7 @@
 //! The archive's calls on cards of three sizes, beside the reference's.
 
 use crate::cards::*;
+use crate::segments;
 use harptimber_bench::agreed::Agreed;
 use harptimber_bench::grid::{contender, Contender, Grid, Often};
 use harptimber_bench::pulls::{pulling, Lent, BLOCKS, BLOCK_SIZE, NODES};
@@ -30,6 +31,7 @@ pub struct Calls {
     pub indirect: Grid,
     pub lookup: Grid,
     pub compare: Grid,
+    pub segments: Grid,
 }
 
 impl Calls {
@@ -40,6 +42,7 @@ impl Calls {
             indirect: indirect(&cards[WITHOUT_SURVEY..]),
             lookup: lookup(cards, agreed),
             compare: compare(cards, agreed),
+            segments: report(cards, agreed),
         }
     }
 
@@ -121,6 +124,14 @@ fn compare(cards: &[Card], agreed: &mut Agreed) -> Grid {
         let same = (archive(), reference(), memcmp()) == (15, 15, true);
         agreed.see(same, &format!("a compare on {} MB", card.megabytes));
         vec![contender(archive), contender(reference), contender(memcmp)]
+    })
+}
+
+/// A report of all main segments.
+fn report(cards: &[Card], agreed: &mut Agreed) -> Grid {
+    by_card(LONGER, cards, |card| {
+        let what = format!("a segment report on {} MB", card.megabytes);
+        segments::sides(card.image, &what, agreed)
     })
 }
 

@@ -3,6 +3,7 @@
 mod calls;
 mod cards;
 mod levels;
+mod segments;
 mod whole;
 
 use calls::{Calls, MEMCMP, SAME_BLOCK};
@@ -22,6 +23,7 @@ fn main() -> ExitCode {
     beside_itself(&cards, &calls);
     growth_with_card(&cards, &calls);
     growth_with_levels(&mut agreed);
+    growth_with_segments(&mut agreed);
     whole_files(&whole::columns(&cards, &files), &mut agreed);
     checksum(&mut agreed);
     agreed.finish()
@@ -35,12 +37,12 @@ fn print_head() {
         "\
 Every number in the tables is a ratio of two times of this run. No time is claimed.
 
-  archive     libharptimber.a, called from this process; the checksum's own archive in table 6
+  archive     libharptimber.a, called from this process; the checksum's own archive in table 7
   reference/  a second program for the same rules, in safe Rust, meant to be plain and not to be fast;
               both are built for release
   GRUB        its F2FS reader, by {}
   cards       written by mkfs.f2fs {OPTIONS} and sload.f2fs, sparse files, mapped for reading; those of
-              table 4 are built in memory
+              tables 4 and 5 are built in memory
   buffers     warm: each card is in the page cache, mapped and read before; what is lent to a pull is
               lent again to the next one, and not cleared in between
   times       the processor's, user and system, children included: other load shows only where it
@@ -66,6 +68,8 @@ fn beside_reference(cards: &[Card], calls: &Calls) {
     }
     let behind = calls.indirect.parts(ARCHIVE, REFERENCE);
     table.late_row("pulls behind an indirect node", WITHOUT_SURVEY, &behind);
+    let segments = calls.segments.parts(ARCHIVE, REFERENCE);
+    table.row("segment report", &segments);
     table.print(
         "1. The archive beside reference/, by size of the card
    its time as a part of reference/'s; lower is better, below 1 is faster",
@@ -113,6 +117,25 @@ fn growth_with_levels(agreed: &mut Agreed) {
     );
 }
 
+fn growth_with_segments(agreed: &mut Agreed) {
+    let grid = segments::by_segments(agreed);
+    let mut table = Table::new(segments::SEGMENTS.iter().map(u32::to_string));
+    table.row("archive to reference/", &grid.parts(ARCHIVE, REFERENCE));
+    for (label, side) in [("archive", ARCHIVE), ("reference/", REFERENCE)] {
+        let fewest = segments::SEGMENTS[0];
+        let growth = grid.growth(side);
+        table.row(&format!("{label} to its {fewest} segments"), &growth);
+        let steepness = grid.steepness(side, &segments::SEGMENTS);
+        table.late_row(&format!("{label}, a segment more"), 1, &steepness);
+    }
+    table.print(
+        "5. Growth of a segment report, by main segments
+   time as a part of reference/'s, then as a multiple of the same side's for the fewest segments, then
+   for each segment more than those, as a multiple of the last column's: 1 throughout is a straight
+   line. 505 is the most that a card has room for",
+    );
+}
+
 fn whole_files(columns: &[Whole], agreed: &mut Agreed) {
     let grid = whole::whole(columns, agreed);
     let mut table = Table::new(columns.iter().map(Whole::head));
@@ -126,7 +149,7 @@ fn whole_files(columns: &[Whole], agreed: &mut Agreed) {
         table.row(label, &grid.parts(side, whole::GRUB));
     }
     table.print(
-        "5. Whole files beside GRUB's reader, by MB of the file/MB of the card
+        "6. Whole files beside GRUB's reader, by MB of the file/MB of the card
    time as a part of `grub-fstest CARD cat '(loop0)/NAME'`; lower is better, below 1 is faster.
    GRUB's time is a process from start to end with output to /dev/null, and so is each but the third",
     );
@@ -142,7 +165,7 @@ fn checksum(agreed: &mut Agreed) {
     let mut table = Table::new(["4,092 bytes".to_string()]);
     table.row("checksum, bit by bit to archive", &[ratio]);
     table.print(
-        "6. The checksum of a checkpoint block, which is most of an opening
+        "7. The checksum of a checkpoint block, which is most of an opening
    time of a loop over bits as a multiple of the archive's; higher is better. The compiler may turn
    that loop into one over a table, and is left to it",
     );
