@@ -1,4 +1,4 @@
--- A table over the definitions: in each line the numbers that they compute, and the numbers that document 01 states.
+-- A table over the definitions: in each line the numbers that they compute, and the numbers that document 01, or a request, states.
 use mathlib.Core.Path.{_≡_}
 use mathlib.Core.List.{List}
 use mathlib.Core.List as List

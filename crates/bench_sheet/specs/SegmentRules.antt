@@ -18,7 +18,7 @@ use Rattle.checkpoint.specs.declared.Opening.the-variants.{Opened, Refused}
 use Rattle.journal.specs.Journal.{searchFrom, journalFind}
 use Rattle.sit.specs.Entry.{validCount, onesBelow, mapOnes}
 use Rattle.sit.specs.Table.{sitJournalOf, tableBlock, tableAddress, inTable, sitEntry}
-use Rattle.sit.specs.Opening.{journalReadable, withSit}
+use Rattle.sit.specs.Opening.{sitJournalReadable, withSit}
 use Rattle.segment_report.specs.Off.{isOff, segmentsOff, onesInAll}
 use Rattle.segment_report.specs.Report.{Reported, offOn, reportOf, reportFrom}
 use Rattle.bench_sheet.specs.Line.{Line, _is_, Holds, yes}
@@ -43,7 +43,8 @@ entryRules =
 
 -- ---- where entries are
 
--- a SIT area from block 1536 with so many segments, and so many main segments; a pack at 512 with the flags, whose journal block is 517
+-- a SIT area from block 1536 with so many segments, and so many main segments; a pack at 512 with the flags, whose journal block is 517;
+-- the pack's total isn't consulted
 abbrev areas : ℕ → ℕ → Areas
 areas sitSegments mainSegments =
     record {
@@ -88,8 +89,8 @@ placeRules =
     -- "bit 0 is the top bit of a byte"
     ∷ ((placed 128 2 0 ∷ placed 128 2 55 ∷ placed 1 2 385 ∷ placed 1 2 384 ∷ []) is (2048 ∷ 1537 ∷ 2055 ∷ 1542 ∷ []))
     -- "at most 6; more is 8"
-    ∷ (List.map (λ n. yes (journalReadable (n ∷ 0 ∷ []))) (0 ∷ 6 ∷ 7 ∷ []) is (1 ∷ 1 ∷ 0 ∷ []))
-    ∷ (List.map (λ n. yes (journalReadable (0 ∷ n ∷ []))) (0 ∷ 1 ∷ []) is (1 ∷ 0 ∷ []))
+    ∷ (List.map (λ n. yes (sitJournalReadable (n ∷ 0 ∷ []))) (0 ∷ 6 ∷ 7 ∷ []) is (1 ∷ 1 ∷ 0 ∷ []))
+    ∷ (List.map (λ n. yes (sitJournalReadable (0 ∷ n ∷ []))) (0 ∷ 1 ∷ []) is (1 ∷ 0 ∷ []))
     ∷ []
 
 -- ---- a card with a journal
@@ -128,37 +129,39 @@ entriesRules =
     ∷ (List.map (counted 0 4 2) (1 ∷ 2 ∷ 54 ∷ []) is (7 ∷ 0 ∷ 5 ∷ []))
     ∷ (List.map (counted 0 4 3) (1 ∷ 2 ∷ 54 ∷ []) is (7 ∷ 0 ∷ 9 ∷ []))
     ∷ (List.map (counted 0 4 4) (1 ∷ 2 ∷ 54 ∷ []) is (7 ∷ 3 ∷ 9 ∷ []))
-    -- "Compact packs hold that journal at byte 507, others at 3,584 of the summary two blocks after hot data", with unmount or without
+    -- "Compact packs hold that journal at byte 507, others at 3,584 of the summary two blocks after hot data": compact is flag 4
+    ∷ (List.map (counted 0 5 3) (1 ∷ 2 ∷ 54 ∷ []) is (7 ∷ 0 ∷ 9 ∷ []))
     ∷ (List.map (counted 0 1 3) (1 ∷ 2 ∷ 54 ∷ []) is (7 ∷ 0 ∷ 9 ∷ []))
+    ∷ (List.map (counted 0 0x23 3) (1 ∷ 2 ∷ 54 ∷ []) is (7 ∷ 0 ∷ 9 ∷ []))
     ∷ (List.map (counted 0 0 0) (1 ∷ 2 ∷ 54 ∷ []) is (0 ∷ 0 ∷ 5 ∷ []))
     -- "else from the table copy the SIT map names"
     ∷ (List.map (counted 64 4 0) (54 ∷ 55 ∷ 56 ∷ []) is (5 ∷ 6 ∷ 0 ∷ []))
     ∷ []
 
--- ---- the report on its first three segments
+-- ---- the report on the card's first segments
 
 -- the answer, the count, the valid blocks, and the list as it is left, of which so many bytes were lent, each a 9
-abbrev numbers : Reported → List ℕ
-numbers r = (r .numbers .answer ∷ r .numbers .count ∷ r .numbers .«valid_blocks» ∷ []) ++ r .list
+abbrev leaves : Reported → List ℕ
+leaves r = (r .numbers .answer ∷ r .numbers .count ∷ r .numbers .«valid_blocks» ∷ []) ++ r .list
 
-abbrev reported : ℕ → Opening → ℕ → List ℕ
-reported n opening room = numbers (reportFrom (card 0 (blocks 4 n)) (withSit (card 0 (blocks 4 n)) opening) (replicate room 9))
+abbrev reportOn : ℕ → Opening → ℕ → List ℕ
+reportOn n opening room = leaves (reportFrom (card 0 (blocks 4 n)) (withSit (card 0 (blocks 4 n)) opening) (replicate room 9))
 
-abbrev opened : ℕ → Opening
-opened mainSegments = Opened (volume 2 mainSegments 4)
+abbrev openedWith : ℕ → Opening
+openedWith mainSegments = Opened (volume 2 mainSegments 4)
 
 abbrev reportRules : List Line
 reportRules =
     -- "it writes, rising, each segment whose count isn't the number of ones in its map, and it answers 0 with how many and the ones in all
     -- maps; later entries .. stay"
-    (reported 0 (opened 3) 12 is (0 ∷ 1 ∷ 10 ∷ 1 ∷ 0 ∷ 0 ∷ 0 ∷ 9 ∷ 9 ∷ 9 ∷ 9 ∷ 9 ∷ 9 ∷ 9 ∷ 9 ∷ []))
-    ∷ (reported 4 (opened 3) 15 is (0 ∷ 2 ∷ 2 ∷ 1 ∷ 0 ∷ 0 ∷ 0 ∷ 2 ∷ 0 ∷ 0 ∷ 0 ∷ 9 ∷ 9 ∷ 9 ∷ 9 ∷ 9 ∷ 9 ∷ 9 ∷ []))
-    ∷ (reported 4 (opened 1) 4 is (0 ∷ 0 ∷ 2 ∷ 9 ∷ 9 ∷ 9 ∷ 9 ∷ []))
-    ∷ (reported 4 (opened 0) 0 is (0 ∷ 0 ∷ 0 ∷ []))
+    (reportOn 0 (openedWith 3) 12 is (0 ∷ 1 ∷ 10 ∷ 1 ∷ 0 ∷ 0 ∷ 0 ∷ 9 ∷ 9 ∷ 9 ∷ 9 ∷ 9 ∷ 9 ∷ 9 ∷ 9 ∷ []))
+    ∷ (reportOn 4 (openedWith 3) 15 is (0 ∷ 2 ∷ 2 ∷ 1 ∷ 0 ∷ 0 ∷ 0 ∷ 2 ∷ 0 ∷ 0 ∷ 0 ∷ 9 ∷ 9 ∷ 9 ∷ 9 ∷ 9 ∷ 9 ∷ 9 ∷ []))
+    ∷ (reportOn 4 (openedWith 1) 4 is (0 ∷ 0 ∷ 2 ∷ 9 ∷ 9 ∷ 9 ∷ 9 ∷ []))
+    ∷ (reportOn 4 (openedWith 0) 0 is (0 ∷ 0 ∷ 0 ∷ []))
     -- "a lent list with one 32-bit number a main segment (shorter is 4, after 5 to 8)"; "That journal's 8"
-    ∷ (reported 4 (opened 3) 11 is ((4 ∷ 0 ∷ 0 ∷ []) ++ replicate 11 9))
-    ∷ (reported 7 (opened 3) 11 is ((8 ∷ 0 ∷ 0 ∷ []) ++ replicate 11 9))
-    ∷ (reported 7 (Refused 5) 1 is (5 ∷ 0 ∷ 0 ∷ 9 ∷ []))
+    ∷ (reportOn 4 (openedWith 3) 11 is ((4 ∷ 0 ∷ 0 ∷ []) ++ replicate 11 9))
+    ∷ (reportOn 7 (openedWith 3) 11 is ((8 ∷ 0 ∷ 0 ∷ []) ++ replicate 11 9))
+    ∷ (reportOn 7 (Refused 5) 1 is (5 ∷ 0 ∷ 0 ∷ 9 ∷ []))
     ∷ []
 
 pub entry-rules : Holds entryRules
@@ -166,7 +169,7 @@ unfolding le16 topBit validCount onesBelow isOff
 entry-rules = refl
 
 pub place-rules : Holds placeRules
-unfolding le16 topBit tableAddress journalReadable
+unfolding le16 topBit tableAddress sitJournalReadable
 place-rules = refl
 
 pub entries-rules : Holds entriesRules
@@ -174,6 +177,6 @@ unfolding le16 le32 topBit bytesOf searchFrom journalFind validCount sitJournalO
 entries-rules = refl
 
 pub report-rules : Holds reportRules
-unfolding le16 le32 topBit bytesOf over searchFrom journalFind validCount onesBelow sitJournalOf tableAddress inTable sitEntry journalReadable
+unfolding le16 le32 topBit bytesOf over searchFrom journalFind validCount onesBelow sitJournalOf tableAddress inTable sitEntry sitJournalReadable
     isOff segmentsOff onesInAll offOn reportOf
 report-rules = refl

@@ -14,8 +14,11 @@ flagSet flags one = eqb (flags / one % 2) 1
 abbrev pub unmount : Checkpoint → Bool
 unmount cp = flagSet (cp .«ckpt_flags») 1
 
+abbrev pub compactIn : ℕ → Bool
+compactIn flags = flagSet flags 4
+
 abbrev pub compact : Checkpoint → Bool
-compact cp = flagSet (cp .«ckpt_flags») 4
+compact cp = compactIn (cp .«ckpt_flags»)
 
 abbrev pub fastboot : Checkpoint → Bool
 fastboot cp = flagSet (cp .«ckpt_flags») 32

@@ -22,7 +22,7 @@ use Rattle.checkpoint.specs.declared.Opening.{Opening}
 use Rattle.checkpoint.specs.declared.Opening.the-variants.{Opened, Refused}
 use Rattle.checkpoint.specs.Checkpoint.{headerOf}
 use Rattle.checkpoint.specs.Pack.{chosen}
-use Rattle.checkpoint.specs.Journal.{flagSet, largeNatMap, journalIn, journalPlaced, journalAt}
+use Rattle.checkpoint.specs.Journal.{compactIn, largeNatMap, journalIn, journalPlaced, journalAt}
 
 -- "The SIT map starts at 192, the NAT map after it"
 abbrev pub natMapAt : Checkpoint → ℕ
@@ -81,11 +81,10 @@ openedImage image = choose (inShape (length image)) (opened (cardOf image)) (Ref
 
 -- the chosen pack is compact
 abbrev pub isCompact : Volume → Bool
-isCompact v = flagSet (v .flags) 4
+isCompact v = compactIn (v .flags)
 
 -- what holds of an opened volume on a card of so many blocks: what node lookup, a walk and a reader of SIT entries read lies inside
--- the card. A pack that isn't compact has a block for each summary: cold data's is the second behind hot data's, which is the journal
--- block
+-- the card. In a pack that isn't compact the second block behind the journal block lies before the SIT area
 pub record PlacesIn (blocks : ℕ) (v : Volume) : Type 0 where
   pub areasIn : AreasIn blocks (v .areas)
   pub packInside : v .pack < blocks

@@ -1,5 +1,5 @@
--- A journal in a checkpoint pack: a 16-bit count, then entries of one width, each of them a number and what is said of it. The NAT
--- journal and the SIT journal differ in the width alone.
+-- A journal in a checkpoint pack: a 16-bit count, then entries of one width, each of them a number and what is said of it. For a
+-- search, the NAT journal and the SIT journal differ in the width alone.
 use mathlib.Core.List.{List}
 use Prim.Native.Nat.{ℕ, zero, suc, _+_, _*_}
 use lib.Dec.{eqb}
@@ -12,7 +12,7 @@ use Rattle.journal.specs.declared.Sought.the-variants.{At, Absent}
 abbrev pub entryStart : ℕ → ℕ → ℕ
 entryStart width i = 2 + width * i
 
--- where the first of k entries starts, from entry i on, that has the number
+-- where the first entry with the number starts, of k entries from entry i on
 unfoldable pub searchFrom : ℕ → List ℕ → ℕ → ℕ → ℕ → Sought
 searchFrom width journal number zero i = Absent
 searchFrom width journal number (suc k) i =

@@ -6,7 +6,7 @@ use native.Mathlib.Numerals.{add-one}
 use mathlib.Core.Path.{_≡_, refl, sym, ap, _∙_}
 use mathlib.Core.List.{List, [], _∷_, _++_}
 use lib.ListN.{length, getD, take, drop, take-append-drop, length-append}
-use lib.Seq.{drop-cons, getD-drop}
+use lib.Seq.{drop-cons, drop-at, getD-drop}
 use Rattle.field.specs.Number.{le16, le32}
 use Rattle.list.specs.Lists.{numbers, bytesOf, over}
 use Rattle.list.proofs.Entries.{length-numbers}
@@ -77,6 +77,11 @@ length-bytes : (ns : List ℕ) → length (bytesOf ns) ≡ 4 * length ns
 unfolding bytesOf
 length-bytes [] = refl
 length-bytes (x ∷ xs) = let ih = length-bytes xs in omega arith
+
+-- behind what was written all is as it was
+pub drop-over : (ns d : List ℕ) → drop (4 * length ns) (over ns d) ≡ drop (4 * length ns) d
+unfolding over
+drop-over ns d = drop-at (bytesOf ns) (drop (4 * length ns) d) (4 * length ns) (length-bytes ns)
 
 -- what was written lies inside the slice
 pub over-inside : (ns d : List ℕ) → 4 * length ns ≤ length (over ns d)

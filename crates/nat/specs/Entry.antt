@@ -15,7 +15,7 @@ inodeAt bytes at = le32 bytes (at + 1)
 abbrev pub addressAt : List ℕ → ℕ → ℕ
 addressAt bytes at = le32 bytes (at + 5)
 
--- what an entry says that was sought in a journal: "13-byte entries: number, then a NAT entry"
+-- what the search of a journal came to: "13-byte entries: number, then a NAT entry"
 abbrev pub heldAt : List ℕ → Sought → InJournal
 heldAt journal (s.At at) = Held (inodeAt journal (at + 4)) (addressAt journal (at + 4))
 heldAt journal s.Absent = Absent

@@ -8,14 +8,14 @@ use Rattle.journal.specs.Journal.{searchFrom, journalFind}
 use Rattle.list.specs.Lists.{bytesOf}
 use Rattle.sit.specs.Entry.{validCount, onesBelow}
 use Rattle.sit.specs.Table.{sitJournalOf, tableAddress, inTable, sitEntry}
-use Rattle.sit.specs.Opening.{journalReadable}
+use Rattle.sit.specs.Opening.{sitJournalReadable}
 use Rattle.segment_report.specs.Off.{isOff, segmentsOff, onesInAll}
 use Rattle.sample_card.specs.Image.{filled, pack, journal, sitBlock, blocks, card}
 use Rattle.sample_card.specs.Volume.{volume}
 
 -- the SIT journal has no entry
-pub sit-journal-readable : journalReadable (sitJournalOf card volume) ≡ true
-unfolding blocks journal filled bytesOf le16 sitJournalOf journalReadable
+pub sit-journal-readable : sitJournalReadable (sitJournalOf card volume) ≡ true
+unfolding blocks journal filled bytesOf le16 sitJournalOf sitJournalReadable
 sit-journal-readable = refl
 
 -- the segments that are off, and the ones in all maps

@@ -76,7 +76,8 @@ module _ (lent : Lent) (fits : lentInShape lent ≡ true) where
   unfolding nameBytes
   past-the-end-answers-3 = walk-leaves name 2 _ refl (walks .2)
 
--- ---- Segment report: the one main segment has a list's room of one number; its count isn't off, and four of its blocks are valid
+-- ---- Segment report: the card has one main segment, so a list of one number has room; its count isn't off, and four of its blocks
+-- are valid
 opens-with-sit : openedWithSit image ≡ Opened volume
 opens-with-sit = journal-opens image volume some-card-opens (rw image-card sit-journal-readable)
 

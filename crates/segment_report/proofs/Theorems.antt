@@ -7,7 +7,7 @@ use mathlib.Core.Path.{_≡_, refl}
 use mathlib.Core.Bool.{true, false}
 use mathlib.Core.Logic.{_⊎_, inl, inr, ⊎-elim, _↔_}
 use mathlib.Core.List.{List, [], _∷_, _++_, List·Memᴰ, List·Memᴰ·head, List·Memᴰ·not-nil, Memᴰ·append-left, Memᴰ·append-right}
-use lib.ListN.{length}
+use lib.ListN.{length, drop}
 use lib.Dec.{eqb, leb}
 use borrow.Author.Tests.{leb-true, leb-false, eqb-true, eqb-false, not-true, not-false}
 use Rattle.field.specs.Card.{cardOf}
@@ -19,13 +19,13 @@ use Rattle.checkpoint.specs.declared.Opening.{Opening}
 use Rattle.checkpoint.specs.declared.Opening.the-variants.{Opened, Refused}
 use Rattle.checkpoint.proofs.Inside.{image-shaped, image-volume}
 use Rattle.list.specs.Lists.{Rising, AllOf, listing, numbers, entries}
-use Rattle.list.proofs.Rises.{all-map, all-mem, all-behind, rising-behind}
-use Rattle.list.proofs.Written.{numbers-over}
+use Rattle.list.proofs.Rises.{all-mem, all-behind, rising-behind}
+use Rattle.list.proofs.Written.{numbers-over, drop-over}
 use Rattle.sit.specs.Entry.{validCount, mapOnes}
 use Rattle.sit.specs.Table.{tableBlock, tableAddress, sitEntry}
 use Rattle.sit.specs.Opening.{openedWithSit}
 use Rattle.sit.proofs.Openings.{opened-image, opened-sit, refusals-sit}
-use Rattle.sit.proofs.Inside.{address-inside}
+use Rattle.sit.proofs.Inside.{block-in-table, address-inside}
 use Rattle.segment_report.specs.Off.{isOff, segmentsOff, onesInAll}
 use Rattle.segment_report.specs.Report.{Reported, refusedReport, offOn, reportOf, segmentReport}
 use Rattle.segment_report.proofs.Tallying.{listed-next, passed-next, ones-in-all-most}
@@ -56,14 +56,18 @@ module _ (entry : ℕ → List ℕ) where
       (λ p. passed (not-off (entry n) p) (rw (add-one n) at (passed-next entry n p)))
       (either (isOff (entry n)))
 
-  pub off-below : (n : ℕ) → AllOf (λ s. s < n) (segmentsOff entry n)
+  -- what holds of each segment that is off holds of each that is listed
+  all-listed : (P : ℕ → Type 0) (n : ℕ) → ((s : ℕ) → s < n → Off (entry s) → P s) → AllOf P (segmentsOff entry n)
   unfolding segmentsOff
-  off-below zero = tt
-  off-below (suc n) = go (next n) (all-map (λ s h. omega arith) (segmentsOff entry n) (off-below n))
+  all-listed P zero f = tt
+  all-listed P (suc n) f = go (next n) (all-listed P n (λ s h. f s (omega arith)))
     where
-      go : Next n → AllOf (λ s. s < suc n) (segmentsOff entry n) → AllOf (λ s. s < suc n) (segmentsOff entry (suc n))
-      go (listed o e) h = rw e (all-behind (λ s. s < suc n) (segmentsOff entry n) n h (omega arith))
+      go : Next n → AllOf P (segmentsOff entry n) → AllOf P (segmentsOff entry (suc n))
+      go (listed o e) h = rw e (all-behind P (segmentsOff entry n) n h (f n (omega arith) o))
       go (passed o e) h = rw e h
+
+  pub off-below : (n : ℕ) → AllOf (λ s. s < n) (segmentsOff entry n)
+  off-below n = all-listed (λ s. s < n) n (λ s h o. h)
 
   pub off-rising : (n : ℕ) → Rising (segmentsOff entry n)
   unfolding segmentsOff
@@ -74,17 +78,7 @@ module _ (entry : ℕ → List ℕ) where
       go (listed o e) h = rw e (rising-behind (segmentsOff entry n) n h (off-below n))
       go (passed o e) h = rw e h
 
-  -- a segment that is listed is off
-  off-listed : (n : ℕ) → AllOf (λ s. Off (entry s)) (segmentsOff entry n)
-  unfolding segmentsOff
-  off-listed zero = tt
-  off-listed (suc n) = go (next n) (off-listed n)
-    where
-      go : Next n → AllOf (λ s. Off (entry s)) (segmentsOff entry n) → AllOf (λ s. Off (entry s)) (segmentsOff entry (suc n))
-      go (listed o e) h = rw e (all-behind (λ s. Off (entry s)) (segmentsOff entry n) n h o)
-      go (passed o e) h = rw e h
-
-  -- and one that is off is listed
+  -- a segment that is off is listed
   listed-off : (n s : ℕ) → s < n → Off (entry s) → List·Memᴰ s (segmentsOff entry n)
   listed-off zero s h o = absurd (omega arith)
   listed-off (suc n) s h o = go (next n) (either (eqb s n)) (λ k. listed-off n s k o)
@@ -101,7 +95,7 @@ module _ (entry : ℕ → List ℕ) where
 
   pub off-exactly : (n s : ℕ) → List·Memᴰ s (segmentsOff entry n) ↔ ((s < n) × Off (entry s))
   off-exactly n s = (
-    λ m. (all-mem (λ x. x < n) (segmentsOff entry n) (off-below n) m, all-mem (λ x. Off (entry x)) (segmentsOff entry n) (off-listed n) m),
+    λ m. all-mem (λ x. (x < n) × Off (entry x)) (segmentsOff entry n) (all-listed (λ x. (x < n) × Off (entry x)) n (λ x h o. (h, o))) m,
     λ h. listed-off n s (h .0) (h .1),
   )
 
@@ -129,9 +123,11 @@ module _ (entry : ℕ → List ℕ) where
 abbrev pub listLeft : Reported → List ℕ
 listLeft r = entries (listing (r .list) (r .numbers .count))
 
--- A report is refused with 4 to 8, or the card opened, its SIT journal too, and the list has room.
+-- A report ends in one of three ways: the image, or its SIT journal, is refused; the list is too short; or it is made.
 pub data ReportEnds (image list : List ℕ) (r : Reported) : Type 0 where
-  refusal : (answer : ℕ) → 4 ≤ answer → answer ≤ 8 → r ≡ refusedReport answer list → ReportEnds image list r
+  refused : (answer : ℕ) → openedWithSit image ≡ Refused answer → r ≡ refusedReport answer list → ReportEnds image list r
+  short : (v : Volume) → openedWithSit image ≡ Opened v → length list / 4 < v .areas .«main_segments»
+      → r ≡ refusedReport 4 list → ReportEnds image list r
   report : (v : Volume) → openedWithSit image ≡ Opened v → v .areas .«main_segments» ≤ length list / 4
       → r ≡ reportOf (cardOf image) v list → ReportEnds image list r
 
@@ -140,34 +136,48 @@ module _ (image list : List ℕ) where
   ends = go (openedWithSit image) refl
     where
       go : (o : Opening) → openedWithSit image ≡ o → ReportEnds image list (segmentReport image list)
-      go (Refused n) e = let few = refusals-sit image n e in refusal n (few .0) (few .1) (refused-by-opening image list n e)
+      go (Refused n) e = refused n e (refused-by-opening image list n e)
       go (Opened v) e =
-          ⊎-elim (λ (p : leb (v .areas .«main_segments») (length list / 4) ≡ true). report v e (leb-true _ _ p) (made image list v e (leb-true _ _ p)))
+          ⊎-elim (λ (p : leb (v .areas .«main_segments») (length list / 4) ≡ true).
+          report v e (leb-true _ _ p) (made image list v e (leb-true _ _ p)))
           (λ (p : leb (v .areas .«main_segments») (length list / 4) ≡ false).
-          refusal 4 (omega arith) (omega arith) (too-short image list v e (leb-false _ _ p)))
+          short v e (leb-false _ _ p) (too-short image list v e (leb-false _ _ p)))
           (either (leb (v .areas .«main_segments») (length list / 4)))
+
+  -- a report that isn't made says so by 4 to 8
+  data Answered (r : Reported) : Type 0 where
+    refusal : (answer : ℕ) → 4 ≤ answer → answer ≤ 8 → r ≡ refusedReport answer list → Answered r
+    reports : (v : Volume) → openedWithSit image ≡ Opened v → r ≡ reportOf (cardOf image) v list → Answered r
+
+  answered : Answered (segmentReport image list)
+  answered = go ends
+    where
+      go : {r : Reported} → ReportEnds image list r → Answered r
+      go (refused n e f) = let few = refusals-sit image n e in refusal n (few .0) (few .1) f
+      go (short v e h f) = refusal 4 (omega arith) (omega arith) f
+      go (report v e h f) = reports v e f
 
   -- "it answers 0", or one of 4 to 8
   pub answers : (segmentReport image list .numbers .answer ≡ 0)
       ⊎ ((4 ≤ segmentReport image list .numbers .answer) × (segmentReport image list .numbers .answer ≤ 8))
   unfolding reportOf
-  answers = go ends
+  answers = go answered
     where
-      go : {r : Reported} → ReportEnds image list r → (r .numbers .answer ≡ 0) ⊎ ((4 ≤ r .numbers .answer) × (r .numbers .answer ≤ 8))
+      go : {r : Reported} → Answered r → (r .numbers .answer ≡ 0) ⊎ ((4 ≤ r .numbers .answer) × (r .numbers .answer ≤ 8))
       go (refusal n l m e) = rw e (inr (l, m))
-      go (report v o h e) = rw e (inl refl)
+      go (reports v o e) = rw e (inl refl)
 
   -- "after a refusal, the whole list stay[s]"
   pub untouched : 4 ≤ segmentReport image list .numbers .answer → segmentReport image list .list ≡ list
   unfolding reportOf
-  untouched = go ends
+  untouched = go answered
     where
-      go : {r : Reported} → ReportEnds image list r → 4 ≤ r .numbers .answer → r .list ≡ list
+      go : {r : Reported} → Answered r → 4 ≤ r .numbers .answer → r .list ≡ list
       go (refusal n l m e) h = rw e
-      go (report v o k e) h = absurd (let f = rw e at h in omega arith)
+      go (reports v o e) h = absurd (let f = rw e at h in omega arith)
 
-  -- an image that was reported on: answer 0
-  module _ (v : Volume) (opens : openedWithSit image ≡ Opened v) (zero : segmentReport image list .numbers .answer ≡ 0) where
+  -- a report that was made: answer 0
+  module _ (v : Volume) (opens : openedWithSit image ≡ Opened v) (done : segmentReport image list .numbers .answer ≡ 0) where
     abbrev entry : ℕ → List ℕ
     entry = sitEntry (cardOf image) v
 
@@ -176,14 +186,14 @@ module _ (image list : List ℕ) where
 
     is-report : segmentReport image list ≡ reportOf (cardOf image) v list
     unfolding reportOf
-    is-report = go ends
+    is-report = go answered
       where
-        go : ReportEnds image list (segmentReport image list) → segmentReport image list ≡ reportOf (cardOf image) v list
-        go (refusal n l m e) = absurd (let f : n ≡ 0 = rw e at zero in omega arith)
-        go (report u o h e) = let same : u ≡ v = cc in rw same at e
+        go : Answered (segmentReport image list) → segmentReport image list ≡ reportOf (cardOf image) v list
+        go (refusal n l m e) = absurd (let f : n ≡ 0 = rw e at done in omega arith)
+        go (reports u o e) = let same : u ≡ v = cc in rw same at e
 
-    -- what it lists
-    listed-are : listLeft (segmentReport image list) ≡ segmentsOff entry segments
+    -- what it lists, up to its count
+    pub listed-are : listLeft (segmentReport image list) ≡ segmentsOff entry segments
     unfolding reportOf offOn
     listed-are = rw is-report (numbers-over (segmentsOff entry segments) list)
 
@@ -199,10 +209,15 @@ module _ (image list : List ℕ) where
     pub exactly : (s : ℕ) → List·Memᴰ s (listLeft (segmentReport image list)) ↔ ((s < segments) × Off (entry s))
     exactly s = rw listed-are (off-exactly entry segments s)
 
-    -- "how many"
+    -- "how many": the count is the list's length
     pub how-many : segmentReport image list .numbers .count ≡ length (segmentsOff entry segments)
     unfolding reportOf offOn
     how-many = rw is-report
+
+    -- "later entries .. stay"
+    pub later-stay : let n = segmentReport image list .numbers .count in drop (4 * n) (segmentReport image list .list) ≡ drop (4 * n) list
+    unfolding reportOf offOn
+    later-stay = rw is-report (drop-over (segmentsOff entry segments) list)
 
     -- no segment is off exactly if the count is 0
     pub none-off : (segmentReport image list .numbers .count ≡ 0) ↔ ((s : ℕ) → s < segments → validCount (entry s) ≡ mapOnes (entry s))
@@ -214,10 +229,15 @@ module _ (image list : List ℕ) where
     unfolding reportOf
     valid-blocks = rw is-report (refl, ones-in-all-most entry segments)
 
-  -- "Every main segment has a place there": the block that its entry is read from lies in the SIT area, whichever copy the map names
+  -- "Every main segment has a place there": its table block is one of the 256 × SIT segments that have two copies, and the copy that the
+  -- map names lies in the SIT area
   pub every-segment-has-a-place : (v : Volume) → openedWithSit image ≡ Opened v → (s : ℕ) → s < v .areas .«main_segments»
-      → (v .areas .sit ≤ tableAddress (cardOf image) v (tableBlock s)) × (tableAddress (cardOf image) v (tableBlock s) < v .areas .nat)
-  every-segment-has-a-place v e s h = address-inside (cardOf image) v (opened-sit image v e) s h
+      → (tableBlock s < 256 * v .areas .«sit_segments») × (v .areas .sit ≤ tableAddress (cardOf image) v (tableBlock s))
+      × (tableAddress (cardOf image) v (tableBlock s) < v .areas .nat)
+  every-segment-has-a-place v e s h =
+      let sit = opened-sit image v e in
+      let inside = address-inside (cardOf image) v sit s h in
+      (block-in-table (cardOf image) v sit s h, inside .0, inside .1)
 
   -- a list of 505 numbers has room for every card: before its main area lie two blocks of superblocks, and two segments each of
   -- checkpoint, SIT and NAT

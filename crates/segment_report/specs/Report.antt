@@ -25,15 +25,6 @@ pub record Reported : Type 0 where
 abbrev pub reported : Segments → List ℕ → Reported
 reported numbers list = record { numbers = numbers; list = list }
 
--- a report of some segments with one more: its ones are added, and it is listed behind the others if its count is off
-unfoldable pub withSegment : List ℕ → ℕ → Reported → Reported
-withSegment entry segment r =
-    let n : ℕ = r .numbers .count in
-    let all : ℕ = r .numbers .«valid_blocks» + mapOnes entry in
-    choose (isOff entry)
-    (reported (record { answer = r .numbers .answer; count = n + 1; «valid_blocks» = all }) (put32At (r .list) (4 * n) segment))
-    (reported (record { answer = r .numbers .answer; count = n; «valid_blocks» = all }) (r .list))
-
 -- "after a refusal, the whole list stay[s]", and a number that the answer doesn't name is 0
 abbrev pub refusedNumbers : ℕ → Segments
 refusedNumbers answer = record { answer = answer; count = 0; «valid_blocks» = 0 }
@@ -64,3 +55,13 @@ reportFrom card (Refused answer) list = refusedReport answer list
 -- what a segment report answers of an image, and leaves of a lent list
 unfoldable pub segmentReport : List ℕ → List ℕ → Reported
 segmentReport image list = reportFrom (cardOf image) (openedWithSit image) list
+
+-- For the code: a report of some segments with one more, whose ones are added, and which is listed behind the others if its count is
+-- off. The meaning above doesn't use it.
+unfoldable pub withSegment : List ℕ → ℕ → Reported → Reported
+withSegment entry segment r =
+    let n : ℕ = r .numbers .count in
+    let all : ℕ = r .numbers .«valid_blocks» + mapOnes entry in
+    choose (isOff entry)
+    (reported (record { answer = r .numbers .answer; count = n + 1; «valid_blocks» = all }) (put32At (r .list) (4 * n) segment))
+    (reported (record { answer = r .numbers .answer; count = n; «valid_blocks» = all }) (r .list))

@@ -24,11 +24,11 @@ use Rattle.sit.specs.Opening.{SitIn}
 
 -- ---- the table
 module _ (card : Card) (v : Volume) (h : SitIn card v) (segment : ℕ) (main : segment < v .areas .«main_segments») where
-  -- its block is one of the first copies'
+  -- "Every main segment has a place there": its block is one of those that have two copies
   pub block-in-table : tableBlock segment < 256 * v .areas .«sit_segments»
   block-in-table = omega (arith, h .everyPlace)
 
-  -- "Every main segment has a place there": both copies of its block lie in the SIT area
+  -- the copy that the map names, first or second, lies in the SIT area
   pub address-inside : (v .areas .sit ≤ tableAddress card v (tableBlock segment)) × (tableAddress card v (tableBlock segment) < v .areas .nat)
   unfolding tableAddress
   address-inside =

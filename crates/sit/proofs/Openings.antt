@@ -15,7 +15,7 @@ use Rattle.checkpoint.specs.declared.Opening.the-variants.{Opened, Refused}
 use Rattle.checkpoint.specs.Volume.{openedImage}
 use Rattle.checkpoint.proofs.Inside.{image-shaped, image-volume, refusals}
 use Rattle.sit.specs.Table.{sitJournalOf}
-use Rattle.sit.specs.Opening.{journalReadable, openedWithSit, SitIn}
+use Rattle.sit.specs.Opening.{sitJournalReadable, openedWithSit, SitIn}
 
 module _ (image : List ℕ) where
   abbrev journal : Volume → List ℕ
@@ -27,16 +27,16 @@ module _ (image : List ℕ) where
   still-refused n e = rw e
 
   module _ (v : Volume) (e : openedImage image ≡ Opened v) where
-    pub journal-refuses : journalReadable (journal v) ≡ false → openedWithSit image ≡ Refused 8
+    pub journal-refuses : sitJournalReadable (journal v) ≡ false → openedWithSit image ≡ Refused 8
     unfolding openedWithSit
     journal-refuses p = rw (e, p)
 
-    pub journal-opens : journalReadable (journal v) ≡ true → openedWithSit image ≡ Opened v
+    pub journal-opens : sitJournalReadable (journal v) ≡ true → openedWithSit image ≡ Opened v
     unfolding openedWithSit
     journal-opens p = rw (e, p)
 
-    sit-in : journalReadable (journal v) ≡ true → SitIn (cardOf image) v
-    unfolding journalReadable
+    sit-in : sitJournalReadable (journal v) ≡ true → SitIn (cardOf image) v
+    unfolding sitJournalReadable
     sit-in p =
         let whole = image-volume image v e in
         let areas = whole .places .areasIn in
@@ -53,7 +53,7 @@ module _ (image : List ℕ) where
   ways (Opened v) e =
       ⊎-elim (λ p. opens v e (sit-in v e p) (journal-opens v e p))
       (λ p. refused 8 (omega arith) (omega arith) (journal-refuses v e p))
-      (either (journalReadable (journal v)))
+      (either (sitJournalReadable (journal v)))
 
   -- a volume that was opened so is the one that opening finds
   module _ (v : Volume) (h : openedWithSit image ≡ Opened v) where

@@ -1,5 +1,5 @@
--- A SIT entry: "74 bytes: 16-bit word with the count in bits 0 to 9 and the type above, 64 bytes of map, time". Type and time aren't
--- consulted.
+-- An entry of the segment information table (SIT): "74 bytes: 16-bit word with the count in bits 0 to 9 and the type above, 64 bytes
+-- of map, time". Type and time aren't consulted.
 use mathlib.Core.List.{List}
 use Prim.Native.Nat.{ℕ, zero, suc, _+_, _%_}
 use lib.ListN.{take, drop}

@@ -13,15 +13,15 @@ use Rattle.checkpoint.specs.Volume.{VolumeIn, openedImage}
 use Rattle.sit.specs.Table.{sitJournalOf}
 
 -- "at most 6; more is 8"
-unfoldable pub journalReadable : List ℕ → Bool
-journalReadable journal = leb (le16 journal 0) 6
+unfoldable pub sitJournalReadable : List ℕ → Bool
+sitJournalReadable journal = leb (le16 journal 0) 6
 
 -- "That journal's 8 is only for calls that read SIT entries."
 abbrev pub withSit : Card → Opening → Opening
-withSit card (Opened v) = choose (journalReadable (sitJournalOf card v)) (Opened v) (Refused 8)
+withSit card (Opened v) = choose (sitJournalReadable (sitJournalOf card v)) (Opened v) (Refused 8)
 withSit card (Refused answer) = Refused answer
 
--- an image's volume, or the first of 4 to 8 that applies to it and to its SIT journal
+-- an image's volume, or the first of 4 to 8 that applies; its SIT journal's 8 comes last
 unfoldable pub openedWithSit : List ℕ → Opening
 openedWithSit image = withSit (cardOf image) (openedImage image)
 

@@ -1,4 +1,4 @@
-// The segment information table (SIT): a main segment's entry, by the journal first and then by the table.
+// The segment information table (SIT): a main segment's entry, by the journal first and then by the table, and what it says.
 // What each means is in specs/: Entry, Table, Opening.
 ghost use mathlib.Core.Path.{_≡_};
 ghost use Prim.Native.Nat.{_+_, _*_, _≤_, _<_};
@@ -8,7 +8,7 @@ ghost use Rattle.field.specs.Card.{cardOf};
 ghost use Rattle.checkpoint.specs.Volume.{PlacesIn};
 ghost use Rattle.sit.specs.Entry.{validCount, onesBelow};
 ghost use Rattle.sit.specs.Table.{sitJournalOf, copyAddress, sitMapIn, inTable, sitEntry};
-ghost use Rattle.sit.specs.Opening.{journalReadable, openedWithSit, SitIn};
+ghost use Rattle.sit.specs.Opening.{sitJournalReadable, openedWithSit, SitIn};
 
 // How many blocks of its segment an entry counts as valid. The word's upper bits are the segment's type.
 pub fn valid_count(entry: &[u8]) -> u32
@@ -38,8 +38,8 @@ pub fn journal_of(image: &[u8], v: checkpoint::Volume) -> &[u8]
     ensures { λ r. ⌜ now r ≡ sitJournalOf (cardOf (now (image .entry))) v ⌝ }
 {
     if checkpoint::flag_set(v.flags, checkpoint::COMPACT) {
-        let shared = field::block_at(image, v.journal_block);
-        return &shared[507..];
+        let compact = field::block_at(image, v.journal_block);
+        return &compact[507..];
     }
     let cold = field::block_at(image, v.journal_block + 2);
     &cold[3584..]
@@ -47,7 +47,7 @@ pub fn journal_of(image: &[u8], v: checkpoint::Volume) -> &[u8]
 
 pub fn journal_readable(journal: &[u8]) -> bool
     requires { ⌜ 2 ≤ length (now journal) ⌝ }
-    ensures { λ r. ⌜ r ≡ journalReadable (now (journal .entry)) ⌝ }
+    ensures { λ r. ⌜ r ≡ sitJournalReadable (now (journal .entry)) ⌝ }
 {
     field::get16(journal, 0) <= 6
 }
@@ -75,7 +75,7 @@ pub fn table_address(first: &[u8], a: superblock::Areas, b: u32) -> u32
 }
 
 // A main segment's entry in the table.
-fn table_entry(image: &[u8], v: checkpoint::Volume, segment: u32) -> &[u8]
+fn entry_in_table(image: &[u8], v: checkpoint::Volume, segment: u32) -> &[u8]
     requires { ⌜ SitIn (cardOf (now image)) v ⌝ }
     requires { ⌜ segment < v .areas .«main_segments» ⌝ }
     ensures { λ r. ⌜ now r ≡ inTable (cardOf (now (image .entry))) v segment ⌝ }
@@ -96,7 +96,7 @@ pub fn entry_of(image: &[u8], v: checkpoint::Volume, segment: u32) -> &[u8]
     let journal = journal_of(image, v);
     match journal::find_entry(journal, 78, segment) {
         journal::Sought::At(at) => &journal[at + 4..at + 78],
-        journal::Sought::Absent => table_entry(image, v, segment),
+        journal::Sought::Absent => entry_in_table(image, v, segment),
     }
 }
 

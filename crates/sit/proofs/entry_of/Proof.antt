@@ -56,8 +56,8 @@ part-result-end c = omega (arith, inside (c .before))
 enum-told : tie.Need-enum-told
 enum-told c = search needs
 
-table-entry-requires : tie.Need-table-entry-requires
-table-entry-requires c κs = search needs
+entry-in-table-requires : tie.Need-entry-in-table-requires
+entry-in-table-requires c κs = search needs
 
 returns : tie.Need-returns
 unfolding sitEntry
@@ -71,7 +71,7 @@ returns-2 : tie.Need-returns-2
 unfolding sitEntry
 returns-2 c =
     let k = c .before in
-    rw (← sought (k .before .before), k .enum-told .given .1) (c .table-entry .ensures)
+    rw (← sought (k .before .before), k .enum-told .given .1) (c .entry-in-table .ensures)
 
 pub entry-of-spec : {M : Type 1} → statement M
 entry-of-spec =
@@ -86,6 +86,6 @@ entry-of-spec =
     part-result-start
     part-result-end
     enum-told
-    table-entry-requires
+    entry-in-table-requires
     returns
     returns-2)

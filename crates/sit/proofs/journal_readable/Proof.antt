@@ -1,5 +1,5 @@
 use borrow.Author.Needs.{needs}
-use Rattle.sit.specs.Opening.{journalReadable}
+use Rattle.sit.specs.Opening.{sitJournalReadable}
 use Rattle.sit.proofs.journal_readable.Statement.{statement}
 use Rattle.sit.proofs.journal_readable.Tie as tie
 
@@ -7,7 +7,7 @@ get16-requires : tie.Need-get16-requires
 get16-requires c κs = search needs
 
 returns : tie.Need-returns
-unfolding journalReadable
+unfolding sitJournalReadable
 returns c = rw (c .get16 .ensures)
 
 pub journal-readable-spec : {M : Type 1} → statement M

@@ -7,7 +7,7 @@ use Rattle.checkpoint.specs.declared.Opening.the-variants.{Opened}
 use Rattle.checkpoint.specs.Volume.{openedImage, PlacesIn}
 use Rattle.checkpoint.proofs.Inside.{image-volume}
 use Rattle.sit.specs.Table.{sitJournalOf}
-use Rattle.sit.specs.Opening.{journalReadable}
+use Rattle.sit.specs.Opening.{sitJournalReadable}
 use Rattle.sit.proofs.Inside.{journal-room}
 use Rattle.sit.proofs.Openings.{still-refused, journal-refuses, journal-opens}
 use Rattle.sit.proofs.open.Statement.{statement}
@@ -22,7 +22,7 @@ places : (k : tie.After-opening) → let s = k .before .before .before .before i
 places k = image-volume _ _ (opens k) .places
 
 readable : (k : tie.After-journal-readable) → let l = k .before .before .before in
-    k .journal-readable .result ≡ journalReadable (sitJournalOf (cardOf (now (l .before .before .before .before .args .image))) (l .opening .given .0 .0))
+    k .journal-readable .result ≡ sitJournalReadable (sitJournalOf (cardOf (now (l .before .before .before .before .args .image))) (l .opening .given .0 .0))
 readable k = rw (k .before .journal-of .ensures) at (k .journal-readable .ensures)
 
 open-requires : tie.Need-open-requires

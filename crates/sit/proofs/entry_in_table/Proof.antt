@@ -7,8 +7,8 @@ use Rattle.field.specs.Card.{Card, cardOf}
 use Rattle.field.proofs.Blocks.{length-of-block}
 use Rattle.sit.specs.Table.{tableBlock, tableAddress, inTable}
 use Rattle.sit.proofs.Inside.{block-in-table, address-on-card}
-use Rattle.sit.proofs.table_entry.Statement.{statement}
-use Rattle.sit.proofs.table_entry.Tie as tie
+use Rattle.sit.proofs.entry_in_table.Statement.{statement}
+use Rattle.sit.proofs.entry_in_table.Tie as tie
 
 abbrev card-of : tie.Start → Card
 card-of s = cardOf (now (s .args .image))
@@ -65,8 +65,8 @@ returns c =
     let e : start + 74 - start ≡ 74 = omega arith in
     rw (e, c .before .block-at2 .ensures, addressed at)
 
-pub table-entry-spec : {M : Type 1} → statement M
-table-entry-spec =
+pub entry-in-table-spec : {M : Type 1} → statement M
+entry-in-table-spec =
     tie.close
     (tie.spec
     block-at-requires
