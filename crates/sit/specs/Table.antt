@@ -13,8 +13,8 @@ use Rattle.journal.specs.declared.Sought.{Sought}
 use Rattle.journal.specs.declared.Sought.the-variants.{At, Absent}
 use Rattle.journal.specs.Journal.{journalFind}
 
--- The SIT journal, from its start to its block's end. A pack that isn't compact ends with a block, the summary, for each of the logs that
--- are being written: hot, warm and cold data, in this order. Each has a journal from byte 3,584 on, NAT's in hot data's, which is
+-- The SIT journal, from its start to its block's end. A pack that isn't compact has near its end a block, the summary, for each log that
+-- is being written: hot, warm and cold data, in this order. Each has a journal from byte 3,584 on, NAT's in hot data's, which is
 -- document 01's journal block, and SIT's in cold data's.
 -- "Compact packs hold that journal at byte 507, others at 3,584 of the summary two blocks after hot data"
 unfoldable pub sitJournalOf : Card → Volume → List ℕ
