@@ -41,8 +41,8 @@ impl Image {
     }
 }
 
-/// Where a card has what its segments are judged by, as long as it is sound: what it is changed to later
-/// says nothing here.
+/// Where a sound card has what its segments are judged by. Damage to the card doesn't move it, so that it
+/// can be struck again.
 #[derive(Clone, Debug)]
 pub struct Sit {
     pub main_segments: u32,
