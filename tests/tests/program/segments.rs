@@ -505,19 +505,23 @@ fn library_against_words() {
             ran.expect(i32::from(!told.is_empty()))
         };
         let json = run(&[&"segments", &"--json", &path]).json();
-        expect_head(&json, "segments", 0);
-        assert_eq!(json["valid_blocks"].number().to_string(), valid);
-        let off = json["off"].list();
-        let numbers = off.iter().map(|off| off["segment"].number() as u32);
-        assert_eq!(numbers.collect::<Vec<_>>(), told);
-        for key in ["count", "ones", "journal", "block"] {
-            let there = off.iter().all(|off| off.get(key).is_some() == agrees);
-            assert!(there, "'{key}' in {json:?}");
-        }
-        for key in ["segments", "empty"] {
-            assert_eq!(json.get(key).is_some(), agrees, "'{key}' in {json:?}");
-        }
+        expect_bare_json(&json, &told, valid, agrees);
         expect_bare_words(&run(&[&"segments", &path]), &told, valid, agrees);
+    }
+}
+
+fn expect_bare_json(json: &Json, told: &[u32], valid: &str, agrees: bool) {
+    expect_head(json, "segments", 0);
+    assert_eq!(json["valid_blocks"].number().to_string(), valid);
+    let off = json["off"].list();
+    let numbers = off.iter().map(|off| off["segment"].number() as u32);
+    assert_eq!(numbers.collect::<Vec<_>>(), told);
+    for key in ["count", "ones", "journal", "block"] {
+        let there = off.iter().all(|off| off.get(key).is_some() == agrees);
+        assert!(there, "'{key}' in {json:?}");
+    }
+    for key in ["segments", "empty"] {
+        assert_eq!(json.get(key).is_some(), agrees, "'{key}' in {json:?}");
     }
 }
 
