@@ -37,11 +37,6 @@ static void read_info(struct info *info, const struct card *card)
         partitions_read(&info->partitions, card->map, card->file_len);
 }
 
-static const char *meaning(uint32_t answer)
-{
-    return answer == HARPTIMBER_DATA ? "can be read" : harptimber_answer_words(answer);
-}
-
 /* Packs are looked at once a copy of the superblock says where they are. */
 static bool has_packs(const struct info *info)
 {
@@ -128,7 +123,7 @@ static void info_words(const struct info *info)
     const struct opening *opening = &info->opening;
     show(stdout, info->card->path);
     printf(opening->answer == HARPTIMBER_DATA ? ": " : ": can't be read: ");
-    show_with_reason(stdout, opening->answer, meaning(opening->answer), info->reason);
+    show_with_reason(stdout, opening->answer, card_meaning_of(opening->answer), info->reason);
     printf("\n");
     if (info->superblock != NULL)
         words_volume(info);
@@ -222,7 +217,7 @@ static void json_partitions(struct json *json, const struct partitions *partitio
 static void info_json(const struct info *info)
 {
     const struct opening *opening = &info->opening;
-    struct json json = json_begin(stdout, "info", opening->answer, meaning(opening->answer));
+    struct json json = json_begin(stdout, "info", opening->answer, card_meaning_of(opening->answer));
     if (info->reason != NULL)
         json_string(&json, "reason", info->reason);
     json_string(&json, "image", info->card->path);

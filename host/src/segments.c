@@ -47,11 +47,6 @@ static void read_report(struct report *report)
     report->has_sit = report->told.answer == HARPTIMBER_DATA && sit_read(&report->sit, &opening, card) && sit_agrees(report);
 }
 
-static const char *meaning(uint32_t answer)
-{
-    return answer == HARPTIMBER_DATA ? "can be read" : harptimber_answer_words(answer);
-}
-
 /* So much of a list is shown. */
 enum { MOST_SHOWN = 10 };
 
@@ -120,7 +115,7 @@ static void show_words(const struct report *report)
     uint32_t answer = report->told.answer, count = report->told.count;
     show(stdout, report->card->path);
     printf(": ");
-    show_with_reason(stdout, answer, meaning(answer), report->reason);
+    show_with_reason(stdout, answer, card_meaning_of(answer), report->reason);
     if (answer != HARPTIMBER_DATA) {
         printf("\n");
         return;
@@ -159,7 +154,7 @@ static void json_off(struct json *json, const struct report *report)
 static void show_json(const struct report *report)
 {
     uint32_t answer = report->told.answer;
-    struct json json = json_begin(stdout, "segments", answer, meaning(answer));
+    struct json json = json_begin(stdout, "segments", answer, card_meaning_of(answer));
     if (report->reason != NULL)
         json_string(&json, "reason", report->reason);
     json_string(&json, "image", report->card->path);

@@ -26,6 +26,11 @@ const char *lookup_meaning_of(uint32_t answer)
     }
 }
 
+const char *card_meaning_of(uint32_t answer)
+{
+    return answer == HARPTIMBER_DATA ? "can be read" : harptimber_answer_words(answer);
+}
+
 bool length_is_in_shape(const struct card *card)
 {
     size_t blocks = card->len / BLOCK_SIZE;

@@ -11,6 +11,9 @@
 /* What an answer number means for node and place, which read no file. */
 const char *lookup_meaning_of(uint32_t answer);
 
+/* What it means for info and segments, which are about a card as a whole. */
+const char *card_meaning_of(uint32_t answer);
+
 /* A call of the library, as far as its words need it. */
 struct asked {
     const struct card *card; /* null if the call takes none */

@@ -10,15 +10,17 @@ use harptimber_tests::cards::card::{Card, ROOT};
 use harptimber_tests::cards::damage::Damage;
 use harptimber_tests::cards::directory::{in_slot, Dentry};
 use harptimber_tests::cards::image::Image;
-use harptimber_tests::cards::knobs::Knobs;
+use harptimber_tests::cards::knobs::{Knobs, Pack};
 use harptimber_tests::cards::layout::dentry::{NAME_LEN, NR_DENTRY_IN_BLOCK};
 use harptimber_tests::cards::layout::inode::{ADDRESSES, I_MODE};
+use harptimber_tests::cards::layout::sit::SitEntry;
 use harptimber_tests::cards::layout::BLOCK_SIZE;
 use harptimber_tests::cards::random::pick;
 use harptimber_tests::cards::random_files::{any_target, random_files, RandomFiles};
+use harptimber_tests::cards::random_segments::random_segments;
+use harptimber_tests::cards::segments::SegmentCard;
 use harptimber_tests::cards::walk_damage::{strike_block, strike_either};
 use harptimber_tests::node_lookup;
-use harptimber_tests::program::sit::{packs, Entry, Sit};
 use harptimber_tests::program::{built, program};
 use harptimber_tests::tools::outside::CardFile;
 use harptimber_tests::tools::published::{contents, filled_with, ran, File};
@@ -213,11 +215,9 @@ fn tight_card(script: &mut Script) {
 /// Cards with a SIT of random entries, damaged in what they are opened by and there. The last has no main segment, so
 /// that it takes any list.
 fn damage_sits(script: &mut Script, random: &mut Random, damages: u64) {
-    for (segments, pack) in [1, 55, 57, 3].into_iter().zip(packs()) {
-        let mut image = Image::new(&segmented(segments).with_pack(0, pack));
-        let sit = Sit::of(&image);
-        sit.put_random(&mut image, random);
-        image.settle("random entries");
+    for (segments, pack) in [1, 55, 57, 3].into_iter().zip(Pack::kinds()) {
+        let knobs = Knobs::sound().with_segments(segments).with_pack(0, pack);
+        let SegmentCard { mut image, sit } = random_segments(random, knobs).card;
         let opening = Damage::of(&image);
         script.card(&image);
         assert_eq!(script.segments(&image), 0);
@@ -230,17 +230,9 @@ fn damage_sits(script: &mut Script, random: &mut Random, damages: u64) {
             image.undo(0);
         }
     }
-    let none = Image::new(&segmented(0));
+    let none = Image::new(&Knobs::sound().with_segments(0));
     script.card(&none);
     assert_eq!(script.segments(&none), 0);
-}
-
-/// A card with so many main segments.
-fn segmented(segments: u32) -> Knobs {
-    Knobs {
-        main_segments: segments,
-        ..Knobs::sound()
-    }
 }
 
 /// The slices of a report, each of which is once shorter than the call is told.
@@ -248,10 +240,9 @@ const REPORT_PLANTS: [&str; 2] = ["list", "image"];
 
 /// A card with two segments that are off.
 fn off_card() -> Image {
-    let mut image = Image::new(&segmented(3));
-    let sit = Sit::of(&image);
-    for segment in [0, 2] {
-        sit.put(&mut image, segment, 0, &Entry::new(1, 0));
+    let mut image = Image::new(&Knobs::sound().with_segments(3));
+    for segno in [0, 2] {
+        image.set_sit_entry(segno, 0, &SitEntry::counted(1, 0));
     }
     image.settle("two segments off");
     image

@@ -7,8 +7,8 @@ use std::process::Command;
 use crate::calls::answers::Answers;
 use crate::calls::lent::Lent;
 use crate::calls::pulls::{reference_pull, Call, Outcome};
+use crate::calls::segments::reported;
 use crate::cards::image::Image;
-use crate::program::sit::reported;
 use crate::tools::published::{run, Scratch};
 
 pub struct Script {

@@ -7,6 +7,7 @@ use crate::calls::answers::Answers;
 use crate::calls::lent::{Pattern, Slice, NUMBER_SIZE};
 use crate::cards::image::Image;
 use crate::cards::layout::SEGMENT_BLOCKS;
+use crate::sizes::SEGMENTS_MOST;
 use crate::trial::{Random, Trial};
 use crate::Segments;
 
@@ -82,6 +83,15 @@ pub fn reference_report(image: &[u8], list: &mut [u8]) -> Segments {
         count: segments.count,
         valid_blocks: segments.valid_blocks,
     }
+}
+
+/// How many main segments a card has, if it opens, and what the reference answers to a report into a list
+/// that is long enough.
+pub fn reported(image: &Image) -> (u32, u32) {
+    let opened = reference::open::open(image.bytes());
+    let segments = opened.map_or(0, |volume| volume.main_segments);
+    let mut list = [0; SEGMENTS_MOST as usize * NUMBER_SIZE];
+    (segments, reference_report(image.bytes(), &mut list).answer)
 }
 
 /// How many bytes a list needs for an image as it was built.

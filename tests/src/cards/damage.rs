@@ -30,7 +30,7 @@ impl Damage {
             journals: Vec::new(),
             maps: SIT_NAT_VERSION_BITMAP..SIT_NAT_VERSION_BITMAP,
         };
-        for which in (0..2).filter(|&which| has_pack(image, which)) {
+        for which in (0..2).filter(|&which| image.has_pack(which)) {
             damage.add_pack(image, which);
         }
         damage
@@ -110,11 +110,6 @@ pub fn all_faults(image: &mut Image) -> [(usize, u32); 3] {
         image.set(copy, superblock::MAGIC, 0);
     }
     [(feature, 6), (no_pack, 7), (unreadable, 8)]
-}
-
-/// Whether a pack is there: anything else, junk too, hasn't the checksum offset.
-fn has_pack(image: &Image, which: usize) -> bool {
-    image.get(image.first_block(which), CHECKSUM_OFFSET) == CHECKSUM.at as u64
 }
 
 fn in_each(blocks: &[u32], field: Field) -> Vec<(u32, Field)> {

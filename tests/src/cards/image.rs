@@ -183,6 +183,21 @@ impl Image {
         (u64::from(first) + total - 1) as u32
     }
 
+    /// Whether a pack is there: anything else, junk too, hasn't the checksum offset.
+    pub fn has_pack(&self, which: usize) -> bool {
+        let offset = self.get(self.first_block(which), checkpoint::CHECKSUM_OFFSET);
+        offset == checkpoint::CHECKSUM.at as u64
+    }
+
+    /// Which of the packs that are there is in use, if they are sound: the greater version's, or the first.
+    pub fn pack_in_use(&self) -> usize {
+        let [first, second] = [0, 1].map(|which| {
+            let version = self.get(self.first_block(which), checkpoint::CHECKPOINT_VER);
+            self.has_pack(which).then_some(version)
+        });
+        usize::from(second > first)
+    }
+
     /// A pack that is there, as far as its numbers and its SIT map go.
     pub fn pack(&self, which: usize) -> Pack {
         let first = self.first_block(which);

@@ -3,6 +3,7 @@
 use crate::cards::layout::checkpoint::*;
 use crate::cards::layout::journal::{self, JournalEntry};
 use crate::cards::layout::nat::{BLOCKS_PER_SEGMENT, ENTRIES_PER_BLOCK, MAP_BYTES_PER_SEGMENT};
+use crate::cards::layout::sit::VER_BITMAP_BYTES;
 use crate::cards::layout::sit_journal::{self, SitJournalEntry};
 use crate::cards::layout::superblock::*;
 use crate::cards::layout::{Field, SEGMENT_BLOCKS};
@@ -46,6 +47,25 @@ impl Pack {
             start_sum: 0,
             ..Pack::compact(version)
         }
+    }
+
+    /// One of each kind, with its journals elsewhere than the others have them.
+    pub fn kinds() -> [Pack; 4] {
+        [
+            Pack::compact(1),
+            Pack::plain(1, CP_UMOUNT_FLAG),
+            Pack::plain(1, CP_FASTBOOT_FLAG),
+            Pack::plain(1, 0),
+        ]
+    }
+
+    /// The same whose SIT map and journal are there: first copies and no entries, unless it says else.
+    pub fn with_sit(mut self) -> Pack {
+        if self.sit_map.is_empty() {
+            self.sit_map = vec![0; VER_BITMAP_BYTES];
+        }
+        self.sit_journal.get_or_insert_default();
+        self
     }
 
     /// The journal's block, counted in the pack, and its first byte there; none if out of place.
@@ -156,6 +176,14 @@ impl Knobs {
             copies: [true, true],
             packs: [Some(Pack::compact(1)), None],
             junk: None,
+        }
+    }
+
+    /// The same with so many main segments.
+    pub fn with_segments(self, main_segments: u32) -> Knobs {
+        Knobs {
+            main_segments,
+            ..self
         }
     }
 

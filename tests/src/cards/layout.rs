@@ -196,6 +196,8 @@ pub mod sit {
     pub const MAP_SIZE: usize = 64;
     /// The count has the bits below it, the segment's type those from it on.
     pub const VBLOCKS_SHIFT: u32 = 10;
+    /// Enough of the map between the table's copies: no card has more than 10 table blocks in use.
+    pub const VER_BITMAP_BYTES: usize = 2;
 
     // The numbers of a block's first entry.
     fields! { from 0:
@@ -213,15 +215,16 @@ pub mod sit {
     }
 
     impl SitEntry {
-        /// Sound, with this map.
+        /// Sound, with this map. Type and time, by which nothing is judged, aren't zeros.
         pub fn of(valid_map: [u8; MAP_SIZE]) -> SitEntry {
-            let ones = valid_map.iter().map(|byte| byte.count_ones() as u16);
-            SitEntry {
-                count: ones.sum(),
-                seg_type: 0,
+            let mut entry = SitEntry {
+                count: 0,
+                seg_type: 5,
                 valid_map,
-                mtime: 0,
-            }
+                mtime: u64::MAX,
+            };
+            entry.count = entry.ones() as u16;
+            entry
         }
 
         /// Sound, with as many valid blocks at the segment's start.
@@ -231,6 +234,23 @@ pub mod sit {
                 map[block / 8] |= 0x80 >> (block % 8);
             }
             SitEntry::of(map)
+        }
+
+        /// With as many, and any count.
+        pub fn counted(count: u16, blocks: u32) -> SitEntry {
+            SitEntry {
+                count,
+                ..SitEntry::filled(blocks)
+            }
+        }
+
+        /// How many valid blocks its map marks.
+        pub fn ones(&self) -> u32 {
+            self.valid_map.iter().map(|byte| byte.count_ones()).sum()
+        }
+
+        pub fn is_off(&self) -> bool {
+            u32::from(self.count) != self.ones()
         }
 
         pub fn stored(&self) -> Vec<u8> {

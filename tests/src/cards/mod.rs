@@ -12,6 +12,7 @@ pub mod on_disk;
 pub mod one_file;
 pub mod random;
 pub mod random_files;
+pub mod random_segments;
 pub mod segments;
 pub mod tree;
 pub mod walk_damage;

@@ -1,5 +1,7 @@
 //! Random sound cards, and random choices.
 
+use std::ops::RangeInclusive;
+
 use crate::cards::knobs::{Knobs, Pack};
 use crate::cards::layout::checkpoint::{CP_COMPACT_SUM_FLAG, CP_LARGE_NAT_BITMAP_FLAG};
 use crate::cards::layout::journal::{JournalEntry, MOST_ENTRIES};
@@ -21,6 +23,11 @@ pub fn shuffle<T>(random: &mut Random, items: &mut [T]) {
 pub fn between(random: &mut Random, least: u32, most: u32) -> u32 {
     let any = least + random.below(u64::from(most - least) + 1) as u32;
     pick(random, &[least, most, any, any])
+}
+
+/// Any number of the range.
+pub fn within(random: &mut Random, range: &RangeInclusive<u64>) -> u64 {
+    range.start() + random.below(range.end() - range.start() + 1)
 }
 
 /// Everything that the knobs leave open is junk.

@@ -4,9 +4,9 @@
 use crate::cards::image::Image;
 use crate::cards::knobs::{Areas, Knobs, Pack};
 use crate::cards::layout::checkpoint::SIT_NAT_VERSION_BITMAP;
-use crate::cards::layout::sit::{SitEntry, ENTRIES_PER_BLOCK, ENTRY_SIZE};
+use crate::cards::layout::sit::{SitEntry, ENTRIES_PER_BLOCK, ENTRY_SIZE, VER_BITMAP_BYTES};
 use crate::cards::layout::sit_journal::{self, SitJournalEntry, MOST_ENTRIES, N_SITS, SEGNO};
-use crate::cards::layout::SEGMENT_BLOCKS;
+use crate::cards::layout::{Field, SEGMENT_BLOCKS};
 use crate::cards::random::pick;
 use crate::trial::Random;
 
@@ -24,6 +24,11 @@ impl Image {
         (block, slot * ENTRY_SIZE)
     }
 
+    pub fn sit_entry(&self, segno: u32, copy: u32) -> SitEntry {
+        let (block, at) = self.sit_place(segno, copy);
+        SitEntry::read(&self.block(block)[at..])
+    }
+
     pub fn set_sit_entry(&mut self, segno: u32, copy: u32, entry: &SitEntry) {
         let (block, at) = self.sit_place(segno, copy);
         self.put("SIT entry", block, at, &entry.stored());
@@ -36,16 +41,88 @@ impl Image {
     }
 }
 
-/// Enough of a SIT map: no card has more than 10 table blocks in use.
-pub const MAP_BYTES: usize = 2;
+/// Where a sound card has what its segments are judged by. Damage to the card doesn't move it, so that it
+/// can be struck again.
+#[derive(Clone, Debug)]
+pub struct Sit {
+    pub main_segments: u32,
+    /// The first block of the pack in use, which has the SIT map.
+    pub first_block: u32,
+    /// The block of the journal in use, and the journal's first byte there.
+    pub journal: (u32, usize),
+    pack: Pack,
+}
+
+impl Sit {
+    pub fn of(image: &Image) -> Sit {
+        let which = image.pack_in_use();
+        let (first_block, pack) = (image.first_block(which), image.pack(which));
+        let (block, at) = pack.sit_journal_place().expect("a journal");
+        Sit {
+            main_segments: (image.areas.main_end - image.areas.main) / SEGMENT_BLOCKS,
+            first_block,
+            journal: (first_block + block, at),
+            pack,
+        }
+    }
+
+    pub fn map(&self) -> &[u8] {
+        &self.pack.sit_map
+    }
+
+    /// Which copy of the table has a segment's entry in use.
+    pub fn copy_of(&self, segno: u32) -> u32 {
+        self.pack.sit_copy(segno / ENTRIES_PER_BLOCK)
+    }
+
+    /// The journal's count, and the block that has it.
+    pub fn journal_count(&self) -> (u32, Field) {
+        let (block, at) = self.journal;
+        (block, N_SITS.moved(at))
+    }
+
+    /// Changes a byte that a report reads, or could read in place of the right one. The checkpoint block
+    /// mostly gets its checksum.
+    pub fn strike(&self, image: &mut Image, random: &mut Random) {
+        let (block, at) = self.place_to_strike(image, random);
+        let flipped = image.block(block)[at] ^ 1 << random.below(8);
+        let any = random.number() as u8;
+        let byte = pick(random, &[0, 1, 5, 6, 7, 0xFF, flipped, flipped, any]);
+        image.put("byte", block, at, &[byte]);
+        if block == self.first_block && random.below(4) > 0 {
+            image.seal(block);
+        }
+    }
+
+    /// The journal's count, mostly its low byte, a byte of its entries, of the table in either copy, or of
+    /// the map.
+    fn place_to_strike(&self, image: &Image, random: &mut Random) -> (u32, usize) {
+        let byte_of = |random: &mut Random, bytes: usize| random.below(bytes as u64) as usize;
+        let (journal, start) = self.journal;
+        match random.below(4) {
+            0 => (journal, start + pick(random, &[0, 0, 0, 1])),
+            1 => {
+                let byte = byte_of(random, MOST_ENTRIES * sit_journal::ENTRY_SIZE);
+                (journal, start + N_SITS.size + byte)
+            }
+            2 => {
+                let byte = byte_of(random, VER_BITMAP_BYTES);
+                (self.first_block, SIT_NAT_VERSION_BITMAP + byte)
+            }
+            _ => {
+                let segno = random.below(u64::from(self.main_segments) + 1) as u32;
+                let (table, entry) = image.sit_place(segno, random.below(2) as u32);
+                (table, entry + byte_of(random, ENTRY_SIZE))
+            }
+        }
+    }
+}
 
 /// A card whose segment table is known. What a report has no business with is junk in the checkpoint area
 /// and the table, and never really there in the main area, so that a gigabyte of it costs little.
 pub struct SegmentCard {
     pub image: Image,
-    pub main_segments: u32,
-    which_pack: usize,
-    pack: Pack,
+    pub sit: Sit,
 }
 
 impl SegmentCard {
@@ -58,16 +135,10 @@ impl SegmentCard {
         put_junk(&mut image);
         for (which, pack) in knobs.packs.iter().enumerate() {
             if let Some(pack) = pack {
-                image.add_pack(which, &with_segments(pack), knobs);
+                image.add_pack(which, &pack.clone().with_sit(), knobs);
             }
         }
-        let (which_pack, pack) = knobs.pack_in_use();
-        let mut card = SegmentCard {
-            image,
-            main_segments: knobs.main_segments,
-            which_pack,
-            pack: pack.clone(),
-        };
+        let mut card = SegmentCard::read(image);
         for segno in 0..knobs.main_segments {
             card.set_entry(segno, &SitEntry::filled(0));
         }
@@ -75,112 +146,48 @@ impl SegmentCard {
         card
     }
 
-    /// An image that wasn't built here, with a pack that passes.
+    /// An image that wasn't built here, and is sound.
     pub fn read(image: Image) -> SegmentCard {
-        let packs = [0, 1].map(|which| image.pack(which));
-        let which_pack = usize::from(packs[1].version > packs[0].version);
         SegmentCard {
-            main_segments: (image.areas.main_end - image.areas.main) / SEGMENT_BLOCKS,
-            which_pack,
-            pack: packs[which_pack].clone(),
+            sit: Sit::of(&image),
             image,
         }
     }
 
     /// Where the entry in use of a segment starts: its block, and its first byte there.
     pub fn entry_place(&self, segno: u32) -> (u32, usize) {
-        let (block, at) = self.journal_place();
-        let entries = self.image.get(block, N_SITS.moved(at)) as usize;
-        let mut journalled = (0..entries).map(|n| at + n * sit_journal::ENTRY_SIZE);
+        let (block, count) = self.sit.journal_count();
+        let entries = self.image.get(block, count) as usize;
+        let mut journalled = (0..entries).map(|n| count.at + n * sit_journal::ENTRY_SIZE);
         let is_of = |&at: &usize| self.image.get(block, SEGNO.moved(at)) == segno.into();
         match journalled.find(is_of) {
             Some(at) => (block, at + SEGNO.at + SEGNO.size),
-            None => self.image.sit_place(segno, self.copy_of(segno)),
+            None => self.image.sit_place(segno, self.sit.copy_of(segno)),
         }
-    }
-
-    /// Which copy of the table has a segment's entry in use, by the map as it was built or read.
-    fn copy_of(&self, segno: u32) -> u32 {
-        self.pack.sit_copy(segno / ENTRIES_PER_BLOCK)
     }
 
     /// Writes a table entry in the copy in use.
     pub fn set_entry(&mut self, segno: u32, entry: &SitEntry) {
-        let copy = self.copy_of(segno);
+        let copy = self.sit.copy_of(segno);
         self.image.set_sit_entry(segno, copy, entry);
     }
 
-    /// The first block of the pack in use, which has the SIT map.
-    pub fn first_block(&self) -> u32 {
-        self.image.first_block(self.which_pack)
-    }
-
-    /// The SIT map as it was built or read.
-    pub fn map(&self) -> &[u8] {
-        &self.pack.sit_map
-    }
-
     pub fn set_map(&mut self, map: &[u8]) {
-        let first = self.first_block();
+        let first = self.sit.first_block;
         self.image
             .put("SIT map", first, SIT_NAT_VERSION_BITMAP, map);
         self.image.seal(first);
     }
 
-    /// The block of the journal in use, and the journal's first byte there.
-    pub fn journal_place(&self) -> (u32, usize) {
-        let (block, at) = self.pack.sit_journal_place().expect("a journal");
-        (self.first_block() + block, at)
-    }
-
     pub fn put_journal(&mut self, entries: &[SitJournalEntry]) {
-        let (block, at) = self.journal_place();
+        let (block, at) = self.sit.journal;
         self.image.put_sit_journal(block, at, entries);
     }
 
     /// Whatever entries are there.
     pub fn set_journal_count(&mut self, count: u64) {
-        let (block, at) = self.journal_place();
-        self.image.set(block, N_SITS.moved(at), count);
-    }
-}
-
-/// Damage.
-impl SegmentCard {
-    /// Changes a byte that a report reads, or could read in place of the right one. The checkpoint block
-    /// mostly gets its checksum.
-    pub fn strike(&mut self, random: &mut Random) {
-        let (block, at) = self.place_to_strike(random);
-        let flipped = self.image.block(block)[at] ^ 1 << random.below(8);
-        let any = random.number() as u8;
-        let byte = pick(random, &[0, 1, 5, 6, 7, 0xFF, flipped, flipped, any]);
-        self.image.put("byte", block, at, &[byte]);
-        if block == self.first_block() && random.below(4) > 0 {
-            self.image.seal(block);
-        }
-    }
-
-    /// The journal's count, a byte of its entries, of the table in either copy, or of the map.
-    fn place_to_strike(&self, random: &mut Random) -> (u32, usize) {
-        let mut below = |bound: usize| random.below(bound as u64) as usize;
-        let (journal, start) = self.journal_place();
-        let entries = start + N_SITS.size;
-        match below(4) {
-            0 => (journal, start),
-            1 => (
-                journal,
-                entries + below(MOST_ENTRIES * sit_journal::ENTRY_SIZE),
-            ),
-            2 => (
-                self.first_block(),
-                SIT_NAT_VERSION_BITMAP + below(MAP_BYTES),
-            ),
-            _ => {
-                let segno = below(self.main_segments as usize + 1) as u32;
-                let (table, entry) = self.image.sit_place(segno, below(2) as u32);
-                (table, entry + below(ENTRY_SIZE))
-            }
-        }
+        let (block, field) = self.sit.journal_count();
+        self.image.set(block, field, count);
     }
 }
 
@@ -191,14 +198,4 @@ fn put_junk(image: &mut Image) {
     for start in (sit..nat).step_by(128) {
         image.put_junk(start..start + 32, start.into());
     }
-}
-
-/// The same pack, whose map and journal aren't junk.
-fn with_segments(pack: &Pack) -> Pack {
-    let mut pack = pack.clone();
-    if pack.sit_map.is_empty() {
-        pack.sit_map = vec![0; MAP_BYTES];
-    }
-    pack.sit_journal.get_or_insert_default();
-    pack
 }

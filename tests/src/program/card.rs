@@ -11,11 +11,12 @@ use crate::calls::pulls::{reference_pull, Call, Outcome};
 use crate::cards::card::Card;
 use crate::cards::directory::Dentry;
 use crate::cards::image::Image;
+use crate::cards::knobs::Pack;
 use crate::cards::layout::inode::{ADDRESSES, INLINE_DATA, I_MODE, S_IFDIR};
+use crate::cards::layout::sit::SitEntry;
 use crate::cards::layout::{footer, BLOCK_SIZE};
 use crate::cards::on_disk::{OnDisk, Shared};
 use crate::cards::one_file::small_knobs;
-use crate::program::sit::Sit;
 use crate::trial::Random;
 
 pub const ROAD: &[u8] = b"road.bin";
@@ -88,7 +89,10 @@ pub struct ProgramCard {
 impl ProgramCard {
     pub fn build() -> ProgramCard {
         let mut random = Random::new(11);
-        let knobs = small_knobs(&mut random);
+        let mut knobs = small_knobs(&mut random);
+        // What its segments are judged by isn't junk.
+        knobs.packs = knobs.packs.map(|pack| pack.map(Pack::with_sit));
+        let segments = 0..knobs.main_segments;
         let mut card = Card::new(knobs, random);
         card.add_root(0, 2);
         let files = readable(&mut card);
@@ -98,7 +102,9 @@ impl ProgramCard {
             card.set_entry(nid, ino, 0);
             nid
         });
-        Sit::of(&card.image).put_sound(&mut card.image, 300);
+        for segno in segments {
+            card.image.set_sit_entry(segno, 0, &SitEntry::filled(300));
+        }
         card.image.settle("a card for the program");
         ProgramCard {
             disk: OnDisk::new(card.image.clone()),

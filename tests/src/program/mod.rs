@@ -7,7 +7,6 @@ pub mod held;
 pub mod json;
 pub mod page;
 pub mod segments;
-pub mod sit;
 pub mod special_build;
 
 use std::collections::BTreeSet;

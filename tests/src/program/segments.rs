@@ -2,6 +2,7 @@
 
 use std::path::PathBuf;
 
+use crate::cards::layout::sit::SitEntry;
 use crate::cards::layout::SEGMENT_BLOCKS;
 use crate::program::json::Json;
 use crate::program::page::{counted, expect_head, meaning, with_commas};
@@ -23,6 +24,18 @@ pub struct Segment {
     pub ones: u32,
     pub journal: bool,
     pub block: u32,
+}
+
+impl Segment {
+    /// As an entry has to be told, if the journal or else the table has it in this block.
+    pub fn of(entry: &SitEntry, journal: bool, block: u32) -> Segment {
+        Segment {
+            count: entry.count.into(),
+            ones: entry.ones(),
+            journal,
+            block,
+        }
+    }
 }
 
 /// The main segments of a card, from the first.

@@ -68,6 +68,12 @@ impl SpecialBuild {
         command
     }
 
+    /// Runs it with these variables.
+    pub fn run_with(&self, variables: &[(&str, &str)], words: Words) -> Ran {
+        let mut command = self.command(words);
+        ran(command.envs(variables.iter().copied()), Stdio::piped())
+    }
+
     /// Runs it; no sanitizer may have anything to say.
     pub fn run(&self, words: Words) -> Ran {
         let ran = ran(&mut self.command(words), Stdio::piped());

@@ -8,7 +8,7 @@ use harptimber_tests::cards::image::Image;
 use harptimber_tests::cards::knobs::Knobs;
 use harptimber_tests::cards::layout::nat::ENTRIES_PER_BLOCK;
 use harptimber_tests::cards::layout::BLOCK_SIZE;
-use harptimber_tests::cards::random::{pick, sound_knobs};
+use harptimber_tests::cards::random::{pick, sound_knobs, within};
 use harptimber_tests::trial::Random;
 
 /// A number to look up: in the journal, at a border, or any.
@@ -52,8 +52,7 @@ fn damaged_cards(name: &'static str, strikes: RangeInclusive<u64>) {
         let damage = Damage::of(&image);
         for _ in 0..DAMAGES {
             let random = &mut lookups.trial.random;
-            let more = random.below(strikes.end() - strikes.start() + 1);
-            for _ in 0..strikes.start() + more {
+            for _ in 0..within(random, &strikes) {
                 damage.strike(&mut image, random);
             }
             let number = number(&knobs, random);

@@ -1,6 +1,6 @@
 //! `harptimber info`: what it says of sound and damaged cards, against what was put there and what the library answers.
 
-use std::process::{Command, Stdio};
+use std::process::Command;
 
 use harptimber_tests::cards::damage::Damage;
 use harptimber_tests::cards::image::Image;
@@ -15,7 +15,7 @@ use harptimber_tests::node_lookup;
 use harptimber_tests::program::json::Json;
 use harptimber_tests::program::page::{expect_head, meaning, shown, status_of};
 use harptimber_tests::program::special_build::SpecialBuild;
-use harptimber_tests::program::{ran, run, Ran, Words};
+use harptimber_tests::program::{run, Ran, Words};
 use harptimber_tests::tools::outside::CardFile;
 use harptimber_tests::tools::published::{self, formatted};
 use harptimber_tests::trial::Random;
@@ -711,12 +711,9 @@ fn library_against_words() {
     for (own, image) in [(0, Image::new(&Knobs::sound())), (6, featured)] {
         let disk = OnDisk::new(image);
         for answer in [0, 4, 5, 6, 7, 8] {
+            let any_answer = [("ANY_ANSWER", &*answer.to_string())];
             let run = |words: Words| {
-                let mut command = build.command(words);
-                let ran = ran(
-                    command.env("ANY_ANSWER", answer.to_string()),
-                    Stdio::piped(),
-                );
+                let ran = build.run_with(&any_answer, words);
                 ran.expect(status_of(answer))
             };
             let json = run(&[&"info", &"--json", &disk.path()]).json();

@@ -1,20 +1,24 @@
 //! `harptimber segments`: what it says of cards whose SIT entries are known, against what was put there.
 
 use std::path::PathBuf;
-use std::process::{Command, Stdio};
+use std::process::Command;
 
+use harptimber_tests::calls::segments::reported;
 use harptimber_tests::cards::damage::Damage;
 use harptimber_tests::cards::image::Image;
-use harptimber_tests::cards::knobs::Knobs;
-use harptimber_tests::cards::layout::Field;
+use harptimber_tests::cards::knobs::{Knobs, Pack};
+use harptimber_tests::cards::layout::checkpoint::VALID_BLOCK_COUNT;
+use harptimber_tests::cards::layout::sit::SitEntry;
+use harptimber_tests::cards::layout::sit_journal::SitJournalEntry;
 use harptimber_tests::cards::on_disk::OnDisk;
 use harptimber_tests::cards::random::pick;
+use harptimber_tests::cards::random_segments::{in_use, random_segments, RandomSegments};
+use harptimber_tests::cards::segments::{SegmentCard, Sit};
 use harptimber_tests::program::json::Json;
 use harptimber_tests::program::page::{expect_head, meaning, status_of};
-use harptimber_tests::program::segments::Segments;
-use harptimber_tests::program::sit::{packs, reported, Entry, Sit};
+use harptimber_tests::program::segments::{Segment, Segments};
 use harptimber_tests::program::special_build::SpecialBuild;
-use harptimber_tests::program::{ran, run, run_on_terminal, run_on_terminal_after, Ran, Words};
+use harptimber_tests::program::{run, run_on_terminal, run_on_terminal_after, Ran, Words};
 use harptimber_tests::sizes::{CARD_BLOCKS_MOST, SEGMENTS_MOST};
 use harptimber_tests::tools::outside::CardFile;
 use harptimber_tests::tools::published::{self, contents, filled_with, formatted, Scratch};
@@ -22,10 +26,7 @@ use harptimber_tests::trial::Random;
 
 /// A card with so many main segments and zeros in its SIT: each is empty, and counts nothing.
 fn card_of(segments: u32) -> Knobs {
-    Knobs {
-        main_segments: segments,
-        ..Knobs::sound()
-    }
+    Knobs::sound().with_segments(segments)
 }
 
 /// A card on which the entries are put as they should be told.
@@ -39,8 +40,9 @@ impl Put {
     fn new(knobs: &Knobs) -> Put {
         let image = Image::new(knobs);
         let sit = Sit::of(&image);
-        let empty = |segment| Entry::new(0, 0).segment(false, sit.in_table(segment, 0).0);
-        let segments = Segments((0..sit.segments).map(empty).collect());
+        let place = |segno| image.sit_place(segno, 0);
+        let empty = |segno| Segment::of(&SitEntry::filled(0), false, place(segno).0);
+        let segments = Segments((0..knobs.main_segments).map(empty).collect());
         let disk = OnDisk::new(image);
         Put {
             disk,
@@ -49,11 +51,41 @@ impl Put {
         }
     }
 
+    /// With random entries in the table and in the journal.
+    fn random(random: &mut Random, knobs: Knobs) -> Put {
+        let RandomSegments {
+            card: SegmentCard { image, sit },
+            table,
+            journal,
+        } = random_segments(random, knobs);
+        let told = |(segno, (entry, journalled)): (u32, (SitEntry, bool))| {
+            let (block, _) = match journalled {
+                true => sit.journal,
+                false => image.sit_place(segno, sit.copy_of(segno)),
+            };
+            Segment::of(&entry, journalled, block)
+        };
+        let segments = (0..).zip(in_use(&table, &journal)).map(told);
+        Put {
+            segments: Segments(segments.collect()),
+            disk: OnDisk::new(image),
+            sit,
+        }
+    }
+
     /// Puts the entry of a segment, which is told from the first copy.
-    fn put(&mut self, segment: u32, entry: &Entry) {
-        self.sit.put(&mut self.disk.image, segment, 0, entry);
-        let (block, _) = self.sit.in_table(segment, 0);
-        self.segments.0[segment as usize] = entry.segment(false, block);
+    fn put(&mut self, segno: u32, entry: &SitEntry) {
+        let image = &mut self.disk.image;
+        image.set_sit_entry(segno, 0, entry);
+        let (block, _) = image.sit_place(segno, 0);
+        self.segments.0[segno as usize] = Segment::of(entry, false, block);
+    }
+
+    /// Gives the journal a count, in the file too.
+    fn set_journal_count(&mut self, count: u64) {
+        let (block, field) = self.sit.journal_count();
+        self.disk.image.set(block, field, count);
+        self.disk.write_blocks(&[block]);
     }
 
     /// Writes it, and says that the program tells it so.
@@ -68,14 +100,14 @@ impl Put {
 fn words() {
     let mut card = Put::new(&card_of(48));
     for segment in 0..20 {
-        card.put(segment, &Entry::new(512, 512));
+        card.put(segment, &SitEntry::filled(512));
     }
     let path = card.disk.path().display().to_string();
     let fill = "10,240 of 24,576 blocks valid in 48 segments (41.7 %), 28 of them empty\n";
     let none = format!("{path}: can be read (answer 0): no segment is off\n{fill}");
     assert_eq!(card.expect().words(), none);
-    card.put(7, &Entry::new(1023, 512));
-    card.put(19, &Entry::new(1, 512));
+    card.put(7, &SitEntry::counted(1023, 512));
+    card.put(19, &SitEntry::counted(1, 512));
     let two = format!(
         "{path}: can be read (answer 0): 2 segments are off
   segment 7 counts 1,023 valid blocks, its map marks 512 (SIT table, block 1026)
@@ -92,8 +124,9 @@ fsck.f2fs -f counts anew; it writes to the card, so keep a copy
 #[test]
 fn many() {
     let mut card = Put::new(&card_of(30));
-    for (segment, lines) in (0..30).zip([1, 2, 3, 4, 5, 6, 7, 8, 9, 10, 11, 11, 11]) {
-        card.put(29 - 2 * segment % 29, &Entry::new(segment, segment + 1));
+    for (n, lines) in (0..30).zip([1, 2, 3, 4, 5, 6, 7, 8, 9, 10, 11, 11, 11]) {
+        let entry = SitEntry::counted(n, u32::from(n) + 1);
+        card.put(29 - 2 * u32::from(n) % 29, &entry);
         let ran = card.expect();
         let told = ran.words().lines().filter(|line| line.starts_with("  "));
         assert_eq!(told.count(), lines, "of {ran:?}");
@@ -105,21 +138,17 @@ fn many() {
 fn counts() {
     let mut card = Put::new(&card_of(60));
     let ones = [0, 1, 255, 256, 257, 511, 512];
-    let near = |ones: u32| [ones.saturating_sub(1), ones, ones + 1, 0, 512, 1023];
+    let near = |ones: u16| [ones.saturating_sub(1), ones, ones + 1, 0, 512, 1023];
     let pairs = ones
         .into_iter()
         .flat_map(|ones| near(ones).map(|count| (count, ones)));
-    for (segment, (count, ones)) in (0..).zip(pairs) {
-        let kind = segment % 64;
-        let time = u64::from(segment);
-        card.put(
-            segment,
-            &Entry {
-                kind,
-                time,
-                ..Entry::new(count, ones)
-            },
-        );
+    for (n, (count, ones)) in (0u16..).zip(pairs) {
+        let entry = SitEntry {
+            seg_type: n % 64,
+            mtime: n.into(),
+            ..SitEntry::counted(count, ones.into())
+        };
+        card.put(n.into(), &entry);
     }
     card.expect();
     assert!(card.segments.off().len() > 20);
@@ -130,7 +159,7 @@ fn random_cards() {
     let mut random = Random::new(51);
     let mut off = 0;
     for round in 0..24 {
-        let pack = packs()[round % 4].clone();
+        let pack = Pack::kinds()[round % 4].clone();
         let knobs = Knobs {
             sit_segments: 2 * (1 + round as u32 % 2),
             main_segments: pick(&mut random, &[3, 55, 56, 111]),
@@ -138,8 +167,7 @@ fn random_cards() {
             ..Knobs::sound()
         };
         let knobs = knobs.with_pack(round / 4 % 2, pack);
-        let mut card = Put::new(&knobs);
-        card.segments = card.sit.put_random(&mut card.disk.image, &mut random);
+        let card = Put::random(&mut random, knobs);
         card.expect();
         off += card.segments.off().len();
     }
@@ -168,10 +196,14 @@ fn largest_card() {
     assert!(of(SEGMENTS_MOST + 1).image_blocks() > CARD_BLOCKS_MOST);
     let mut card = Put::new(&of(SEGMENTS_MOST));
     for segment in 0..SEGMENTS_MOST {
-        card.put(segment, &Entry::new(segment + 1, segment));
+        card.put(segment, &SitEntry::counted(segment as u16 + 1, segment));
     }
-    let behind = [(SEGMENTS_MOST, Entry::new(1, 0)); 6];
-    card.sit.put_journal(&mut card.disk.image, &behind);
+    let behind = SitJournalEntry {
+        segno: SEGMENTS_MOST,
+        entry: SitEntry::counted(1, 0),
+    };
+    let (block, at) = card.sit.journal;
+    card.disk.image.put_sit_journal(block, at, &[behind; 6]);
     card.expect();
     let words: Words = &[&"segments", &"--json", &card.disk.path()];
     let json = SpecialBuild::sanitized().run(words).expect(1).json();
@@ -190,13 +222,6 @@ fn dumped(path: &PathBuf) -> Vec<u32> {
     });
     counts.collect()
 }
-
-/// How many valid blocks there are by a pack.
-const VALID_BLOCK_COUNT: Field = Field {
-    name: "VALID_BLOCK_COUNT",
-    at: 16,
-    size: 8,
-};
 
 /// Cards as the tools wrote them: as they come out of mkfs.f2fs, most entries are in the journal.
 fn published_cards() -> [Image; 2] {
@@ -229,9 +254,9 @@ fn published() {
 #[test]
 fn published_and_damaged() {
     for mut image in published_cards() {
-        let sit = Sit::of(&image);
-        let last = sit.segments - 1;
-        sit.set_count(&mut image, last, 13);
+        let last = Sit::of(&image).main_segments - 1;
+        let sound = image.sit_entry(last, 0);
+        image.set_sit_entry(last, 0, &SitEntry { count: 13, ..sound });
         let card = CardFile::of(&image);
         let path = card.path();
         let json = run(&[&"segments", &"--json", &path]).expect(1).json();
@@ -241,7 +266,7 @@ fn published_and_damaged() {
             panic!("{json:?}");
         };
         let numbers = ["segment", "count", "ones", "block"].map(|key| off[key].number() as u32);
-        assert_eq!(numbers, [last, 13, 0, sit.in_table(last, 0).0]);
+        assert_eq!(numbers, [last, 13, 0, image.sit_place(last, 0).0]);
         assert_eq!(off["journal"], Json::Bool(false));
         let advised = run(&[&"segments", &path]).expect(1);
         assert!(advised.words().contains("\nfsck.f2fs -f counts anew"));
@@ -254,27 +279,23 @@ fn published_and_damaged() {
 /// More entries than are read: only this command refuses the card, and says why.
 #[test]
 fn journal_counts() {
-    for pack in packs() {
-        let image = Image::new(&card_of(3).with_pack(0, pack));
-        let sit = Sit::of(&image);
-        let mut disk = OnDisk::new(image);
+    for pack in Pack::kinds() {
+        let mut card = Put::new(&card_of(3).with_pack(0, pack));
+        let path = card.disk.path();
         for count in [0, 1, 6, 7, 8, 255, 256, 65535] {
-            disk.image.set(sit.journal.0, sit.journal_count(), count);
-            disk.write_blocks(&[sit.journal.0]);
+            card.set_journal_count(count);
             let answer = if count <= 6 { 0 } else { 8 };
             let status = status_of(answer);
-            let json = run(&[&"segments", &"--json", &disk.path()])
-                .expect(status)
-                .json();
+            let json = run(&[&"segments", &"--json", &path]).expect(status).json();
             expect_head(&json, "segments", answer);
             let reason = format!("the SIT journal counts {count} entries, at most 6 fit");
             let told = json.get("reason").map(Json::text);
             assert_eq!(told, (count > 6).then_some(reason.as_str()));
-            let ran = run(&[&"segments", &disk.path()]).expect(status);
+            let ran = run(&[&"segments", &path]).expect(status);
             let words = format!(": {} (answer 8): {reason}\n", meaning("segments", 8));
             assert_eq!(ran.words().ends_with(&words), count > 6, "of {ran:?}");
             assert_eq!(ran.words().lines().count() == 1, count > 6, "of {ran:?}");
-            let info = run(&[&"info", &"--json", &disk.path()]).expect(0).json();
+            let info = run(&[&"info", &"--json", &path]).expect(0).json();
             expect_head(&info, "info", 0);
         }
     }
@@ -291,7 +312,7 @@ fn stepped(segments: u32) -> Put {
     ];
     for segment in 0..segments {
         let ones = ones[segment as usize % ones.len()];
-        card.put(segment, &Entry::new(ones, ones));
+        card.put(segment, &SitEntry::filled(ones));
     }
     card
 }
@@ -349,9 +370,7 @@ fn no_bars() {
     assert_eq!(std::fs::read(&output).unwrap(), words.out);
     let json = run_on_terminal(&[&"segments", &"--json", &path], None).expect(0);
     card.segments.expect_json(&json.json());
-    let sit = &card.sit;
-    card.disk.image.set(sit.journal.0, sit.journal_count(), 7);
-    card.disk.write_blocks(&[sit.journal.0]);
+    card.set_journal_count(7);
     let refused = run_on_terminal(&[&"segments", &path], None).expect(2);
     assert_eq!(refused.words().lines().count(), 1, "of {refused:?}");
 }
@@ -378,14 +397,11 @@ fn expect_agreement(image: &Image, ran: &Ran) -> u32 {
 /// Damages a card so many times, in what it is opened by and in its SIT. Returns each answer.
 fn damage(card: Put, random: &mut Random, damages: u32, run: impl Fn(Words) -> Ran) -> Vec<u32> {
     let (sit, mut disk) = (card.sit, card.disk);
-    sit.put_random(&mut disk.image, random);
-    disk.image.settle("random entries");
-    disk.image.save(&disk.path());
     let opening = Damage::of(&disk.image);
     let mut blocks = vec![0, 1, sit.journal.0];
     for which in 0..2 {
         blocks.extend((0..16).map(|block| disk.image.first_block(which) + block));
-        blocks.extend([0, 57].map(|segment| sit.in_table(segment, which as u32).0));
+        blocks.extend([0, 57].map(|segno| disk.image.sit_place(segno, which as u32).0));
     }
     let each = (0..damages).map(|_| {
         for _ in 0..1 + random.below(3) {
@@ -407,10 +423,11 @@ fn damage(card: Put, random: &mut Random, damages: u32, run: impl Fn(Words) -> R
 /// Cards with each kind of pack, and with one of these numbers of main segments each.
 fn damage_cards(random: &mut Random, segments: &[u32], damages: u32, run: impl Fn(Words) -> Ran) {
     let mut answers = Vec::new();
-    for (kind, pack) in packs().into_iter().enumerate() {
+    for (kind, pack) in Pack::kinds().into_iter().enumerate() {
         for which in 0..2 {
             let segments = segments[(kind + which) % segments.len()];
-            let card = Put::new(&card_of(segments).with_pack(which, pack.clone()));
+            let knobs = card_of(segments).with_pack(which, pack.clone());
+            let card = Put::random(random, knobs);
             answers.extend(damage(card, random, damages, &run));
         }
     }
@@ -433,7 +450,7 @@ fn damaged_cards_sanitized() {
     let random = &mut Random::new(62);
     damage_cards(random, &[1, 3], 20, |words| build.run(words));
     let mut card = Put::new(&card_of(57));
-    card.put(56, &Entry::new(1, 2));
+    card.put(56, &SitEntry::counted(1, 2));
     card.expect();
     build.run(&[&"segments", &card.disk.path()]).expect(1);
 }
@@ -444,7 +461,7 @@ fn cut_cards_sanitized() {
     let build = SpecialBuild::sanitized();
     let card = Put::new(&card_of(3));
     let path = card.disk.path();
-    let sit = u64::from(card.sit.in_table(0, 0).0) * 4096;
+    let sit = u64::from(card.disk.image.areas.sit) * 4096;
     for len in [sit + 4096, sit + 74, sit, 8193, 8192, 5120, 4096, 1] {
         let file = std::fs::File::options().write(true).open(&path);
         file.unwrap().set_len(len).unwrap();
@@ -460,8 +477,8 @@ fn cut_cards_sanitized() {
 fn library_against_words() {
     let build = SpecialBuild::with_any_answer();
     let mut card = Put::new(&card_of(3));
-    card.put(1, &Entry::new(9, 8));
-    card.put(2, &Entry::new(300, 300));
+    card.put(1, &SitEntry::counted(9, 8));
+    card.put(2, &SitEntry::filled(300));
     card.expect();
     let path = card.disk.path();
     for (list, valid, agrees) in [
@@ -478,30 +495,33 @@ fn library_against_words() {
             .split_whitespace()
             .map(|word| word.parse().unwrap())
             .collect();
+        let variables = [
+            ("ANY_ANSWER", "0"),
+            ("ANY_LIST", list),
+            ("ANY_VALID", valid),
+        ];
         let run = |words: Words| {
-            let mut command = build.command(words);
-            let variables = [
-                ("ANY_ANSWER", "0"),
-                ("ANY_LIST", list),
-                ("ANY_VALID", valid),
-            ];
-            let ran = ran(command.envs(variables), Stdio::piped());
+            let ran = build.run_with(&variables, words);
             ran.expect(i32::from(!told.is_empty()))
         };
         let json = run(&[&"segments", &"--json", &path]).json();
-        expect_head(&json, "segments", 0);
-        assert_eq!(json["valid_blocks"].number().to_string(), valid);
-        let off = json["off"].list();
-        let numbers = off.iter().map(|off| off["segment"].number() as u32);
-        assert_eq!(numbers.collect::<Vec<_>>(), told);
-        for key in ["count", "ones", "journal", "block"] {
-            let there = off.iter().all(|off| off.get(key).is_some() == agrees);
-            assert!(there, "'{key}' in {json:?}");
-        }
-        for key in ["segments", "empty"] {
-            assert_eq!(json.get(key).is_some(), agrees, "'{key}' in {json:?}");
-        }
+        expect_bare_json(&json, &told, valid, agrees);
         expect_bare_words(&run(&[&"segments", &path]), &told, valid, agrees);
+    }
+}
+
+fn expect_bare_json(json: &Json, told: &[u32], valid: &str, agrees: bool) {
+    expect_head(json, "segments", 0);
+    assert_eq!(json["valid_blocks"].number().to_string(), valid);
+    let off = json["off"].list();
+    let numbers = off.iter().map(|off| off["segment"].number() as u32);
+    assert_eq!(numbers.collect::<Vec<_>>(), told);
+    for key in ["count", "ones", "journal", "block"] {
+        let there = off.iter().all(|off| off.get(key).is_some() == agrees);
+        assert!(there, "'{key}' in {json:?}");
+    }
+    for key in ["segments", "empty"] {
+        assert_eq!(json.get(key).is_some(), agrees, "'{key}' in {json:?}");
     }
 }
 
@@ -531,9 +551,8 @@ fn library_against_no_card() {
     let path = scratch.path("zeros.img");
     for len in [1, 4096, 8192, 1 << 20] {
         std::fs::write(&path, vec![0; len]).unwrap();
-        let mut command = build.command(&[&"segments", &path]);
         let variables = [("ANY_ANSWER", "0"), ("ANY_LIST", "7"), ("ANY_VALID", "2")];
-        let ran = ran(command.envs(variables), Stdio::piped()).expect(1);
+        let ran = build.run_with(&variables, &[&"segments", &path]).expect(1);
         expect_bare_words(&ran, &[7], "2", false);
     }
 }
@@ -544,14 +563,8 @@ fn refused_against_words() {
     let build = SpecialBuild::with_any_answer();
     let card = Put::new(&card_of(2));
     for answer in [4, 5, 6, 7, 8] {
-        let run = |words: Words| {
-            let mut command = build.command(words);
-            let ran = ran(
-                command.env("ANY_ANSWER", answer.to_string()),
-                Stdio::piped(),
-            );
-            ran.expect(2)
-        };
+        let any_answer = [("ANY_ANSWER", &*answer.to_string())];
+        let run = |words: Words| build.run_with(&any_answer, words).expect(2);
         let path = card.disk.path();
         let json = run(&[&"segments", &"--json", &path]).json();
         expect_head(&json, "segments", answer);

@@ -9,7 +9,6 @@ use std::time::{Duration, SystemTime};
 
 use harptimber_tests::program::card::{shared_card, ProgramCard, LONG, ROAD};
 use harptimber_tests::program::held::{Files, Hold, Holder};
-use harptimber_tests::program::sit::Sit;
 use harptimber_tests::program::{Ran, Words};
 use harptimber_tests::tools::published::Scratch;
 
@@ -77,7 +76,7 @@ impl Images {
         let pack = Hold { image: 0, block };
         expect(&[&"info", &kept], pack);
         expect(&[&"info", &"--json", &kept], pack);
-        let (block, _) = Sit::of(&self.card.card.image).in_table(0, 0);
+        let (block, _) = self.card.card.image.sit_place(0, 0);
         let sit = Hold { image: 0, block };
         expect(&[&"segments", &kept], sit);
         expect(&[&"segments", &"--json", &kept], sit);

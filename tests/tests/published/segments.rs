@@ -6,7 +6,7 @@ use harptimber_tests::calls::segments::{needed, Report, Reports};
 use harptimber_tests::cards::image::Image;
 use harptimber_tests::cards::layout::checkpoint::{CKPT_FLAGS, CP_COMPACT_SUM_FLAG};
 use harptimber_tests::cards::layout::sit::{SitEntry, VALID_MAP, VBLOCKS};
-use harptimber_tests::cards::layout::sit_journal::{SitJournalEntry, MOST_ENTRIES, N_SITS};
+use harptimber_tests::cards::layout::sit_journal::{SitJournalEntry, MOST_ENTRIES};
 use harptimber_tests::cards::layout::BLOCK_SIZE;
 use harptimber_tests::cards::segments::SegmentCard;
 use harptimber_tests::tools::fsck::fsck;
@@ -39,10 +39,10 @@ fn expect_sound(reports: &mut Reports, image: &Image) -> u32 {
 
 /// Whether the pack is compact, and how many entries its SIT journal has. All first copies are in use.
 fn summaries(card: &SegmentCard) -> (bool, u64) {
-    assert!(card.map().iter().all(|&byte| byte == 0));
-    let flags = card.image.get(card.first_block(), CKPT_FLAGS);
-    let (block, at) = card.journal_place();
-    let entries = card.image.get(block, N_SITS.moved(at));
+    assert!(card.sit.map().iter().all(|&byte| byte == 0));
+    let flags = card.image.get(card.sit.first_block, CKPT_FLAGS);
+    let (block, count) = card.sit.journal_count();
+    let entries = card.image.get(block, count);
     (flags & u64::from(CP_COMPACT_SUM_FLAG) != 0, entries)
 }
 
@@ -118,7 +118,7 @@ fn expect_found(reports: &mut Reports, image: &Image, segno: u32, [ones, counts]
 fn changed_after_mkfs() {
     let mut reports = Reports::new("segment report after mkfs and a change");
     let mut card = SegmentCard::read(formatted(64, ""));
-    for segno in 0..card.main_segments {
+    for segno in 0..card.sit.main_segments {
         expect_named(&mut reports, &mut card, segno, 2);
     }
     reports.finish(2 * 24, &[0]);
@@ -129,7 +129,7 @@ fn changed_after_sload() {
     let mut reports = Reports::new("segment report after sload and a change");
     let mut card = SegmentCard::read(filled_with(100, "", &files(1, 60)));
     let ones = expect_sound(&mut reports, &card.image);
-    for segno in (0..card.main_segments).step_by(5) {
+    for segno in (0..card.sit.main_segments).step_by(5) {
         expect_named(&mut reports, &mut card, segno, ones);
     }
     reports.finish(1 + 2 * 9, &[0]);
@@ -141,7 +141,7 @@ fn second_copies() {
     let mut reports = Reports::new("segment report after sload, with second copies");
     let mut card = SegmentCard::read(filled_with(300, "", &files(4, 300)));
     let ones = expect_sound(&mut reports, &card.image);
-    assert!(card.main_segments > 110, "three table blocks");
+    assert!(card.sit.main_segments > 110, "three table blocks");
     for second in 0..8u8 {
         for table_block in (0..3).filter(|n| second >> n & 1 == 1) {
             let [from, to] = [0, 1].map(|copy| card.image.sit_block(table_block, copy));
@@ -167,7 +167,7 @@ fn plain_journal() {
         let entry = SitEntry::read(&card.image.block(block)[at..]);
         SitJournalEntry { segno, entry }
     };
-    let used = (0..card.main_segments).map(in_table);
+    let used = (0..card.sit.main_segments).map(in_table);
     let used = used.filter(|journalled| journalled.entry.count > 0);
     let journal: Vec<SitJournalEntry> = used.take(MOST_ENTRIES).collect();
     assert!(journal.len() > 2, "segments with valid blocks");
@@ -189,7 +189,7 @@ fn damaged() {
     for _ in 0..reports.trial.times(3000) {
         let random = &mut reports.trial.random;
         for _ in 0..1 + random.below(3) {
-            card.strike(random);
+            card.sit.strike(&mut card.image, random);
         }
         let len = needed(&card.image);
         reports.compare(&card.image, len);

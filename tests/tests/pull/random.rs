@@ -5,6 +5,7 @@ use std::ops::RangeInclusive;
 use harptimber_tests::calls::pulls::Pulls;
 use harptimber_tests::cards::damage::Damage;
 use harptimber_tests::cards::names::good_name;
+use harptimber_tests::cards::random::within;
 use harptimber_tests::cards::random_files::{any_target, random_files, RandomFiles};
 use harptimber_tests::cards::walk_damage::strike_either;
 
@@ -38,8 +39,7 @@ fn damaged_cards(name: &'static str, strikes: RangeInclusive<u64>) {
         for _ in 0..DAMAGES {
             let random = &mut pulls.trial.random;
             let target = any_target(&targets, random);
-            let more = random.below(strikes.end() - strikes.start() + 1);
-            for _ in 0..strikes.start() + more {
+            for _ in 0..within(random, &strikes) {
                 strike_either(&mut card, (&opening, OPENING), target, random);
             }
             let (name, index) = target.any_call(random);

@@ -9,13 +9,13 @@ use harptimber_tests::cards::damage::all_faults;
 use harptimber_tests::cards::directory::Dentry;
 use harptimber_tests::cards::image::Image;
 use harptimber_tests::cards::knobs::{Knobs, Pack};
-use harptimber_tests::cards::layout::sit_journal::N_SITS;
+use harptimber_tests::cards::layout::sit::SitEntry;
 use harptimber_tests::cards::layout::{journal, BLOCK_SIZE};
-use harptimber_tests::cards::segments::SegmentCard;
+use harptimber_tests::cards::segments::{SegmentCard, Sit};
 use harptimber_tests::sizes::CARD_BLOCKS_MOST;
 use harptimber_tests::trial::Random;
 
-use crate::{counted, journalled, knobs, pack, FLAGS};
+use crate::{journalled, knobs, pack, FLAGS};
 
 const MOST_BLOCKS: usize = CARD_BLOCKS_MOST as usize;
 
@@ -24,7 +24,7 @@ fn half_off(main_segments: u32) -> (SegmentCard, Report) {
     let mut card = SegmentCard::new(&knobs(main_segments, Pack::compact(1)));
     let off: Vec<u32> = (0..main_segments).step_by(2).collect();
     for &segno in &off {
-        card.set_entry(segno, &counted(0, 7));
+        card.set_entry(segno, &SitEntry::counted(0, 7));
     }
     let report = Report::of(&off, 7 * off.len() as u32);
     (card, report)
@@ -52,7 +52,7 @@ fn no_main_segment() {
     let mut reports = Reports::new("segment report without main segments");
     let mut card = SegmentCard::new(&knobs(0, Pack::compact(1)));
     assert_eq!(card.image.areas.main, card.image.areas.main_end);
-    for journal in [vec![], vec![journalled(0, counted(1, 2))]] {
+    for journal in [vec![], vec![journalled(0, SitEntry::counted(1, 2))]] {
         card.put_journal(&journal);
         for len in 0..10 {
             let paper = Report::of(&[], 0);
@@ -158,8 +158,7 @@ fn other_calls() {
     let mut compares = Compares::new("compare with any SIT journal");
     for flags in FLAGS {
         let (mut card, data) = with_file(flags);
-        let (block, at) = card.pack.sit_journal_place().expect("a journal");
-        let (block, count) = (card.image.first_block(0) + block, N_SITS.moved(at));
+        let (block, count) = Sit::of(&card.image).journal_count();
         card.image.set(block, count, 0);
         let kept_image = card.image.clone();
         let kept = Kept::new(&kept_image, NAME, 0);

@@ -4,14 +4,11 @@ use std::ops::Range;
 
 use harptimber_tests::calls::segments::{Report, Reports};
 use harptimber_tests::cards::knobs::{Knobs, Pack};
-use harptimber_tests::cards::layout::sit::ENTRIES_PER_BLOCK;
+use harptimber_tests::cards::layout::sit::{SitEntry, ENTRIES_PER_BLOCK};
 use harptimber_tests::cards::segments::SegmentCard;
-use harptimber_tests::sizes::CARD_BLOCKS_MOST;
+use harptimber_tests::sizes::{CARD_BLOCKS_MOST, SEGMENTS_MOST};
 
-use crate::{counted, knobs};
-
-/// The most main segments beside a table of two segments: the areas before them have six, with no SSA.
-const MOST_SEGMENTS: u32 = 505;
+use crate::knobs;
 
 /// A card with as many main segments as fit beside a SIT area of this length. The NAT map is the opposite
 /// of the SIT map, so that neither is taken for the other.
@@ -24,7 +21,7 @@ fn largest(sit_segments: u32, sit_map: [u8; 2]) -> SegmentCard {
     SegmentCard::new(&Knobs {
         sit_segments,
         ssa_segments: 0,
-        ..knobs(MOST_SEGMENTS + 2 - sit_segments, pack)
+        ..knobs(SEGMENTS_MOST + 2 - sit_segments, pack)
     })
 }
 
@@ -35,7 +32,7 @@ fn most_main_segments() {
     let mut card = largest(2, [0; 2]);
     let blocks = card.image.areas.block_count;
     assert!(blocks <= CARD_BLOCKS_MOST && CARD_BLOCKS_MOST < blocks + 512);
-    let all: Vec<u32> = (0..MOST_SEGMENTS).collect();
+    let all: Vec<u32> = (0..SEGMENTS_MOST).collect();
     reports.expect(&card.image, &Report::of(&[], 0));
     let none: &[u32] = &[];
     for (count, ones, off) in [
@@ -44,10 +41,10 @@ fn most_main_segments() {
         (0, 512, &all),
         (1, 0, &all),
     ] {
-        for segno in 0..MOST_SEGMENTS {
-            card.set_entry(segno, &counted(count, ones));
+        for segno in 0..SEGMENTS_MOST {
+            card.set_entry(segno, &SitEntry::counted(count, ones));
         }
-        reports.expect(&card.image, &Report::of(off, MOST_SEGMENTS * ones));
+        reports.expect(&card.image, &Report::of(off, SEGMENTS_MOST * ones));
         card.image.undo(0);
     }
     reports.finish(5, &[0]);
@@ -64,8 +61,8 @@ fn segments_at_borders() {
     let mut reports = Reports::new("segment report at borders of table blocks");
     for map in [[0x00; 2], [0xFF; 2]] {
         let mut card = largest(2, map);
-        for segno in AT_BORDERS.into_iter().chain([MOST_SEGMENTS - 1]) {
-            card.set_entry(segno, &counted(513, 512));
+        for segno in AT_BORDERS.into_iter().chain([SEGMENTS_MOST - 1]) {
+            card.set_entry(segno, &SitEntry::counted(513, 512));
             reports.expect(&card.image, &Report::of(&[segno], 512));
             card.image.undo(0);
         }
@@ -82,7 +79,7 @@ fn in_block(table_block: u32, segments: u32) -> Range<u32> {
 /// Writes both copies of the whole table. In the first copy of a block its first segment has a wrong count
 /// and one valid block, in the second copy its last segment, and that has two.
 fn write_both_copies(card: &mut SegmentCard) -> u32 {
-    let segments = card.main_segments;
+    let segments = card.sit.main_segments;
     let table_blocks = segments.div_ceil(ENTRIES_PER_BLOCK);
     for table_block in 0..table_blocks {
         let all = in_block(table_block, segments);
@@ -90,7 +87,8 @@ fn write_both_copies(card: &mut SegmentCard) -> u32 {
             let in_first = u32::from(segno == all.start);
             let in_second = 2 * u32::from(segno + 1 == all.end);
             for (copy, ones) in [(0, in_first), (1, in_second)] {
-                card.image.set_sit_entry(segno, copy, &counted(0, ones));
+                card.image
+                    .set_sit_entry(segno, copy, &SitEntry::counted(0, ones));
             }
         }
     }
@@ -124,7 +122,7 @@ fn every_map() {
             // Block 0 has the top bit.
             let map = (second_copies as u16).reverse_bits().to_be_bytes();
             card.set_map(&map);
-            let paper = report_under(second_copies, table_blocks, card.main_segments);
+            let paper = report_under(second_copies, table_blocks, card.sit.main_segments);
             reports.expect(&card.image, &paper);
             card.image.undo(0);
         }

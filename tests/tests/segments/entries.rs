@@ -5,7 +5,7 @@ use harptimber_tests::cards::knobs::Pack;
 use harptimber_tests::cards::layout::sit::{SitEntry, MAP_SIZE, VBLOCKS_SHIFT};
 use harptimber_tests::cards::segments::SegmentCard;
 
-use crate::{counted, journalled, knobs};
+use crate::{journalled, knobs};
 
 /// The segment whose entry is looked at, among others without a valid block.
 const SEGMENT: u32 = 2;
@@ -53,7 +53,7 @@ fn every_count() {
         for count in 0..1024 {
             let near = [count.max(1) - 1, count, count + 1];
             for ones in near.into_iter().filter(|&ones| ones <= 512).chain([0, 512]) {
-                card.expect(&mut reports, &counted(count as u16, ones), ones);
+                card.expect(&mut reports, &SitEntry::counted(count as u16, ones), ones);
             }
         }
     }
@@ -85,7 +85,7 @@ fn every_type() {
             for (count, ones) in cases {
                 let entry = SitEntry {
                     seg_type,
-                    ..counted(count, ones)
+                    ..SitEntry::counted(count, ones)
                 };
                 card.expect(&mut reports, &entry, ones);
             }
@@ -166,7 +166,7 @@ fn every_time() {
             for (count, ones) in [(0, 0), (3, 3), (512, 512), (4, 3), (512, 0)] {
                 let entry = SitEntry {
                     mtime,
-                    ..counted(count, ones)
+                    ..SitEntry::counted(count, ones)
                 };
                 card.expect(&mut reports, &entry, ones);
             }
@@ -205,7 +205,7 @@ fn segments_named() {
     let mut expect = |is_off: &dyn Fn(u32) -> bool| {
         let off: Vec<u32> = (0..SEGMENTS).filter(|&segno| is_off(segno)).collect();
         for segno in 0..SEGMENTS {
-            let entry = counted(1 + u16::from(is_off(segno)), 1);
+            let entry = SitEntry::counted(1 + u16::from(is_off(segno)), 1);
             card.set_entry(segno, &entry);
         }
         reports.expect(&card.image, &Report::of(&off, SEGMENTS));
@@ -229,8 +229,8 @@ fn segments_named() {
 fn errors_that_cancel() {
     let mut reports = Reports::new("segment report by errors that cancel");
     let mut card = SegmentCard::new(&knobs(4, Pack::compact(1)));
-    card.set_entry(1, &counted(5, 7));
-    card.set_entry(3, &counted(7, 5));
+    card.set_entry(1, &SitEntry::counted(5, 7));
+    card.set_entry(3, &SitEntry::counted(7, 5));
     reports.expect(&card.image, &Report::of(&[1, 3], 12));
     reports.finish(1, &[0]);
 }
@@ -244,7 +244,10 @@ fn ones_of_each_segment() {
         let mark = card.image.mark();
         for segno in 0..9 {
             let ones = 1 << segno;
-            card.set_entry(segno, &counted(ones + u16::from(named), ones.into()));
+            card.set_entry(
+                segno,
+                &SitEntry::counted(ones + u16::from(named), ones.into()),
+            );
         }
         let all: Vec<u32> = (0..9).collect();
         let off: &[u32] = if named { &all } else { &[] };
@@ -252,7 +255,7 @@ fn ones_of_each_segment() {
         // Each segment emptied in turn.
         for segno in 0..9 {
             let emptied = card.image.mark();
-            card.set_entry(segno, &counted(0, 0));
+            card.set_entry(segno, &SitEntry::counted(0, 0));
             let others = off.iter().filter(|&&other| other != segno);
             let off: Vec<u32> = others.copied().collect();
             let left = 511 - (1 << segno);

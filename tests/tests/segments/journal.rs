@@ -10,7 +10,7 @@ use harptimber_tests::cards::layout::sit_journal::{SitJournalEntry, MOST_ENTRIES
 use harptimber_tests::cards::random::shuffle;
 use harptimber_tests::cards::segments::SegmentCard;
 
-use crate::{counted, journalled, knobs, pack, FLAGS};
+use crate::{journalled, knobs, pack, FLAGS};
 
 /// More than a table block has.
 const SEGMENTS: u32 = 60;
@@ -34,7 +34,7 @@ fn full() -> Vec<SitJournalEntry> {
 }
 
 fn wrong(n: u32) -> SitEntry {
-    counted(0, 1 << n)
+    SitEntry::counted(0, 1 << n)
 }
 
 /// What is reported if entries with these numbers are read and nothing else is wrong.
@@ -82,7 +82,7 @@ fn counts_past_the_most() {
 #[test]
 fn journal_over_table() {
     let mut reports = Reports::new("segment report by journal and table");
-    let entries = [(0, counted(2, 2)), (1, counted(2, 1))];
+    let entries = [(0, SitEntry::counted(2, 2)), (1, SitEntry::counted(2, 1))];
     for flags in KINDS {
         let mut card = card(flags);
         for segno in 0..SEGMENTS {
@@ -179,7 +179,7 @@ fn segments_beside_one() {
         for segno in [0, 1, 54, 55, 59] {
             for bit in 0..32 {
                 let other = segno ^ (1u32 << bit);
-                card.put_journal(&[journalled(other, counted(1, 4))]);
+                card.put_journal(&[journalled(other, SitEntry::counted(1, 4))]);
                 let paper = match other < SEGMENTS {
                     true => Report::of(&[other], 4),
                     false => Report::of(&[], 0),
@@ -213,7 +213,8 @@ fn orders() {
 #[test]
 fn segments_at_borders() {
     let mut reports = Reports::new("segment report of journalled segments at borders");
-    let journal = [440, 54, 110, 439, 55, 109].map(|segno| journalled(segno, counted(512, 511)));
+    let journal =
+        [440, 54, 110, 439, 55, 109].map(|segno| journalled(segno, SitEntry::counted(512, 511)));
     for flags in KINDS {
         let mut card = SegmentCard::new(&knobs(441, pack(flags)));
         card.put_journal(&journal);

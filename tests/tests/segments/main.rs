@@ -37,18 +37,8 @@ fn pack(flags: u32) -> Pack {
 
 /// A card with so many main segments.
 fn knobs(main_segments: u32, pack: Pack) -> Knobs {
-    Knobs {
-        main_segments,
-        ..Knobs::sound().with_pack(0, pack)
-    }
-}
-
-/// An entry with another count than its map has ones.
-fn counted(count: u16, ones: u32) -> SitEntry {
-    SitEntry {
-        count,
-        ..SitEntry::filled(ones)
-    }
+    let knobs = Knobs::sound().with_segments(main_segments);
+    knobs.with_pack(0, pack)
 }
 
 /// The journal's word on a segment.

@@ -8,7 +8,7 @@ use harptimber_tests::cards::layout::sit_journal::{IN_COMPACT_BLOCK, IN_PLAIN_BL
 use harptimber_tests::cards::layout::superblock::{MAGIC, SEGMENT_COUNT_MAIN};
 use harptimber_tests::cards::segments::SegmentCard;
 
-use crate::{counted, journalled, knobs, FLAGS};
+use crate::{journalled, knobs, FLAGS};
 
 const TOTAL: u32 = 12;
 const START_SUM: u32 = 3;
@@ -27,7 +27,7 @@ fn full_of_journals(which: usize) -> SegmentCard {
     let first = card.image.first_block(which);
     for block in 1..TOTAL - 1 {
         for at in [IN_COMPACT_BLOCK, IN_PLAIN_BLOCK] {
-            let entry = journalled(segment_at(block, at), counted(1, block));
+            let entry = journalled(segment_at(block, at), SitEntry::counted(1, block));
             card.image.put_sit_journal(first + block, at, &[entry]);
         }
     }
@@ -106,7 +106,7 @@ fn kinds(total: u32) -> [(Pack, u32); 6] {
             flags,
             start_sum,
             sit_map: vec![0; 2],
-            sit_journal: Some(vec![journalled(1, counted(301, 300))]),
+            sit_journal: Some(vec![journalled(1, SitEntry::counted(301, 300))]),
             ..Pack::compact(1)
         };
         (pack, least)
@@ -128,7 +128,7 @@ fn pack_in_use() {
     let pack = |version, sit_map: u8, segno| Pack {
         version,
         sit_map: vec![sit_map; 2],
-        sit_journal: Some(vec![journalled(segno, counted(9, 4))]),
+        sit_journal: Some(vec![journalled(segno, SitEntry::counted(9, 4))]),
         ..Pack::compact(1)
     };
     let by_pack = [Report::of(&[0, 2], 1 + 4), Report::of(&[1, 3], 2 + 4)];
@@ -141,7 +141,7 @@ fn pack_in_use() {
         });
         for segno in 0..4 {
             let [in_first, in_second] = [(0, 1), (1, 2)].map(|(off, ones)| match segno == off {
-                true => counted(0, ones),
+                true => SitEntry::counted(0, ones),
                 false => SitEntry::filled(0),
             });
             card.image.set_sit_entry(segno, 0, &in_first);
@@ -162,7 +162,7 @@ fn main_segments_of_the_copy_used() {
     let mut reports = Reports::new("segment report by superblock copy in use");
     let mut card = SegmentCard::new(&knobs(6, Pack::compact(1)));
     for segno in 0..6 {
-        card.set_entry(segno, &counted(0, 1));
+        card.set_entry(segno, &SitEntry::counted(0, 1));
     }
     for copy in [0, 1] {
         card.image
@@ -190,8 +190,8 @@ fn valid_blocks_of_the_pack() {
     let mut reports = Reports::new("segment report by the pack's count");
     let mut card = SegmentCard::new(&knobs(3, Pack::compact(1)));
     card.set_entry(1, &SitEntry::filled(70));
-    card.set_entry(2, &counted(9, 30));
-    let first = card.first_block();
+    card.set_entry(2, &SitEntry::counted(9, 30));
+    let first = card.sit.first_block;
     for count in [0, 1, 70, 79, 99, 100, 101, u64::MAX] {
         card.image.set_sealed(first, VALID_BLOCK_COUNT, count);
         reports.expect(&card.image, &Report::of(&[2], 100));

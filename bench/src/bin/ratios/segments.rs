@@ -4,7 +4,7 @@ use crate::calls::LONGER;
 use harptimber_bench::agreed::Agreed;
 use harptimber_bench::grid::{contender, Contender, Grid};
 use harptimber_tests::calls::segments::{reference_report, SegmentReport};
-use harptimber_tests::cards::knobs::{Knobs, Pack};
+use harptimber_tests::cards::knobs::Knobs;
 use harptimber_tests::cards::layout::sit::SitEntry;
 use harptimber_tests::cards::segments::SegmentCard;
 use std::hint::black_box;
@@ -44,8 +44,7 @@ pub fn by_segments(agreed: &mut Agreed) -> Grid {
 fn card(main_segments: u32) -> SegmentCard {
     let mut card = SegmentCard::new(&Knobs {
         ssa_segments: 0,
-        main_segments,
-        ..Knobs::sound().with_pack(0, Pack::compact(1))
+        ..Knobs::sound().with_segments(main_segments)
     });
     for segno in 0..main_segments {
         let mut entry = SitEntry::filled(256 * (segno % 2));
