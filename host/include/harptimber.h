@@ -57,12 +57,12 @@ enum {
     HARPTIMBER_BLOCKS_MOST = 238,
     HARPTIMBER_NODES_BYTES = 4 * HARPTIMBER_NODES_MOST,
     HARPTIMBER_BLOCKS_BYTES = 4 * HARPTIMBER_BLOCKS_MOST,
+    HARPTIMBER_SEGMENT_BLOCKS = 512,
     /*
      * The most main segments that a card has, 505, and the bytes to lend for a list of all of them. Before
      * the main area lie at least the two copies of the superblock, a block each, and two segments each of
      * checkpoint, SIT and NAT.
      */
-    HARPTIMBER_SEGMENT_BLOCKS = 512,
     HARPTIMBER_SEGMENTS_MOST = (HARPTIMBER_CARD_BLOCKS_MOST - 2) / HARPTIMBER_SEGMENT_BLOCKS - 6,
     HARPTIMBER_SEGMENTS_BYTES = 4 * HARPTIMBER_SEGMENTS_MOST
 };
@@ -244,8 +244,8 @@ struct harptimber_segments {
 };
 
 /*
- * Which main segments' valid counts are off: that isn't the number of ones in the segment's map. Count
- * and map are those of its SIT entry, from the SIT journal if that has one for the segment, else from
+ * Which main segments' valid counts are off. A count is off that isn't the number of ones in its segment's
+ * map. Count and map are those of its SIT entry, from the SIT journal if that has one for the segment, else from
  * the table copy in use.
  *
  * `list` has at least four bytes a main segment; HARPTIMBER_SEGMENTS_BYTES are always enough. With

@@ -67,8 +67,8 @@ const struct command commands[] = {
      "which segments' valid counts are off, and how full the card is",
      "Say which main segments of the card IMAGE are off: the valid count in the segment's SIT entry isn't\n"
      "the number of blocks that the entry's map marks. Such a card may seem full and have room, or the\n"
-     "other way round; fsck.f2fs -f counts anew. Then say how many of all blocks are valid; on a terminal\n"
-     "a line of bars shows how they lie.\n",
+     "other way round; fsck.f2fs -f counts anew, and writes to the card. Then say how many of all blocks\n"
+     "are valid; on a terminal a line of bars shows how they lie.\n",
      "  0  no segment is off\n"
      "  1  some are\n"
      "  2  the card can't be read\n",

@@ -1,4 +1,5 @@
 /* segments: which segments' valid counts are off, and how full the main area is. */
+#define _GNU_SOURCE /* asprintf */
 #include <inttypes.h>
 #include <stdlib.h>
 #include <unistd.h>
@@ -37,14 +38,27 @@ static bool sit_agrees(const struct report *report)
     return off == report->told.count && valid == report->told.valid_blocks;
 }
 
+/* Why a report is refused, or null. A card that opens is refused for its SIT journal alone. */
+static char *why_refused(uint32_t answer, const struct card *card, const struct opening *opening)
+{
+    uint32_t entries = sit_journal_count(opening, card);
+    char *reason = reason_of(answer, card, NULL);
+    if (reason != NULL || answer != HARPTIMBER_UNREADABLE || entries <= SIT_JOURNAL_MOST)
+        return reason;
+    int len = asprintf(&reason, "the SIT journal counts %" PRIu32 " entries, at most %d fit", entries, SIT_JOURNAL_MOST);
+    return len < 0 ? NULL : reason;
+}
+
 static void read_report(struct report *report)
 {
     const struct card *card = report->card;
     struct opening opening;
     report->told = harptimber_segment_report(card->bytes, card->len, report->list, sizeof report->list);
-    report->reason = reason_of(report->told.answer, card, NULL);
     opening_read(&opening, card);
-    report->has_sit = report->told.answer == HARPTIMBER_DATA && sit_read(&report->sit, &opening, card) && sit_agrees(report);
+    if (report->told.answer == HARPTIMBER_DATA)
+        report->has_sit = sit_read(&report->sit, &opening, card) && sit_agrees(report);
+    else
+        report->reason = why_refused(report->told.answer, card, &opening);
 }
 
 /* So much of a list is shown. */
@@ -57,6 +71,23 @@ static void words_entry(const struct sit_entry *entry)
     printf(", its map marks ");
     show_number(stdout, entry->ones);
     printf(" (SIT %s, block %" PRIu32 ")", entry->in_journal ? "journal" : "table", entry->block);
+}
+
+/* What "off" means, which way the counts are off, and what helps. Where that way isn't known, either is possible. */
+static void words_hint(const struct report *report)
+{
+    bool high = !report->has_sit, low = !report->has_sit;
+    for (uint32_t i = 0; report->has_sit && i < report->sit.segments; i++) {
+        const struct sit_entry *entry = &report->sit.entries[i];
+        high |= entry->count > entry->ones;
+        low |= entry->count < entry->ones;
+    }
+    printf("off: by its valid count F2FS knows how full a segment is, by its map which blocks are in use; they disagree\n");
+    if (high)
+        printf("a count that is too high makes the card seem fuller than it is\n");
+    if (low)
+        printf("a count that is too low can make blocks in use seem free: nothing should be written before it is put right\n");
+    printf("fsck.f2fs -f counts anew; it writes to the card, so keep a copy\n");
 }
 
 static void words_off(const struct report *report)
@@ -75,9 +106,7 @@ static void words_off(const struct report *report)
         printf("; --json has all\n");
     }
     if (count != 0)
-        printf("off: by its valid count F2FS knows how full a segment is, by its map which blocks are in use; they disagree\n"
-               "a count that is too high makes the card seem fuller than it is\n"
-               "fsck.f2fs -f counts anew; it writes to the card, so keep a copy\n");
+        words_hint(report);
 }
 
 /* The segments without a block in use. */
@@ -141,7 +170,7 @@ static void json_off(struct json *json, const struct report *report)
         json_number(json, "segment", segment);
         if (report->has_sit) {
             const struct sit_entry *entry = &report->sit.entries[segment];
-            json_number(json, "count", entry->count);
+            json_number(json, "valid_count", entry->count);
             json_number(json, "ones", entry->ones);
             json_flag(json, "journal", entry->in_journal);
             json_number(json, "block", entry->block);

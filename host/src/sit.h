@@ -23,7 +23,7 @@ struct sit {
 /* So many entries the journal has at most. */
 enum { SIT_JOURNAL_MOST = 6 };
 
-/* How many entries the journal counts; 0 if the card doesn't open, also by what was read of it in C. */
+/* How many entries the journal counts; 0 unless the library and the program both find that the card opens. */
 uint32_t sit_journal_count(const struct opening *opening, const struct card *card);
 
 /* Reads the entries. Returns false if the card doesn't open, or the journal counts too many. */

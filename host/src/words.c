@@ -7,7 +7,6 @@
 #include "opening.h"
 #include "partitions.h"
 #include "reason.h"
-#include "sit.h"
 #include "text.h"
 
 enum { GIB = 1 << 30 };
@@ -96,16 +95,12 @@ static void show_out_of_shape(FILE *out, const struct asked *asked)
     }
 }
 
-/* Why a card doesn't open, or opens but has a SIT journal that isn't read. */
+/* Why a card doesn't open. */
 static void show_unopened(FILE *out, const struct card *card, uint32_t answer)
 {
     struct opening opening;
     opening_read(&opening, card);
-    uint32_t entries = sit_journal_count(&opening, card);
-    if (opening.answer == answer)
-        fputs(opening.why, out);
-    else if (answer == HARPTIMBER_UNREADABLE && entries > SIT_JOURNAL_MOST)
-        fprintf(out, "the SIT journal counts %" PRIu32 " entries, at most %d fit", entries, SIT_JOURNAL_MOST);
+    fputs(opening.answer == answer ? opening.why : "", out);
     bool marked = opening.copies[0].marked || opening.copies[1].marked;
     if (answer == HARPTIMBER_NO_SUPERBLOCK && !show_disk(out, card) && !marked)
         fputs("; perhaps it is another file system", out);

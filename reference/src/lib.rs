@@ -1,5 +1,5 @@
-//! A plain second reading of the F2FS rules in document 01, and of the requests in document 02
-//! that have landed, to compare against.
+//! A plain second reading of the F2FS rules in document 01, and of the requests K1 and on that have
+//! landed, to compare against.
 //!
 //! One module per topic; each uses only the ones above it.
 

@@ -123,7 +123,8 @@ impl Script {
         command.arg("script").current_dir(self.scratch.path("."))
     }
 
-    /// Runs a command that has to pass at least so many tests, after pulls with each of these answers, and after reports.
+    /// Runs a command that has to pass at least so many tests, after pulls with each of these answers and
+    /// after reports.
     pub fn pass(&self, command: &mut Command, at_least: u64, answers: &[u32]) {
         let output = run(self.given_to(command));
         let output = String::from_utf8_lossy(&output);

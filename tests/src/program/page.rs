@@ -123,7 +123,10 @@ const INNER_KEYS: [(&str, &[&str]); 9] = [
             "new_reason",
         ],
     ),
-    ("off", &["segment", "count", "ones", "journal", "block"]),
+    (
+        "off",
+        &["segment", "valid_count", "ones", "journal", "block"],
+    ),
     ("way", &["place", "slot"]),
 ];
 
@@ -141,6 +144,8 @@ fn words_of(answer: u32) -> String {
     let page = man_page();
     let table = page.split(".TS\n").nth(1).expect("a table of answers");
     let table = table.split(".TE\n").next().unwrap();
+    // Words that are too long for a line stand between T{ and T}.
+    let table = table.replace("T{\n", "").replace("\nT}", "");
     let words = table.lines().find_map(|line| {
         let (number, words) = line.split_once('\t')?;
         (number == answer.to_string()).then_some(words)

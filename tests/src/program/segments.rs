@@ -11,11 +11,20 @@ use crate::program::{run, Ran};
 /// So many segments that are off are told in words.
 const MOST_SHOWN: usize = 10;
 
-/// What explains a segment that is off.
-const HINT: &str = "off: by its valid count F2FS knows how full a segment is, by its map which blocks are in use; they disagree
-a count that is too high makes the card seem fuller than it is
-fsck.f2fs -f counts anew; it writes to the card, so keep a copy
-";
+/// What explains segments that are off: what it means, which way they are off, and what helps.
+pub fn hint(high: bool, low: bool) -> String {
+    let lines = [
+        (true, "off: by its valid count F2FS knows how full a segment is, by its map which blocks are in use; they disagree\n"),
+        (high, "a count that is too high makes the card seem fuller than it is\n"),
+        (low, "a count that is too low can make blocks in use seem free: nothing should be written before it is put right\n"),
+        (true, "fsck.f2fs -f counts anew; it writes to the card, so keep a copy\n"),
+    ];
+    lines
+        .iter()
+        .filter(|(said, _)| *said)
+        .map(|(_, line)| *line)
+        .collect()
+}
 
 /// A main segment by its SIT entry: its count, the ones in its map, and where the entry is.
 #[derive(Clone, Copy, Debug, PartialEq, Eq)]
@@ -99,7 +108,11 @@ impl Segments {
             let more = counted(off.len() - MOST_SHOWN, "more segment");
             words += &format!("  {more}; --json has all\n");
         }
-        words + if off.is_empty() { "" } else { HINT } + &self.fill()
+        if !off.is_empty() {
+            let any = |way: fn(&Segment) -> bool| off.iter().any(|(_, segment)| way(segment));
+            words += &hint(any(|s| s.count > s.ones), any(|s| s.count < s.ones));
+        }
+        words + &self.fill()
     }
 
     /// How many blocks are valid.
@@ -129,7 +142,7 @@ impl Segments {
         let told = json["off"].list().iter().map(|json| {
             let number = |key| json[key].number() as u32;
             let segment = Segment {
-                count: number("count"),
+                count: number("valid_count"),
                 ones: number("ones"),
                 journal: json["journal"] == Json::Bool(true),
                 block: number("block"),

@@ -16,7 +16,7 @@ use harptimber_tests::cards::random_segments::{in_use, random_segments, RandomSe
 use harptimber_tests::cards::segments::{SegmentCard, Sit};
 use harptimber_tests::program::json::Json;
 use harptimber_tests::program::page::{expect_head, meaning, status_of};
-use harptimber_tests::program::segments::{Segment, Segments};
+use harptimber_tests::program::segments::{hint, Segment, Segments};
 use harptimber_tests::program::special_build::SpecialBuild;
 use harptimber_tests::program::{run, run_on_terminal, run_on_terminal_after, Ran, Words};
 use harptimber_tests::sizes::{CARD_BLOCKS_MOST, SEGMENTS_MOST};
@@ -114,6 +114,7 @@ fn words() {
   segment 19 counts 1 valid block, its map marks 512 (SIT table, block 1026)
 off: by its valid count F2FS knows how full a segment is, by its map which blocks are in use; they disagree
 a count that is too high makes the card seem fuller than it is
+a count that is too low can make blocks in use seem free: nothing should be written before it is put right
 fsck.f2fs -f counts anew; it writes to the card, so keep a copy
 {fill}"
     );
@@ -250,7 +251,16 @@ fn published() {
     }
 }
 
-/// One that the table has; the last one is empty. What the program advises helps.
+/// Which way segments are off is told, and what the program advises helps.
+fn expect_help(path: &PathBuf, high: bool, low: bool) {
+    let advised = run(&[&"segments", path]).expect(1);
+    assert!(advised.words().contains(&hint(high, low)), "of {advised:?}");
+    let mut fsck = Command::new("fsck.f2fs");
+    published::ran(fsck.arg("-f").arg(path));
+    run(&[&"segments", path]).expect(0);
+}
+
+/// One that the table has; the last one is empty.
 #[test]
 fn published_and_damaged() {
     for mut image in published_cards() {
@@ -265,14 +275,25 @@ fn published_and_damaged() {
         let [off] = json["off"].list() else {
             panic!("{json:?}");
         };
-        let numbers = ["segment", "count", "ones", "block"].map(|key| off[key].number() as u32);
+        let keys = ["segment", "valid_count", "ones", "block"];
+        let numbers = keys.map(|key| off[key].number() as u32);
         assert_eq!(numbers, [last, 13, 0, image.sit_place(last, 0).0]);
         assert_eq!(off["journal"], Json::Bool(false));
-        let advised = run(&[&"segments", &path]).expect(1);
-        assert!(advised.words().contains("\nfsck.f2fs -f counts anew"));
-        let mut fsck = Command::new("fsck.f2fs");
-        published::ran(fsck.args(["-f", "-y"]).arg(&path));
-        run(&[&"segments", &path]).expect(0);
+        expect_help(&path, true, false);
+    }
+}
+
+/// One with files in it that counts nothing, and then one more that counts too much.
+#[test]
+fn published_and_too_low() {
+    let [_, mut image] = published_cards();
+    let last = Sit::of(&image).main_segments - 1;
+    let full = (0..last).find(|&segno| image.sit_entry(segno, 0).ones() > 100);
+    let full = full.expect("a segment with files in it");
+    for (segno, count, high) in [(full, 0, false), (last, 1, true)] {
+        let sound = image.sit_entry(segno, 0);
+        image.set_sit_entry(segno, 0, &SitEntry { count, ..sound });
+        expect_help(&CardFile::of(&image).path(), high, true);
     }
 }
 
@@ -389,7 +410,10 @@ fn expect_agreement(image: &Image, ran: &Ran) -> u32 {
     let there = (answer == 0).then_some(u64::from(there));
     assert_eq!(segments, there, "{json:?} on {image:?}");
     for off in off {
-        assert!(off["count"].number() != off["ones"].number(), "{json:?}");
+        assert!(
+            off["valid_count"].number() != off["ones"].number(),
+            "{json:?}"
+        );
     }
     answer
 }
@@ -516,7 +540,7 @@ fn expect_bare_json(json: &Json, told: &[u32], valid: &str, agrees: bool) {
     let off = json["off"].list();
     let numbers = off.iter().map(|off| off["segment"].number() as u32);
     assert_eq!(numbers.collect::<Vec<_>>(), told);
-    for key in ["count", "ones", "journal", "block"] {
+    for key in ["valid_count", "ones", "journal", "block"] {
         let there = off.iter().all(|off| off.get(key).is_some() == agrees);
         assert!(there, "'{key}' in {json:?}");
     }
@@ -541,6 +565,9 @@ fn expect_bare_words(ran: &Ran, told: &[u32], valid: &str, agrees: bool) {
     assert_eq!(words.contains('%'), agrees, "of {ran:?}");
     let more = words.contains("  2 more segments; --json has all\n");
     assert_eq!(more, told.len() == 12, "of {ran:?}");
+    // Which way they are off isn't known then.
+    let both = words.contains(&hint(true, true));
+    assert_eq!(both, !agrees && !told.is_empty(), "of {ran:?}");
 }
 
 /// Also where the program sees no card at all.
