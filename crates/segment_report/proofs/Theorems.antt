@@ -1,15 +1,14 @@
 -- What is so of every segment report, whatever the image and the lent list. Each is stated over `segmentReport`, the definition that
 -- the contract cites.
-use Prim.Native.Nat.{ℕ, zero, suc, _-_, _/_, _*_, _<_, _≤_}
+use Prim.Native.Nat.{ℕ, _-_, _/_, _*_, _<_, _≤_}
 use native.Mathlib.Omega.{arith}
-use native.Mathlib.Numerals.{add-one}
 use mathlib.Core.Path.{_≡_, refl}
 use mathlib.Core.Bool.{true, false}
 use mathlib.Core.Logic.{_⊎_, inl, inr, ⊎-elim, _↔_}
-use mathlib.Core.List.{List, [], _∷_, _++_, List·Memᴰ, List·Memᴰ·head, List·Memᴰ·not-nil, Memᴰ·append-left, Memᴰ·append-right}
+use mathlib.Core.List.{List, List·Memᴰ}
 use lib.ListN.{length, drop}
-use lib.Dec.{eqb, leb}
-use borrow.Author.Tests.{leb-true, leb-false, eqb-true, eqb-false, not-true, not-false}
+use lib.Dec.{leb}
+use borrow.Author.Tests.{leb-true, leb-false}
 use Rattle.field.specs.Card.{cardOf}
 use Rattle.field.proofs.Choosing.{either}
 use Rattle.superblock.specs.Shape.{mostBlocks}
@@ -19,105 +18,17 @@ use Rattle.checkpoint.specs.declared.Opening.{Opening}
 use Rattle.checkpoint.specs.declared.Opening.the-variants.{Opened, Refused}
 use Rattle.checkpoint.proofs.Inside.{image-shaped, image-volume}
 use Rattle.list.specs.Lists.{Rising, AllOf, listing, numbers, entries}
-use Rattle.list.proofs.Rises.{all-mem, all-behind, rising-behind}
 use Rattle.list.proofs.Written.{numbers-over, drop-over}
 use Rattle.sit.specs.Entry.{validCount, mapOnes}
 use Rattle.sit.specs.Table.{tableBlock, tableAddress, sitEntry}
 use Rattle.sit.specs.Opening.{openedWithSit}
 use Rattle.sit.proofs.Openings.{opened-image, opened-sit, refusals-sit}
 use Rattle.sit.proofs.Inside.{block-in-table, address-inside}
-use Rattle.segment_report.specs.Off.{isOff, segmentsOff, onesInAll}
+use Rattle.segment_report.specs.Off.{segmentsOff, onesInAll}
 use Rattle.segment_report.specs.Report.{Reported, refusedReport, offOn, reportOf, segmentReport}
-use Rattle.segment_report.proofs.Tallying.{listed-next, passed-next, ones-in-all-most}
+use Rattle.segment_report.proofs.Tallying.{ones-in-all-most}
 use Rattle.segment_report.proofs.Ends.{refused-by-opening, too-short, made}
-
--- "whose count isn't the number of ones in its map"
-abbrev pub Off : List ℕ → Type 0
-Off entry = validCount entry ≡ mapOnes entry → ⊥
-
-is-off : (entry : List ℕ) → isOff entry ≡ true → Off entry
-unfolding isOff
-is-off entry h = eqb-false _ _ (not-true _ h)
-
-not-off : (entry : List ℕ) → isOff entry ≡ false → validCount entry ≡ mapOnes entry
-unfolding isOff
-not-off entry h = eqb-true _ _ (not-false _ h)
-
--- ---- the segments that are off, of any entries
-module _ (entry : ℕ → List ℕ) where
-  -- one segment more is listed or not
-  data Next (n : ℕ) : Type 0 where
-    listed : Off (entry n) → segmentsOff entry (suc n) ≡ segmentsOff entry n ++ (n ∷ []) → Next n
-    passed : validCount (entry n) ≡ mapOnes (entry n) → segmentsOff entry (suc n) ≡ segmentsOff entry n → Next n
-
-  next : (n : ℕ) → Next n
-  next n =
-      ⊎-elim (λ p. listed (is-off (entry n) p) (rw (add-one n) at (listed-next entry n p)))
-      (λ p. passed (not-off (entry n) p) (rw (add-one n) at (passed-next entry n p)))
-      (either (isOff (entry n)))
-
-  -- what holds of each segment that is off holds of each that is listed
-  all-listed : (P : ℕ → Type 0) (n : ℕ) → ((s : ℕ) → s < n → Off (entry s) → P s) → AllOf P (segmentsOff entry n)
-  unfolding segmentsOff
-  all-listed P zero f = tt
-  all-listed P (suc n) f = go (next n) (all-listed P n (λ s h. f s (omega arith)))
-    where
-      go : Next n → AllOf P (segmentsOff entry n) → AllOf P (segmentsOff entry (suc n))
-      go (listed o e) h = rw e (all-behind P (segmentsOff entry n) n h (f n (omega arith) o))
-      go (passed o e) h = rw e h
-
-  pub off-below : (n : ℕ) → AllOf (λ s. s < n) (segmentsOff entry n)
-  off-below n = all-listed (λ s. s < n) n (λ s h o. h)
-
-  pub off-rising : (n : ℕ) → Rising (segmentsOff entry n)
-  unfolding segmentsOff
-  off-rising zero = tt
-  off-rising (suc n) = go (next n) (off-rising n)
-    where
-      go : Next n → Rising (segmentsOff entry n) → Rising (segmentsOff entry (suc n))
-      go (listed o e) h = rw e (rising-behind (segmentsOff entry n) n h (off-below n))
-      go (passed o e) h = rw e h
-
-  -- a segment that is off is listed
-  listed-off : (n s : ℕ) → s < n → Off (entry s) → List·Memᴰ s (segmentsOff entry n)
-  listed-off zero s h o = absurd (omega arith)
-  listed-off (suc n) s h o = go (next n) (either (eqb s n)) (λ k. listed-off n s k o)
-    where
-      go : Next n → (eqb s n ≡ true) ⊎ (eqb s n ≡ false) → (s < n → List·Memᴰ s (segmentsOff entry n)) → List·Memᴰ s (segmentsOff entry (suc n))
-      go (listed p e) (inl t) ih = rw e (Memᴰ·append-right (segmentsOff entry n) (List·Memᴰ·head (eqb-true s n t)))
-      go (listed p e) (inr t) ih =
-          let other : s ≡ n → ⊥ = eqb-false s n t in
-          rw e (Memᴰ·append-left (n ∷ []) (ih (omega arith)))
-      go (passed p e) (inl t) ih = absurd (o (rw (eqb-true s n t) p))
-      go (passed p e) (inr t) ih =
-          let other : s ≡ n → ⊥ = eqb-false s n t in
-          rw e (ih (omega arith))
-
-  pub off-exactly : (n s : ℕ) → List·Memᴰ s (segmentsOff entry n) ↔ ((s < n) × Off (entry s))
-  off-exactly n s = (
-    λ m. all-mem (λ x. (x < n) × Off (entry x)) (segmentsOff entry n) (all-listed (λ x. (x < n) × Off (entry x)) n (λ x h o. (h, o))) m,
-    λ h. listed-off n s (h .0) (h .1),
-  )
-
-  -- none is listed exactly if none is off
-  none-listed : (n : ℕ) → (length (segmentsOff entry n) ≡ 0) ↔ ((s : ℕ) → s < n → validCount (entry s) ≡ mapOnes (entry s))
-  none-listed n = (λ e s h. agrees (segmentsOff entry n) refl e s h, λ f. none (segmentsOff entry n) refl f)
-    where
-      agrees : (l : List ℕ) → segmentsOff entry n ≡ l → length l ≡ 0 → (s : ℕ) → s < n → validCount (entry s) ≡ mapOnes (entry s)
-      agrees [] e z s h =
-          ⊎-elim (λ t. eqb-true _ _ t)
-          (λ t. absurd (List·Memᴰ·not-nil (rw e at (off-exactly n s .1 (h, eqb-false _ _ t)))))
-          (either (eqb (validCount (entry s)) (mapOnes (entry s))))
-      agrees (x ∷ xs) e z s h = absurd (omega arith)
-
-      none : (l : List ℕ) → segmentsOff entry n ≡ l → ((s : ℕ) → s < n → validCount (entry s) ≡ mapOnes (entry s)) → length l ≡ 0
-      none [] e f = refl
-      none (x ∷ xs) e f =
-          let m : List·Memᴰ x (segmentsOff entry n) = rw e (List·Memᴰ·head refl) in
-          let o = off-exactly n x .0 m in
-          absurd (o .1 (f x (o .0)))
-
--- ---- every report
+use Rattle.segment_report.proofs.Listing.{Off, off-below, off-rising, off-exactly, none-listed}
 
 -- the list as the report left it, up to its count
 abbrev pub listLeft : Reported → List ℕ
