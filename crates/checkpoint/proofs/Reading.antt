@@ -1,13 +1,13 @@
--- Where the NAT map and the journal of a readable pack are: inside its first block, and inside the pack.
-use mathlib.Core.Path.{_≡_, refl}
+-- Where the maps and the journals of a readable pack are: inside its first block, and inside the pack.
+use mathlib.Core.Path.{_≡_}
 use mathlib.Core.Bool.{true, false, _||_, and-false}
 use mathlib.Core.Logic.{_⊎_, inl, inr, ⊎-elim}
-use Prim.Native.Nat.{ℕ, _+_, _*_, _-_, _≤_, _<_}
+use Prim.Native.Nat.{_+_, _*_, _-_, _≤_}
 use native.Mathlib.Omega.{arith}
+use Rattle.field.specs.Choice.{choose}
 use Rattle.field.proofs.Choosing.{either, needed, needed-eq, needed-le}
 use Rattle.superblock.specs.declared.Areas.{Areas}
 use Rattle.checkpoint.specs.declared.Checkpoint.{Checkpoint}
-use Rattle.field.specs.Choice.{choose}
 use Rattle.checkpoint.specs.Journal.{unmount, fastboot, compact, journalIn, journalPlaced, journalAt}
 use Rattle.checkpoint.specs.Volume.{natMapAt, mapsReadable}
 

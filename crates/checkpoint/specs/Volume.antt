@@ -9,6 +9,7 @@ use lib.Dec.{eqb, leb}
 use Rattle.field.specs.Number.{le16}
 use Rattle.field.specs.Card.{Card, cardOf}
 use Rattle.field.specs.Choice.{choose}
+use Rattle.journal.specs.Journal.{countWithin}
 use Rattle.superblock.specs.Shape.{inShape}
 use Rattle.superblock.specs.Areas.{found, AreasIn}
 use Rattle.superblock.specs.declared.Areas.{Areas}
@@ -55,7 +56,7 @@ journalOf card v = drop (v .«journal_at») (card .block (v .«journal_block»))
 
 -- "A journal is a 16-bit count, at most 38 (else 8)"
 unfoldable pub journalReadable : List ℕ → Bool
-journalReadable journal = leb (le16 journal 0) 38
+journalReadable journal = countWithin 38 journal
 
 -- what makes a chosen pack readable; if it isn't, the answer is 8
 unfoldable pub openPack : Card → Areas → ℕ → Opening

@@ -265,7 +265,7 @@ pub fn journal_readable(journal: &[u8]) -> bool
     requires { ⌜ 2 ≤ length (now journal) ⌝ }
     ensures { λ r. ⌜ r ≡ journalReadable (now (journal .entry)) ⌝ }
 {
-    field::get16(journal, 0) <= 38
+    journal::count_within(journal, 38)
 }
 
 fn open_pack(image: &[u8], areas: superblock::Areas, start: u32) -> Opening

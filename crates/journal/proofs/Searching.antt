@@ -1,5 +1,5 @@
 -- The search of a journal step by step, so that no caller opens `searchFrom`, and where the entry that it finds lies.
-use mathlib.Core.Path.{_≡_, refl, _∙_, sym, ap}
+use mathlib.Core.Path.{_≡_, _∙_, sym, ap}
 use mathlib.Core.List.{List}
 use mathlib.Core.Logic.{⊎-elim}
 use mathlib.Core.Bool.{true, false}
@@ -34,32 +34,33 @@ module _ {width : ℕ} {journal : List ℕ} {number : ℕ} where
     search-over h = let e : left ≡ 0 = omega arith in sym (s .rest) ∙ rw e
 
     module _ (h : 0 < left) where
-      one-more : (k : ℕ) → k ≡ left - 1 → left ≡ suc k
-      one-more k e = omega arith
+      one-more : left ≡ suc (left - 1)
+      one-more = omega arith
 
       -- the entry that is looked at lies inside
       pub entry-inside : at + width + width * (left - 1) ≤ length journal
       entry-inside =
           let i : at + width * left ≤ length journal = s .inside in
-          let e : width * left ≡ width * (left - 1) + width = ap (λ (x : ℕ). width * x) (one-more (left - 1) refl) ∙ mul-suc width (left - 1) in
+          let e : width * left ≡ width * (left - 1) + width = ap (λ (x : ℕ). width * x) one-more ∙ mul-suc width (left - 1) in
           omega arith
 
       pub search-found : le32 journal at ≡ number → journalFind width journal number ≡ At at
       unfolding searchFrom
-      search-found e = sym (s .rest) ∙ rw (one-more (left - 1) refl, eq-eqb _ _ (rw (s .starts) at e), ← s .starts)
+      search-found e = sym (s .rest) ∙ rw (one-more, eq-eqb _ _ (rw (s .starts) at e), ← s .starts)
 
       pub search-passed : (le32 journal at ≡ number → ⊥) → Searching width journal number (left - 1) (at + width)
       unfolding searchFrom
       search-passed n =
-          let m : le32 journal (entryStart width (s .entry)) ≡ number → ⊥ = rw (s .starts) at n in
-          let g : searchFrom width journal number (suc (left - 1)) (s .entry) ≡ searchFrom width journal number (left - 1) (s .entry + 1) =
-          rw (ne-eqb _ _ m) in
-          let f : width * (s .entry + 1) ≡ width * s .entry + width = ap (λ (x : ℕ). width * x) (add-one (s .entry)) ∙ mul-suc width (s .entry) in
+          let i = s .entry in
+          let other : le32 journal (entryStart width i) ≡ number → ⊥ = rw (s .starts) at n in
+          let next : searchFrom width journal number (suc (left - 1)) i ≡ searchFrom width journal number (left - 1) (i + 1) = rw (ne-eqb _ _ other) in
+          let starts : at ≡ 2 + width * i = s .starts in
+          let further : width * (i + 1) ≡ width * i + width = ap (λ (x : ℕ). width * x) (add-one i) ∙ mul-suc width i in
           record {
-            entry = s .entry + 1;
-            starts = (let g : at ≡ 2 + width * s .entry = s .starts in omega arith);
+            entry = i + 1;
+            starts = omega arith;
             inside = entry-inside;
-            rest = sym g ∙ rw (one-more (left - 1) refl) at (s .rest);
+            rest = sym next ∙ rw one-more at (s .rest);
           }
 
 -- an entry that is found lies among those that are counted

@@ -1,20 +1,20 @@
--- The segments that are off, of any entries: the list rises, and holds exactly those.
-use Prim.Native.Nat.{ℕ, zero, suc, _<_}
+-- The segments that are off and the ones in all maps, of any entries: the list rises, and holds exactly those that are off.
+use Prim.Native.Nat.{ℕ, zero, suc, _+_, _*_, _<_, _≤_}
 use native.Mathlib.Omega.{arith}
 use native.Mathlib.Numerals.{add-one}
 use mathlib.Core.Path.{_≡_, refl}
 use mathlib.Core.Bool.{true, false}
 use mathlib.Core.Logic.{_⊎_, inl, inr, ⊎-elim, _↔_}
-use mathlib.Core.List.{List, [], _∷_, _++_, List·Memᴰ, List·Memᴰ·head, List·Memᴰ·not-nil, Memᴰ·append-left, Memᴰ·append-right}
-use lib.ListN.{length}
+use mathlib.Core.List.{List, [], _∷_, _++_, append-nil, List·Memᴰ, List·Memᴰ·head, List·Memᴰ·not-nil, Memᴰ·append-left, Memᴰ·append-right}
+use lib.ListN.{length, length-append}
 use lib.Dec.{eqb}
 use borrow.Author.Tests.{eqb-true, eqb-false, not-true, not-false}
 use Rattle.field.proofs.Choosing.{either}
-use Rattle.list.specs.Lists.{Rising, AllOf, entries}
+use Rattle.list.specs.Lists.{Rising, AllOf}
 use Rattle.list.proofs.Rises.{all-mem, all-behind, rising-behind}
-use Rattle.sit.specs.Entry.{validCount, mapOnes}
-use Rattle.segment_report.specs.Off.{isOff, segmentsOff}
-use Rattle.segment_report.proofs.Tallying.{listed-next, passed-next}
+use Rattle.sit.specs.Entry.{validCount, validMap, mapOnes}
+use Rattle.sit.proofs.Counting.{ones-most}
+use Rattle.segment_report.specs.Off.{isOff, segmentsOff, onesInAll}
 
 -- "whose count isn't the number of ones in its map"
 abbrev pub Off : List ℕ → Type 0
@@ -30,16 +30,45 @@ not-off entry h = eqb-true _ _ (not-false _ h)
 
 -- of the first n segments, by any entries
 module _ (entry : ℕ → List ℕ) where
-  -- one segment more is listed or not
+  -- one segment more: it is listed or not, and its ones are added
+  module _ (n : ℕ) where
+    pub listed-next : isOff (entry n) ≡ true → segmentsOff entry (n + 1) ≡ segmentsOff entry n ++ (n ∷ [])
+    unfolding segmentsOff
+    listed-next p = rw (add-one n, p)
+
+    pub passed-next : isOff (entry n) ≡ false → segmentsOff entry (n + 1) ≡ segmentsOff entry n
+    unfolding segmentsOff
+    passed-next p = rw (add-one n, p) (append-nil (segmentsOff entry n))
+
+    pub summed-next : onesInAll entry (n + 1) ≡ onesInAll entry n + mapOnes (entry n)
+    unfolding onesInAll
+    summed-next = rw (add-one n)
+
+  -- the same for a proof by induction
   data Next (n : ℕ) : Type 0 where
     listed : Off (entry n) → segmentsOff entry (suc n) ≡ segmentsOff entry n ++ (n ∷ []) → Next n
     passed : validCount (entry n) ≡ mapOnes (entry n) → segmentsOff entry (suc n) ≡ segmentsOff entry n → Next n
 
   next : (n : ℕ) → Next n
   next n =
-      ⊎-elim (λ p. listed (is-off (entry n) p) (rw (add-one n) at (listed-next entry n p)))
-      (λ p. passed (not-off (entry n) p) (rw (add-one n) at (passed-next entry n p)))
+      ⊎-elim (λ p. listed (is-off (entry n) p) (rw (add-one n) at (listed-next n p)))
+      (λ p. passed (not-off (entry n) p) (rw (add-one n) at (passed-next n p)))
       (either (isOff (entry n)))
+
+  -- no more are off than there are, and none has more ones than blocks
+  pub off-most : (n : ℕ) → length (segmentsOff entry n) ≤ n
+  unfolding segmentsOff
+  off-most zero = omega arith
+  off-most (suc n) = go (next n) (off-most n)
+    where
+      go : Next n → length (segmentsOff entry n) ≤ n → length (segmentsOff entry (suc n)) ≤ suc n
+      go (listed o e) h = rw (e, length-append) (omega arith)
+      go (passed o e) h = rw e (omega arith)
+
+  pub ones-in-all-most : (n : ℕ) → onesInAll entry n ≤ 512 * n
+  unfolding onesInAll
+  ones-in-all-most zero = omega arith
+  ones-in-all-most (suc n) = omega (arith, ones-in-all-most n, ones-most (validMap (entry n)) 512)
 
   -- what holds of each segment that is off holds of each that is listed
   all-listed : (P : ℕ → Type 0) (n : ℕ) → ((s : ℕ) → s < n → Off (entry s) → P s) → AllOf P (segmentsOff entry n)

@@ -1,13 +1,12 @@
 -- The report as the code makes it, segment by segment, and what stands when all are through.
 use mathlib.Core.Path.{_≡_, refl, sym, ap, _∙_}
-use mathlib.Core.List.{List, [], _∷_, _++_, append-nil}
+use mathlib.Core.List.{List}
 use mathlib.Core.Bool.{true, false}
 use mathlib.Core.Logic.{⊎-elim}
-use Prim.Native.Nat.{ℕ, zero, suc, _+_, _*_, _≤_, _<_}
+use Prim.Native.Nat.{ℕ, _+_, _*_, _≤_, _<_}
 use native.Mathlib.Omega.{arith}
-use native.Mathlib.Numerals.{add-one}
 use borrow.Author.Tests.{eq-eqb, ne-eqb}
-use lib.ListN.{length, getD, length-append}
+use lib.ListN.{length, getD}
 use Rattle.field.specs.Number.{put32At}
 use Rattle.field.specs.Card.{Card}
 use Rattle.field.proofs.Choosing.{either}
@@ -15,12 +14,12 @@ use Rattle.checkpoint.specs.declared.Volume.{Volume}
 use Rattle.list.specs.Lists.{numbers, Grown}
 use Rattle.list.proofs.Entries.{length-numbers, put-front, put-grown, grown-on, grown-same}
 use Rattle.list.proofs.Written.{over-written}
-use Rattle.sit.specs.Entry.{validCount, validMap, mapOnes}
+use Rattle.sit.specs.Entry.{validCount, mapOnes}
 use Rattle.sit.specs.Table.{sitEntry}
-use Rattle.sit.proofs.Counting.{ones-most}
 use Rattle.segment_report.specs.declared.Segments.{Segments}
 use Rattle.segment_report.specs.Off.{isOff, segmentsOff, onesInAll}
 use Rattle.segment_report.specs.Report.{Reported, reported, withSegment, offOn, reportOf}
+use Rattle.segment_report.proofs.Listing.{listed-next, passed-next, summed-next, off-most, ones-in-all-most}
 
 -- the two ways of a segment, with the numbers that the code reads
 module _ (entry : List ℕ) (segment : ℕ) (t : Segments) (list : List ℕ) {ones : ℕ} (o : ones ≡ mapOnes entry) where
@@ -44,41 +43,12 @@ pub record Tallied (entry : ℕ → List ℕ) (d : List ℕ) (n : ℕ) (r : Repo
   pub blocks : r .numbers .«valid_blocks» ≡ onesInAll entry n
 
 module _ (entry : ℕ → List ℕ) where
-  -- one segment more
-  module _ (n : ℕ) where
-    pub listed-next : isOff (entry n) ≡ true → segmentsOff entry (n + 1) ≡ segmentsOff entry n ++ (n ∷ [])
-    unfolding segmentsOff
-    listed-next p = rw (add-one n, p)
-
-    pub passed-next : isOff (entry n) ≡ false → segmentsOff entry (n + 1) ≡ segmentsOff entry n
-    unfolding segmentsOff
-    passed-next p = rw (add-one n, p) (append-nil (segmentsOff entry n))
-
-    pub summed-next : onesInAll entry (n + 1) ≡ onesInAll entry n + mapOnes (entry n)
-    unfolding onesInAll
-    summed-next = rw (add-one n)
-
-  -- no more are off than there are, and none has more ones than blocks
-  pub off-most : (n : ℕ) → length (segmentsOff entry n) ≤ n
-  unfolding segmentsOff
-  off-most zero = omega arith
-  off-most (suc n) =
-      let ih = off-most n in
-      ⊎-elim (λ (t : isOff (entry n) ≡ true). rw (t, length-append) (omega arith))
-      (λ (t : isOff (entry n) ≡ false). rw (t, length-append) (omega arith))
-      (either (isOff (entry n)))
-
-  pub ones-in-all-most : (n : ℕ) → onesInAll entry n ≤ 512 * n
-  unfolding onesInAll
-  ones-in-all-most zero = omega arith
-  ones-in-all-most (suc n) = omega (arith, ones-in-all-most n, ones-most (validMap (entry n)) 512)
-
   module _ {d : List ℕ} {n : ℕ} {r : Reported} (t : Tallied entry d n r) where
     pub count-is : r .numbers .count ≡ length (segmentsOff entry n)
     count-is = sym (length-numbers (r .list) 0 (r .numbers .count)) ∙ ap length (t .listed)
 
     pub tallied-most : (r .numbers .count ≤ n) × (r .numbers .«valid_blocks» ≤ 512 * n)
-    tallied-most = (omega (arith, count-is, off-most n), omega (arith, t .blocks, ones-in-all-most n))
+    tallied-most = (omega (arith, count-is, off-most entry n), omega (arith, t .blocks, ones-in-all-most entry n))
 
     pub tallied-next : 4 * (n + 1) ≤ length d → Tallied entry d (n + 1) (withSegment (entry n) n r)
     unfolding withSegment
@@ -86,17 +56,17 @@ module _ (entry : ℕ → List ℕ) where
         let most = tallied-most .0 in
         let size = t .grown .size in
         let count = r .numbers .count in
-        let summed : r .numbers .«valid_blocks» + mapOnes (entry n) ≡ onesInAll entry (n + 1) = rw (summed-next n, t .blocks) in
+        let summed : r .numbers .«valid_blocks» + mapOnes (entry n) ≡ onesInAll entry (n + 1) = rw (summed-next entry n, t .blocks) in
         ⊎-elim (λ (p : isOff (entry n) ≡ true).
         rw p
         (record {
           answer = t .answer;
-          listed = put-front (r .list) count n (omega arith) ∙ rw (t .listed) (sym (listed-next n p));
+          listed = put-front (r .list) count n (omega arith) ∙ rw (t .listed) (sym (listed-next entry n p));
           grown = grown-on (t .grown) (put-grown (r .list) count n);
           blocks = summed;
         }))
         (λ (p : isOff (entry n) ≡ false).
-        rw p (record { answer = t .answer; listed = t .listed ∙ sym (passed-next n p); grown = t .grown; blocks = summed }))
+        rw p (record { answer = t .answer; listed = t .listed ∙ sym (passed-next entry n p); grown = t .grown; blocks = summed }))
         (either (isOff (entry n)))
 
 pub tallied-start : (entry : ℕ → List ℕ) (d : List ℕ) → Tallied entry d 0 (reported (record { answer = 0; count = 0; «valid_blocks» = 0 }) d)

@@ -26,9 +26,8 @@ use Rattle.sit.proofs.Openings.{opened-image, opened-sit, refusals-sit}
 use Rattle.sit.proofs.Inside.{block-in-table, address-inside}
 use Rattle.segment_report.specs.Off.{segmentsOff, onesInAll}
 use Rattle.segment_report.specs.Report.{Reported, refusedReport, offOn, reportOf, segmentReport}
-use Rattle.segment_report.proofs.Tallying.{ones-in-all-most}
 use Rattle.segment_report.proofs.Ends.{refused-by-opening, too-short, made}
-use Rattle.segment_report.proofs.Listing.{Off, off-below, off-rising, off-exactly, none-listed}
+use Rattle.segment_report.proofs.Listing.{Off, ones-in-all-most, off-below, off-rising, off-exactly, none-listed}
 
 -- the list as the report left it, up to its count
 abbrev pub listLeft : Reported → List ℕ

@@ -70,7 +70,7 @@ module _ (image : List ℕ) (v : Volume) where
 
     -- an entry that is found lies inside
     pub journaled-inside : (segment at : ℕ) → journalFind 78 journal segment ≡ At at → at + 78 ≤ length journal
-    journaled-inside segment at e = let n = h .journalCount in omega (arith, found-inside 78 journal segment at e, journal-room (h .volume .places))
+    journaled-inside segment at e = omega (arith, found-inside 78 journal segment at e, journal-holds)
 
     -- every entry has 74 bytes
     module _ (segment : ℕ) (main : segment < v .areas .«main_segments») where

@@ -2,7 +2,6 @@
 use mathlib.Core.List.{List}
 use mathlib.Core.Bool.{Bool}
 use Prim.Native.Nat.{ℕ, _*_, _≤_}
-use lib.Dec.{leb}
 use Rattle.field.specs.Number.{le16}
 use Rattle.field.specs.Card.{Card, cardOf}
 use Rattle.field.specs.Choice.{choose}
@@ -10,11 +9,12 @@ use Rattle.checkpoint.specs.declared.Volume.{Volume}
 use Rattle.checkpoint.specs.declared.Opening.{Opening}
 use Rattle.checkpoint.specs.declared.Opening.the-variants.{Opened, Refused}
 use Rattle.checkpoint.specs.Volume.{VolumeIn, openedImage}
+use Rattle.journal.specs.Journal.{countWithin}
 use Rattle.sit.specs.Table.{sitJournalOf}
 
 -- "at most 6; more is 8"
 unfoldable pub sitJournalReadable : List ℕ → Bool
-sitJournalReadable journal = leb (le16 journal 0) 6
+sitJournalReadable journal = countWithin 6 journal
 
 -- "That journal's 8 is only for calls that read SIT entries."
 abbrev pub withSit : Card → Opening → Opening

@@ -8,7 +8,7 @@ ghost use Rattle.field.specs.Card.{cardOf};
 ghost use Rattle.checkpoint.specs.Volume.{PlacesIn};
 ghost use Rattle.sit.specs.Entry.{validCount, onesBelow};
 ghost use Rattle.sit.specs.Table.{sitJournalOf, copyAddress, sitMapIn, inTable, sitEntry};
-ghost use Rattle.sit.specs.Opening.{sitJournalReadable, openedWithSit, SitIn};
+ghost use Rattle.sit.specs.Opening.{openedWithSit, SitIn};
 
 // How many blocks of its segment an entry counts as valid. The word's upper bits are the segment's type.
 pub fn valid_count(entry: &[u8]) -> u32
@@ -43,13 +43,6 @@ pub fn journal_of(image: &[u8], v: checkpoint::Volume) -> &[u8]
     }
     let cold = field::block_at(image, v.journal_block + 2);
     &cold[3584..]
-}
-
-pub fn journal_readable(journal: &[u8]) -> bool
-    requires { ⌜ 2 ≤ length (now journal) ⌝ }
-    ensures { λ r. ⌜ r ≡ sitJournalReadable (now (journal .entry)) ⌝ }
-{
-    field::get16(journal, 0) <= 6
 }
 
 // The second copies follow all of the first.
@@ -107,7 +100,7 @@ pub fn open(image: &[u8]) -> checkpoint::Opening
     let opening = checkpoint::open(image);
     match opening {
         checkpoint::Opening::Opened(v) => {
-            if journal_readable(journal_of(image, v)) {
+            if journal::count_within(journal_of(image, v), 6) {
                 checkpoint::Opening::Opened(v)
             } else {
                 checkpoint::Opening::Refused(answer::UNREADABLE)

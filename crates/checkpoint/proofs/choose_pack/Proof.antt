@@ -1,10 +1,22 @@
-use mathlib.Core.Path.{refl}
+use denote.Ref.{now}
+use mathlib.Core.Path.{_≡_, refl}
 use native.Mathlib.Omega.{arith}
+use Rattle.field.specs.Card.{cardOf}
 use Rattle.field.proofs.Blocks.{length-of-block}
+use Rattle.checkpoint.specs.Checkpoint.{headerOf}
+use Rattle.checkpoint.specs.Pack.{newer, secondPack}
 use Rattle.checkpoint.proofs.Choosing.{chosen-in-order}
 use borrow.Author.Needs.{needs}
 use Rattle.checkpoint.proofs.choose_pack.Statement.{statement}
 use Rattle.checkpoint.proofs.choose_pack.Tie as tie
+
+-- the test is of the two packs' headers on the card
+newer-by : (k : tie.After-is-newer) → let two = k .before in let one = two .before .before in let a = one .before .before .before .args in
+    k .is-newer .result ≡ newer (headerOf (cardOf (now (a .image))) (a .address)) (headerOf (cardOf (now (a .image))) (secondPack (a .address)))
+newer-by k =
+    let two = k .before in
+    let one = two .before .before in
+    rw (one .checkpoint-of .ensures, one .before .block-at .ensures, two .checkpoint-of2 .ensures, two .before .block-at2 .ensures) at (k .is-newer .ensures)
 
 add-second : tie.Need-add-second
 add-second c = search needs
@@ -33,36 +45,10 @@ first-passing-requires-2 : tie.Need-first-passing-requires-2
 first-passing-requires-2 c κs = search needs
 
 returns : tie.Need-returns
-returns c =
-    let tested = c .before .before in
-    let two = tested .before in
-    let one = two .before .before in
-    rw (
-      chosen-in-order,
-      ← one .before .block-at .ensures,
-      ← one .checkpoint-of .ensures,
-      ← two .before .block-at2 .ensures,
-      ← two .checkpoint-of2 .ensures,
-      ← tested .is-newer .ensures,
-      c .before .if1 .taken,
-      c .first-passing .ensures,
-    )
+returns c = rw (chosen-in-order, ← newer-by (c .before .before), c .before .if1 .taken, c .first-passing .ensures)
 
 returns-2 : tie.Need-returns-2
-returns-2 c =
-    let tested = c .before .before in
-    let two = tested .before in
-    let one = two .before .before in
-    rw (
-      chosen-in-order,
-      ← one .before .block-at .ensures,
-      ← one .checkpoint-of .ensures,
-      ← two .before .block-at2 .ensures,
-      ← two .checkpoint-of2 .ensures,
-      ← tested .is-newer .ensures,
-      c .before .if1 .left,
-      c .first-passing2 .ensures,
-    )
+returns-2 c = rw (chosen-in-order, ← newer-by (c .before .before), c .before .if1 .left, c .first-passing2 .ensures)
 
 pub choose-pack-spec : {M : Type 1} → statement M
 choose-pack-spec =

@@ -1,16 +1,14 @@
-use mathlib.Core.Path.{refl}
 use Rattle.checkpoint.specs.Volume.{journalReadable}
 use borrow.Author.Needs.{needs}
 use Rattle.checkpoint.proofs.journal_readable.Statement.{statement}
 use Rattle.checkpoint.proofs.journal_readable.Tie as tie
 
-get16-requires : tie.Need-get16-requires
-get16-requires c κs = search needs
+count-within-requires : tie.Need-count-within-requires
+count-within-requires c κs = search needs
 
 returns : tie.Need-returns
 unfolding journalReadable
-returns c =
-    rw (c .get16 .ensures)
+returns c = c .count-within .ensures
 
 pub journal-readable-spec : {M : Type 1} → statement M
-journal-readable-spec = tie.close (tie.spec get16-requires returns)
+journal-readable-spec = tie.close (tie.spec count-within-requires returns)

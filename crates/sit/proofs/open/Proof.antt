@@ -21,9 +21,10 @@ places : (k : tie.After-opening) → let s = k .before .before .before .before i
     PlacesIn (cardOf (now (s .args .image)) .blocks) (k .opening .given .0 .0)
 places k = image-volume _ _ (opens k) .places
 
-readable : (k : tie.After-journal-readable) → let l = k .before .before .before in
-    k .journal-readable .result ≡ sitJournalReadable (sitJournalOf (cardOf (now (l .before .before .before .before .args .image))) (l .opening .given .0 .0))
-readable k = rw (k .before .journal-of .ensures) at (k .journal-readable .ensures)
+readable : (k : tie.After-count-within) → let l = k .before .before .before in
+    k .count-within .result ≡ sitJournalReadable (sitJournalOf (cardOf (now (l .before .before .before .before .args .image))) (l .opening .given .0 .0))
+unfolding sitJournalReadable
+readable k = rw (k .before .journal-of .ensures) at (k .count-within .ensures)
 
 open-requires : tie.Need-open-requires
 open-requires c κs = search needs
@@ -34,8 +35,8 @@ enum-known-opening c = search needs
 journal-of-requires : tie.Need-journal-of-requires
 journal-of-requires c κs = places (c .before)
 
-journal-readable-requires : tie.Need-journal-readable-requires
-journal-readable-requires c κs =
+count-within-requires : tie.Need-count-within-requires
+count-within-requires c κs =
     let k = c .before .before in
     let s = k .before .before .before .before in
     rw (c .journal-of .ensures) (omega (arith, journal-room (now (s .args .image)) (k .opening .given .0 .0) (places k)))
@@ -65,7 +66,7 @@ open-spec =
     open-requires
     enum-known-opening
     journal-of-requires
-    journal-readable-requires
+    count-within-requires
     enum-known-opening-2
     returns
     returns-2
