@@ -1,5 +1,5 @@
--- Document 01's rules for opening a card, by number: what the definitions compute on both sides of each boundary, and what the
--- document's sentence says. 1 is yes, 0 no.
+-- The rules for opening a card, by number: what the definitions compute on both sides of each boundary, and what the sentence of
+-- document 01, or of a request, says. 1 is yes, 0 no.
 use mathlib.Core.Path.{refl}
 use mathlib.Core.List.{List, [], _∷_, _++_}
 use mathlib.Core.List as List
@@ -138,9 +138,9 @@ header version flags total start sitMap natMap =
       «checksum_offset» = 4092;
     }
 
--- of two versions, the second pack's wins
-abbrev second : ℕ → ℕ → ℕ
-second v w = yes (newer (header v 0 16 5 64 64) (header w 0 16 5 64 64))
+-- of two packs that pass, with such versions, the one that is chosen
+abbrev pack : ℕ → ℕ → ℕ
+pack v w = choose (newer (header v 0 16 5 64 64) (header w 0 16 5 64 64)) 2 1
 
 -- the areas of a card with such SIT and NAT counts, as far as a pack is held to them
 abbrev areas : ℕ → ℕ → Areas
@@ -191,9 +191,18 @@ opening (Refused answer) = answer ∷ []
 
 abbrev checkpointRules : List Line
 checkpointRules =
-    -- "the greater version as an unsigned number is chosen; if equal, the first"
-    ((second 5 5 ∷ second 5 6 ∷ second 6 5 ∷ []) is (0 ∷ 1 ∷ 0 ∷ []))
-    ∷ ((second 0x7FFFFFFFFFFFFFFF 0x8000000000000000 ∷ second 0x8000000000000000 0x7FFFFFFFFFFFFFFF ∷ []) is (1 ∷ 0 ∷ []))
+    -- "Versions 5 and 5: first pack."; K3: "the second pack wins exactly if second minus first is above zero"
+    ((pack 5 5 ∷ pack 5 6 ∷ pack 6 5 ∷ []) is (1 ∷ 2 ∷ 1 ∷ []))
+    -- "Versions FFFFFFFFFFFFFFFF and 0 choose the 0.", from either side
+    ∷ ((pack 0xFFFFFFFFFFFFFFFF 0 ∷ pack 0 0xFFFFFFFFFFFFFFFF ∷ []) is (2 ∷ 1 ∷ []))
+    -- "A difference of exactly 2^63 keeps the first pack."; then one less and one more than that
+    ∷ ((pack 5 0x8000000000000005 ∷ pack 0x8000000000000005 5 ∷ []) is (1 ∷ 1 ∷ []))
+    ∷ ((pack 5 0x8000000000000004 ∷ pack 0x8000000000000004 5 ∷ []) is (2 ∷ 1 ∷ []))
+    ∷ ((pack 5 0x8000000000000006 ∷ pack 0x8000000000000006 5 ∷ []) is (1 ∷ 2 ∷ []))
+    -- the difference is signed, the versions aren't
+    ∷ ((pack 0x7FFFFFFFFFFFFFFF 0x8000000000000000 ∷ pack 0x8000000000000000 0x7FFFFFFFFFFFFFFF ∷ []) is (2 ∷ 1 ∷ []))
+    -- so the rule is no order: 0, 2^62 and 2^63 + 1 are each newer than the one before, in a circle
+    ∷ ((pack 0 0x4000000000000000 ∷ pack 0x4000000000000000 0x8000000000000001 ∷ pack 0x8000000000000001 0 ∷ []) is (2 ∷ 2 ∷ 2 ∷ []))
     -- "Else it is block total − 7 with unmount or fastboot, total − 4 without ..; journal at its byte 3,584."
     ∷ (journal 0 is (12 ∷ 3584 ∷ []))
     ∷ (journal 1 is (9 ∷ 3584 ∷ []))

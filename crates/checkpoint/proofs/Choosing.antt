@@ -61,3 +61,12 @@ module _ (card : Card) (address : ℕ) where
       ⊎-elim (λ w. passing-of-two card (secondPack address) address (secondPack address) start (omega arith) (omega arith) (rw w at inOrder))
       (λ w. passing-of-two card address (secondPack address) (secondPack address) start (omega arith) (omega arith) (rw w at inOrder))
       (either (newer (headerOf card address) (headerOf card (secondPack address))))
+
+  -- a pack that passes and wins by its version is chosen, whatever the other holds
+  pub chosen-second : packPasses card (secondPack address) ≡ true → newer (headerOf card address) (headerOf card (secondPack address)) ≡ true
+      → chosen card address ≡ Pack (secondPack address)
+  chosen-second p wins = rw (chosen-in-order, wins, p)
+
+  pub chosen-first : packPasses card address ≡ true → newer (headerOf card address) (headerOf card (secondPack address)) ≡ false
+      → chosen card address ≡ Pack address
+  chosen-first p wins = rw (chosen-in-order, wins, p)

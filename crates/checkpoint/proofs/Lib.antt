@@ -2,5 +2,6 @@ pub mod Inside
 mod Negated
 mod Passing
 mod Choosing
+pub mod Versions
 mod Reading
 pub mod Ways

@@ -1,7 +1,7 @@
 -- The two checkpoint packs: which of them pass, and which is chosen.
 use mathlib.Core.List.{List}
 use mathlib.Core.Bool.{Bool, _&&_}
-use Prim.Native.Nat.{ℕ, _+_, _-_}
+use Prim.Native.Nat.{ℕ, _+_, _-_, _%_, _^_}
 use lib.ListN.{take}
 use lib.Dec.{eqb, leb, ltb}
 use Rattle.field.specs.Number.{le32}
@@ -36,9 +36,17 @@ unfoldable pub packPasses : Card → ℕ → Bool
 packPasses card start =
     firstPasses (card .block start) && lastPasses (card .block (lastBlock card start)) (headerOf card start .«checkpoint_ver»)
 
--- "the greater version as an unsigned number is chosen; if equal, the first": the second pack wins by its version
+-- "the 64-bit difference, wrapped": second minus first
+abbrev pub wrappedDifference : ℕ → ℕ → ℕ
+wrappedDifference first second = (second + 2 ^ 64 - first) % 2 ^ 64
+
+-- such a difference "as a signed number" is "above zero"; from 2 ^ 63 on it is below
+abbrev pub aboveZero : ℕ → Bool
+aboveZero d = ltb 0 d && ltb d (2 ^ 63)
+
+-- K3: "the second pack wins exactly if second minus first is above zero"
 unfoldable pub newer : Checkpoint → Checkpoint → Bool
-newer first second = ltb (first .«checkpoint_ver») (second .«checkpoint_ver»)
+newer first second = aboveZero (wrappedDifference (first .«checkpoint_ver») (second .«checkpoint_ver»))
 
 -- "Packs start at the checkpoint address and 512 blocks on."
 abbrev pub secondPack : ℕ → ℕ

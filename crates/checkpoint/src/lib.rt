@@ -129,10 +129,14 @@ fn pack_passes(image: &[u8], start: u32) -> bool
     last_passes(last, cp.checkpoint_ver)
 }
 
+// A difference from 2^63 on is below zero as a signed number.
 pub fn is_newer(first: Checkpoint, second: Checkpoint) -> bool
     ensures { λ r. ⌜ r ≡ newer first second ⌝ }
 {
-    first.checkpoint_ver < second.checkpoint_ver
+    let one = first.checkpoint_ver;
+    let other = second.checkpoint_ver;
+    let difference = std::num::wrapping_sub_u64(other, one);
+    (0 < difference) & (difference < 9223372036854775808)
 }
 
 // The first of two packs that passes; the other is tested only if that one doesn't.
