@@ -227,17 +227,24 @@ pub struct Pack {
     pub version: u64,
 }
 
-/// "Of two that pass, the greater version as an unsigned number is chosen; if equal, the first."
+/// "Of two that pass" the second is chosen if its version wins, else the first.
 pub fn chosen_pack(image: &[u8], superblock: &Superblock) -> Option<Pack> {
     // "Packs start at the checkpoint address and 512 blocks on."
     let start = u64::from(superblock.checkpoint_address);
     let first = passing_pack(image, start);
     let second = passing_pack(image, start + SEGMENT_BLOCKS);
     match (first, second) {
-        (Some(first), Some(second)) if second.version > first.version => Some(second),
+        (Some(first), Some(second)) if second_wins(first.version, second.version) => Some(second),
         (Some(first), _) => Some(first),
         (None, second) => second,
     }
+}
+
+/// "The kernel takes the 64-bit difference, wrapped, as a signed number: the second pack wins
+/// exactly if second minus first is above zero." A difference of exactly 2^63 is below zero.
+fn second_wins(first: u64, second: u64) -> bool {
+    let difference = second.wrapping_sub(first) as i64;
+    difference > 0
 }
 
 /// "A pack passes if its first block passes, its total (offset 136) is 2 to 512, and block
@@ -351,6 +358,12 @@ mod tests {
         open(&sample.bytes).err().unwrap_or(0)
     }
 
+    /// The first block of the chosen pack.
+    fn chosen(sample: &Sample) -> Option<usize> {
+        let superblock = superblock_in_use(&sample.bytes).unwrap();
+        chosen_pack(&sample.bytes, &superblock).map(|pack| pack.start as usize)
+    }
+
     #[test]
     fn empty_one_block_and_too_many_blocks_are_4() {
         assert_eq!(open(&[]).err(), Some(4));
@@ -407,16 +420,98 @@ mod tests {
     }
 
     #[test]
-    fn equal_versions_choose_the_first_pack() {
+    fn the_wrapped_difference_is_above_zero() {
+        let half = 1 << 63;
+        let wins = [
+            (0, false),
+            (1, true),
+            (half - 1, true),
+            (half, false),
+            (half + 1, false),
+            (u64::MAX, false),
+        ];
+        // Wherever the first version stands, the difference alone decides.
+        for first in [0, 1, 5, half - 1, half, half + 1, u64::MAX - 1, u64::MAX] {
+            for (difference, expected) in wins {
+                let second = first.wrapping_add(difference);
+                assert_eq!(second_wins(first, second), expected, "{first:x} {second:x}");
+            }
+        }
+    }
+
+    #[test]
+    fn versions_choose_the_pack() {
         let mut sample = Sample::new();
-        sample.put_pack(SECOND_PACK, 5, 8);
-        let chosen = |sample: &Sample| {
-            let superblock = superblock_in_use(&sample.bytes).unwrap();
-            chosen_pack(&sample.bytes, &superblock).unwrap().start
-        };
-        assert_eq!(chosen(&sample), FIRST_PACK as u64);
-        sample.put_pack(SECOND_PACK, 1 << 63, 8);
-        assert_eq!(chosen(&sample), SECOND_PACK as u64);
+        let choices = [
+            // "Versions 5 and 5: first pack."
+            (5, 5, FIRST_PACK),
+            (u64::MAX, u64::MAX, FIRST_PACK),
+            (5, 6, SECOND_PACK),
+            (6, 5, FIRST_PACK),
+            // "Versions FFFFFFFFFFFFFFFF and 0 choose the 0."
+            (0xFFFF_FFFF_FFFF_FFFF, 0, SECOND_PACK),
+            (0, 0xFFFF_FFFF_FFFF_FFFF, FIRST_PACK),
+            // "A difference of exactly 2^63 keeps the first pack."
+            (0, 0x8000_0000_0000_0000, FIRST_PACK),
+            (0x8000_0000_0000_0000, 0, FIRST_PACK),
+            (5, 0x8000_0000_0000_0005, FIRST_PACK),
+            (0x8000_0000_0000_0005, 5, FIRST_PACK),
+            // One less and one more than that.
+            (5, 0x8000_0000_0000_0004, SECOND_PACK),
+            (0x8000_0000_0000_0004, 5, FIRST_PACK),
+            (5, 0x8000_0000_0000_0006, FIRST_PACK),
+            (0x8000_0000_0000_0006, 5, SECOND_PACK),
+            // One apart where a signed version would turn.
+            (0x7FFF_FFFF_FFFF_FFFF, 0x8000_0000_0000_0000, SECOND_PACK),
+            (0x8000_0000_0000_0000, 0x7FFF_FFFF_FFFF_FFFF, FIRST_PACK),
+            // All 64 bits count.
+            (0, 0x8000_0000, SECOND_PACK),
+            (0, 0x1_0000_0000, SECOND_PACK),
+            (0x1_0000_0000, 1, FIRST_PACK),
+        ];
+        for (first, second, expected) in choices {
+            sample.put_pack(FIRST_PACK, first, 8);
+            sample.put_pack(SECOND_PACK, second, 8);
+            assert_eq!(chosen(&sample), Some(expected), "{first:x} {second:x}");
+        }
+    }
+
+    #[test]
+    fn a_pack_that_does_not_pass_is_not_chosen() {
+        let mut sample = Sample::new();
+        let spoil: [fn(&mut Sample, usize); 3] = [
+            |sample, pack| sample.put32(pack, 4092, 0),
+            |sample, pack| sample.put32(pack + 7, 4092, 0),
+            |sample, pack| {
+                sample.put64(pack + 7, 0, 7);
+                sample.seal(pack + 7);
+            },
+        ];
+        for (first, second) in [(5, 5), (5, 6), (6, 5), (u64::MAX, 0), (0, 1 << 63)] {
+            for spoil in spoil {
+                for (spoiled, other) in [(FIRST_PACK, SECOND_PACK), (SECOND_PACK, FIRST_PACK)] {
+                    sample.put_pack(FIRST_PACK, first, 8);
+                    sample.put_pack(SECOND_PACK, second, 8);
+                    spoil(&mut sample, spoiled);
+                    assert_eq!(chosen(&sample), Some(other), "{first:x} {second:x}");
+                    spoil(&mut sample, other);
+                    assert_eq!(chosen(&sample), None, "{first:x} {second:x}");
+                }
+            }
+        }
+    }
+
+    #[test]
+    fn the_chosen_pack_is_read() {
+        let mut sample = Sample::new();
+        sample.put16(FIRST_PACK + 1, 3584, 1);
+        sample.put16(SECOND_PACK + 1, 3584, 2);
+        for (first, second, entries) in [(u64::MAX, 0, 2), (0, u64::MAX, 1)] {
+            sample.put_pack(FIRST_PACK, first, 8);
+            sample.put_pack(SECOND_PACK, second, 8);
+            let volume = open(&sample.bytes).unwrap();
+            assert_eq!(volume.journal.len(), entries * 13, "{first:x} {second:x}");
+        }
     }
 
     #[test]
