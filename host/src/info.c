@@ -93,18 +93,33 @@ static bool is_clean(const struct opening_pack *pack)
     return (pack->flags & DISK_UNMOUNT) != 0;
 }
 
+/* Why it isn't the other pack, where that passes too and its version is the greater number. */
+static void words_choice(const struct opening_pack *used, const struct opening_pack *other)
+{
+    if (!other->passes || used->version >= other->version)
+        return;
+    if (ver_after(used->version, other->version))
+        printf(", newer because versions wrap: 0 comes after 0x%" PRIx64, UINT64_MAX);
+    else
+        printf(", exactly 2^63 from the other's: neither is newer, so the first pack is used");
+}
+
 static void words_packs(const struct opening *opening)
 {
     for (int i = 0; i < 2; i++) {
         const struct opening_pack *pack = &opening->packs[i];
         char flags[WHY_ROOM] = "";
         disk_bit_names(flags, sizeof flags, disk_flags, pack->flags);
-        const char *good = i == opening->pack_in_use ? "in use" : "passes";
+        bool used = i == opening->pack_in_use;
+        const char *good = used ? "in use" : "passes";
         printf("checkpoint pack %d: %s%s", i + 1, pack->passes ? good : "doesn't pass: ", pack->why);
-        if (pack->has_first)
-            printf("; version %" PRIu64 " (0x%" PRIx64 "); flags: %s", pack->version, pack->version,
-                   *flags == '\0' ? "none" : flags);
-        printf("%s\n", i == opening->pack_in_use && !is_clean(pack) ? "; not unmounted cleanly" : "");
+        if (pack->has_first) {
+            printf("; version %" PRIu64 " (0x%" PRIx64 ")", pack->version, pack->version);
+            if (used)
+                words_choice(pack, &opening->packs[1 - i]);
+            printf("; flags: %s", *flags == '\0' ? "none" : flags);
+        }
+        printf("%s\n", used && !is_clean(pack) ? "; not unmounted cleanly" : "");
     }
 }
 

@@ -205,13 +205,19 @@ static bool pack_is_readable(struct opening *opening, const struct card *card, c
     return count <= 38 || because(opening->why, "the NAT journal counts %" PRIu16 " entries, at most 38 fit", count);
 }
 
-/* Reads both packs, and returns which is in use: the one with the greater version, or the first of two alike. */
+bool ver_after(uint64_t a, uint64_t b)
+{
+    uint64_t difference = a - b;
+    return difference >= 1 && difference <= INT64_MAX;
+}
+
+/* Reads both packs, and returns which is in use: of two that pass, the second only if its version is newer. */
 static int read_packs(struct opening *opening, const struct card *card, uint32_t first)
 {
     struct opening_pack *packs = opening->packs;
     for (uint32_t i = 0; i < 2; i++)
         packs[i].passes = pack_passes(&packs[i], card, first + i * DISK_SEGMENT_BLOCKS);
-    if (packs[1].passes && (!packs[0].passes || packs[1].version > packs[0].version))
+    if (packs[1].passes && (!packs[0].passes || ver_after(packs[1].version, packs[0].version)))
         return 1;
     return packs[0].passes ? 0 : NONE_IN_USE;
 }

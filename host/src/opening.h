@@ -47,6 +47,12 @@ struct opening {
 /* Asks the library, and finds the words. */
 void opening_read(struct opening *opening, const struct card *card);
 
+/*
+ * Whether version a is newer than b, by Linux's rule and under its name: a minus b, wrapped to 64 bits, is above zero as a
+ * signed number. So 0 is newer than the greatest number, and of two that are 2^63 apart neither is.
+ */
+bool ver_after(uint64_t a, uint64_t b);
+
 /* The copy of the superblock that is in use, by the same rules; null if neither passes. */
 const uint8_t *opening_superblock(const struct card *card);
 

@@ -8,6 +8,7 @@ pub mod json;
 pub mod page;
 pub mod segments;
 pub mod special_build;
+pub mod versions;
 
 use std::collections::BTreeSet;
 use std::ffi::{OsStr, OsString};

@@ -12,6 +12,7 @@ use harptimber_tests::program::card::{ProgramCard, EMPTY, LONG, NAMES, OUTSIDE, 
 use harptimber_tests::program::compares::Expected;
 use harptimber_tests::program::page::{expect_head, expect_name, shown};
 use harptimber_tests::program::special_build::SpecialBuild;
+use harptimber_tests::program::versions::{add_moved_road, set_version, MOVED_BYTE};
 use harptimber_tests::program::{run, Ran, Words};
 use harptimber_tests::tools::published::{filled_on, File};
 use harptimber_tests::trial::Random;
@@ -189,6 +190,38 @@ fn table() {
     });
     assert_eq!(cards.expect(ROAD), 1);
     assert_eq!(cards.expect(b"4097"), 0, "another file");
+}
+
+/// The version of the new card's last checkpoint has wrapped to 0, and by its journal the file has moved, with another byte.
+/// As long as that pack isn't whole, the card is what it was.
+#[test]
+fn wrapped_version() {
+    let mut cards = Cards::new();
+    for disk in [&mut cards.kept.disk, &mut cards.fresh] {
+        let blocks = set_version(&mut disk.image, 0, u64::MAX);
+        disk.write_blocks(&blocks);
+    }
+    add_moved_road(&mut cards.kept, &mut cards.fresh.image, 0);
+    let last = cards.fresh.image.last_block(1);
+    let whole = cards.fresh.image.mark();
+    cards.change(|image| image.put("no last block", last, 0, &[0; BLOCK_SIZE]));
+    assert_eq!(cards.expect(ROAD), 0, "by the pack before");
+    cards.fresh.image.undo(whole);
+    cards.write();
+    assert_eq!(cards.expect(ROAD), 1, "by the new pack");
+    assert_eq!(cards.expect(b"4097"), 0, "another file");
+    let before = cards.kept.file(ROAD).block(&cards.kept.disk.image, 0)[MOVED_BYTE];
+    let line = format!(
+        "road.bin: 1 of 6 blocks differs, first at byte 17 of the file (0x{before:02x} before, 0x{:02x} now); \
+         5 have the same bytes but rest on something that changed\n",
+        !before
+    );
+    let paths = [cards.kept.disk.path(), cards.fresh.path()];
+    let ran = run(&[&"compare", &paths[0], &paths[1], &ROAD]).expect(1);
+    assert!(ran.words().starts_with(&line), "no '{line}' in {ran:?}");
+    let info = run(&[&"info", &paths[1]]).expect(0);
+    let in_use = "checkpoint pack 2: in use; version 0 (0x0), newer because versions wrap: ";
+    assert!(info.words().contains(in_use), "of {info:?}");
 }
 
 /// A longer main area: kind 1, for every file.

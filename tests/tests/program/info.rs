@@ -15,6 +15,7 @@ use harptimber_tests::node_lookup;
 use harptimber_tests::program::json::Json;
 use harptimber_tests::program::page::{expect_head, meaning, shown, status_of};
 use harptimber_tests::program::special_build::SpecialBuild;
+use harptimber_tests::program::versions::{set_version, CHOICES};
 use harptimber_tests::program::{run, Ran, Words};
 use harptimber_tests::tools::outside::CardFile;
 use harptimber_tests::tools::published::{self, formatted};
@@ -178,6 +179,85 @@ fn words_of_a_clean_card() {
     assert!(ran.words().contains("\nlabel: none\n"), "of {ran:?}");
 }
 
+/// A card with two packs that pass.
+fn with_versions(versions: [u64; 2]) -> Image {
+    let pack = |version| Some(Pack::plain(version, CP_UMOUNT_FLAG));
+    Image::new(&Knobs {
+        packs: versions.map(pack),
+        ..Knobs::sound()
+    })
+}
+
+/// What is said of the packs, each by its state, its version, and words on the choice behind that.
+fn expect_pack_lines(disk: &OnDisk, packs: [(&str, u64, &str); 2]) {
+    let lines = [0, 1].map(|which| {
+        let (state, version, why) = packs[which];
+        let number = which + 1;
+        format!("checkpoint pack {number}: {state}; version {version} ({version:#x}){why}; flags: unmount")
+    });
+    let ran = run(&[&"info", &disk.path()]).expect(0);
+    let said = ran.words().lines();
+    let said = said.filter(|line| line.starts_with("checkpoint pack "));
+    assert_eq!(said.collect::<Vec<_>>(), lines);
+}
+
+/// The pack in use, as JSON and in words. JSON needs no words on the choice: it has the versions and a flag.
+#[test]
+fn choices() {
+    for (versions, used, why) in CHOICES {
+        let disk = OnDisk::new(with_versions(versions));
+        let json = info(&disk);
+        let packs = [0, 1].map(|which| {
+            let (version, in_use) = (versions[which], which == used);
+            let pack = Pack::plain(version, CP_UMOUNT_FLAG);
+            expect_pack(&json["packs"].list()[which], Some(&pack), in_use);
+            match in_use {
+                true => ("in use", version, why),
+                false => ("passes", version, ""),
+            }
+        });
+        expect_pack_lines(&disk, packs);
+    }
+}
+
+/// A pack that doesn't pass isn't in use, whatever its version is, and nothing of versions explains the other one.
+#[test]
+fn choices_of_one() {
+    const FAILS: &str = "doesn't pass: its last block has checksum_offset 0, not 4092";
+    for (versions, ..) in CHOICES {
+        for used in 0..2 {
+            let mut image = with_versions(versions);
+            image.set_sealed(image.last_block(1 - used), CHECKSUM_OFFSET, 0);
+            let state = |which| if which == used { "in use" } else { FAILS };
+            let packs = [0, 1].map(|which| (state(which), versions[which], ""));
+            expect_pack_lines(&OnDisk::new(image), packs);
+        }
+    }
+}
+
+/// The reason is that of the pack in use, whether the other one can be read or not.
+#[test]
+fn choices_of_unreadable_packs() {
+    let size = |which: usize| 65 + which as u64;
+    for (versions, used, _) in CHOICES {
+        for unreadable in [&[used][..], &[1 - used], &[0, 1]] {
+            let mut image = with_versions(versions);
+            for &which in unreadable {
+                let first = image.first_block(which);
+                image.set_sealed(first, SIT_VER_BITMAP_BYTESIZE, size(which));
+            }
+            if unreadable.contains(&used) {
+                let reason = format!("sit_ver_bitmap_bytesize is {}, not 64", size(used));
+                expect_reason(image, 8, &reason);
+            } else {
+                let json = info(&OnDisk::new(image));
+                assert_eq!(json["answer"].number(), 0, "{versions:?}");
+                assert!(flag(&json["packs"].list()[used]["in_use"]), "{json:?}");
+            }
+        }
+    }
+}
+
 const LABEL_AT: usize = 1024 + 124;
 
 fn put_label(image: &mut Image, units: &[u16]) {
@@ -270,6 +350,26 @@ fn published_cards() {
         "-l kept",
     ] {
         expect_dumped(options);
+    }
+}
+
+/// The pack in use is the one that dump.f2fs takes: mkfs.f2fs writes two that pass.
+#[test]
+fn published_choices() {
+    let mut image = formatted(64, "");
+    for (versions, used, _) in CHOICES {
+        for (which, version) in versions.into_iter().enumerate() {
+            set_version(&mut image, which, version);
+        }
+        let card = CardFile::of(&image);
+        let dump = published::run(Command::new("dump.f2fs").arg(card.path()));
+        let dump = String::from_utf8(dump).unwrap();
+        let version = format!("{:x}", versions[used]);
+        assert_eq!(dumped(&dump, "Info: CKPT version = "), [version]);
+        let json = run(&[&"info", &"--json", &card.path()]).expect(0).json();
+        let packs = json["packs"].list().iter();
+        let in_use = packs.map(|pack| flag(&pack["in_use"])).collect::<Vec<_>>();
+        assert_eq!(in_use, [used == 0, used == 1], "{versions:?}");
     }
 }
 

@@ -4,11 +4,13 @@ use std::collections::BTreeSet;
 use std::fs;
 
 use harptimber_tests::cards::image::Image;
+use harptimber_tests::cards::layout::inode::I_SIZE;
 use harptimber_tests::cards::layout::BLOCK_SIZE;
 use harptimber_tests::cards::on_disk::OnDisk;
-use harptimber_tests::program::card::{pulled, ProgramCard};
+use harptimber_tests::program::card::{pulled, ProgramCard, ROAD};
 use harptimber_tests::program::page::{expect_head, expect_name, status_of};
 use harptimber_tests::program::run;
+use harptimber_tests::program::versions::{add_moved_road, set_version, Moved, CHOICES};
 use harptimber_tests::tools::published::{filled_on, File, LONGEST_INLINE};
 use harptimber_tests::trial::Random;
 
@@ -53,6 +55,39 @@ fn every_answer() {
     assert_eq!(answers, all, "answers that came up");
     for (name, index, answer) in &card.refused {
         assert_eq!(card.pulled(name, *index).pulled.answer, *answer);
+    }
+}
+
+/// By two packs the road has its inode in different blocks, and other bytes. Each command reads it by the pack in use.
+#[test]
+fn pack_in_use() {
+    let mut card = ProgramCard::build();
+    let mut image = card.disk.image.clone();
+    let mut moved = add_moved_road(&mut card, &mut image, 0);
+    moved.road.size -= 1;
+    image.set(moved.inode, I_SIZE, moved.road.size);
+    let road = card.file(ROAD).clone();
+    let inode = card.card.inode_block(road.ino);
+    let roads = [Moved { road, inode }, moved];
+    let mut disk = OnDisk::new(image);
+    let path = disk.path();
+    for (versions, used, _) in CHOICES {
+        for (which, version) in versions.into_iter().enumerate() {
+            let blocks = set_version(&mut disk.image, which, version);
+            disk.write_blocks(&blocks);
+        }
+        let Moved { road, inode } = &roads[used];
+        assert_eq!(expect_json(&disk, &disk.image, ROAD, 0), 0);
+        let cat = run(&[&"cat", &path, &ROAD]).expect(0);
+        assert!(cat.out == road.bytes(&disk.image), "cat by {versions:?}");
+        let node = run(&[&"node", &"--json", &path, &road.ino]).expect(0);
+        let address = node.json()["address"].number();
+        assert_eq!(address, u64::from(*inode), "{versions:?}");
+        // Another name on this card is malformed.
+        let ls = run(&[&"ls", &"--json", &path]).expect(2).json();
+        let mut names = ls["names"].list().iter();
+        let listed = names.find(|name| name["name"].text() == "road.bin");
+        assert_eq!(listed.unwrap()["size"].number(), road.size, "{versions:?}");
     }
 }
 

@@ -9,7 +9,7 @@ use harptimber_tests::cards::image::Image;
 use harptimber_tests::cards::knobs::{Knobs, Pack};
 use harptimber_tests::cards::layout::checkpoint::VALID_BLOCK_COUNT;
 use harptimber_tests::cards::layout::sit::SitEntry;
-use harptimber_tests::cards::layout::sit_journal::SitJournalEntry;
+use harptimber_tests::cards::layout::sit_journal::{SitJournalEntry, IN_COMPACT_BLOCK, N_SITS};
 use harptimber_tests::cards::on_disk::OnDisk;
 use harptimber_tests::cards::random::pick;
 use harptimber_tests::cards::random_segments::{in_use, random_segments, RandomSegments};
@@ -18,6 +18,7 @@ use harptimber_tests::program::json::Json;
 use harptimber_tests::program::page::{expect_head, meaning, status_of};
 use harptimber_tests::program::segments::{hint, Segment, Segments};
 use harptimber_tests::program::special_build::SpecialBuild;
+use harptimber_tests::program::versions::CHOICES;
 use harptimber_tests::program::{run, run_on_terminal, run_on_terminal_after, Ran, Words};
 use harptimber_tests::sizes::{CARD_BLOCKS_MOST, SEGMENTS_MOST};
 use harptimber_tests::tools::outside::CardFile;
@@ -174,6 +175,65 @@ fn random_cards() {
     }
     println!("segments of random cards: 24 inputs compared, {off} off");
     assert!(off > 150);
+}
+
+/// A card with two packs, each with copies of its own in its map and a segment of its own in its journal; and its
+/// segments as the pack in use has them.
+fn with_two_packs(versions: [u64; 2], used: usize) -> (Image, Segments) {
+    let in_table = |segno, copy| SitEntry::counted(300, 10 * segno + copy);
+    let in_journal = SitEntry::counted(100, 200);
+    let pack = |which: usize| Pack {
+        sit_map: vec![[0x00, 0xFF][which]],
+        sit_journal: Some(vec![SitJournalEntry {
+            segno: which as u32,
+            entry: in_journal,
+        }]),
+        ..Pack::compact(versions[which])
+    };
+    let mut image = Image::new(&Knobs {
+        packs: [0, 1].map(|which| Some(pack(which))),
+        ..card_of(3)
+    });
+    for segno in 0..3 {
+        for copy in 0..2 {
+            image.set_sit_entry(segno, copy, &in_table(segno, copy));
+        }
+    }
+    let told = |segno| {
+        if segno as usize == used {
+            return Segment::of(&in_journal, true, image.first_block(used) + 1);
+        }
+        let copy = used as u32;
+        let (block, _) = image.sit_place(segno, copy);
+        Segment::of(&in_table(segno, copy), false, block)
+    };
+    let segments = Segments((0..3).map(told).collect());
+    (image, segments)
+}
+
+/// Segments are told as the pack in use has them, and so is a journal that counts more entries than are read.
+#[test]
+fn pack_in_use() {
+    let count = |which: usize| 7 + which as u64;
+    for (versions, used, _) in CHOICES {
+        let (image, segments) = with_two_packs(versions, used);
+        let mut disk = OnDisk::new(image);
+        let path = disk.path();
+        for which in [1 - used, used] {
+            segments.expect(&path);
+            let journal = disk.image.first_block(which) + 1;
+            let field = N_SITS.moved(IN_COMPACT_BLOCK);
+            disk.image.set(journal, field, count(which));
+            disk.write_blocks(&[journal]);
+        }
+        let json = run(&[&"segments", &"--json", &path]).expect(2).json();
+        expect_head(&json, "segments", 8);
+        let reason = format!(
+            "the SIT journal counts {} entries, at most 6 fit",
+            count(used)
+        );
+        assert_eq!(json["reason"].text(), reason, "{versions:?}");
+    }
 }
 
 /// Nothing to show by bars.
