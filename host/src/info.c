@@ -204,7 +204,10 @@ static void json_packs(struct json *json, const struct opening *opening)
         const struct opening_pack *pack = &opening->packs[i];
         json_judged(json, pack->passes, i == opening->pack_in_use, pack->why);
         if (pack->has_first) {
+            char hex[17];
+            snprintf(hex, sizeof hex, "%016" PRIx64, pack->version);
             json_number(json, "version", pack->version);
+            json_string(json, "version_hex", hex);
             json_bits(json, "flags", disk_flags, pack->flags);
             json_flag(json, "clean", is_clean(pack));
         }

@@ -138,7 +138,7 @@ header version flags total start sitMap natMap =
       «checksum_offset» = 4092;
     }
 
--- of two packs that pass, with such versions, the one that is chosen
+-- which of two packs wins by its version, the 1st or the 2nd; by `chosen-first` and `chosen-second` it is chosen if it passes
 abbrev pack : ℕ → ℕ → ℕ
 pack v w = choose (newer (header v 0 16 5 64 64) (header w 0 16 5 64 64)) 2 1
 
@@ -201,7 +201,9 @@ checkpointRules =
     ∷ ((pack 5 0x8000000000000006 ∷ pack 0x8000000000000006 5 ∷ []) is (1 ∷ 2 ∷ []))
     -- the difference is signed, the versions aren't
     ∷ ((pack 0x7FFFFFFFFFFFFFFF 0x8000000000000000 ∷ pack 0x8000000000000000 0x7FFFFFFFFFFFFFFF ∷ []) is (2 ∷ 1 ∷ []))
-    -- so the rule is no order: 0, 2^62 and 2^63 + 1 are each newer than the one before, in a circle
+    -- all 64 bits count
+    ∷ ((pack 0 0x80000000 ∷ pack 0 0x100000000 ∷ pack 0x100000000 1 ∷ []) is (2 ∷ 2 ∷ 1 ∷ []))
+    -- the rule is no order: 0, 2^62 and 2^63 + 1 are each newer than the one before, in a circle
     ∷ ((pack 0 0x4000000000000000 ∷ pack 0x4000000000000000 0x8000000000000001 ∷ pack 0x8000000000000001 0 ∷ []) is (2 ∷ 2 ∷ 2 ∷ []))
     -- "Else it is block total − 7 with unmount or fastboot, total − 4 without ..; journal at its byte 3,584."
     ∷ (journal 0 is (12 ∷ 3584 ∷ []))

@@ -62,11 +62,11 @@ module _ (card : Card) (address : ℕ) where
       (λ w. passing-of-two card address (secondPack address) (secondPack address) start (omega arith) (omega arith) (rw w at inOrder))
       (either (newer (headerOf card address) (headerOf card (secondPack address))))
 
-  -- a pack that passes and wins by its version is chosen, whatever the other holds
+  -- a pack that passes and wins by its version is chosen, whatever the other holds: the first wins unless the second is newer
   pub chosen-second : packPasses card (secondPack address) ≡ true → newer (headerOf card address) (headerOf card (secondPack address)) ≡ true
       → chosen card address ≡ Pack (secondPack address)
   chosen-second p wins = rw (chosen-in-order, wins, p)
 
   pub chosen-first : packPasses card address ≡ true → newer (headerOf card address) (headerOf card (secondPack address)) ≡ false
       → chosen card address ≡ Pack address
-  chosen-first p wins = rw (chosen-in-order, wins, p)
+  chosen-first p stays = rw (chosen-in-order, stays, p)

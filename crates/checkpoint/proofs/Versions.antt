@@ -1,5 +1,5 @@
--- Which of two packs wins by its version: the laws of the rule, for versions of 64 bits. A version a little ahead wins from either
--- side, also where it has wrapped; the greater one wins where none has.
+-- Which of two packs wins by its version: the laws of the rule, for versions of 64 bits. `ahead` and `behind` decide every pair: 1 to
+-- 2 ^ 63 - 1 versions on, wrapped, wins from either side. Less than 2 ^ 63 apart as numbers, the greater wins.
 use mathlib.Core.Path.{_≡_}
 use mathlib.Core.Bool.{Bool, true, false, _&&_, and-false}
 use mathlib.Core.Logic.{_⊎_, ⊎-elim}
@@ -36,9 +36,6 @@ above d l h = search (both-hold, lt-ltb)
 is-above : (d : ℕ) → aboveZero d ≡ true → (0 < d) × (d < 2 ^ 63)
 is-above d h = (ltb-true 0 d (needed (λ l. rw l) h), ltb-true d (2 ^ 63) (needed (λ l. rw (l, and-false)) h))
 
-is-far : (d : ℕ) → aboveZero d ≡ false → 0 < d → 2 ^ 63 ≤ d
-is-far d n l = ltb-false d (2 ^ 63) (rw (lt-ltb 0 d l) at n)
-
 -- ---- the rule
 
 module _ (first second : Checkpoint) where
@@ -51,21 +48,18 @@ module _ (first second : Checkpoint) where
   -- the second is newer if it is 1 to 2 ^ 63 - 1 versions ahead, wrapped
   pub ahead : (k : ℕ) → 0 < k → k < 2 ^ 63 → v < 2 ^ 64 → w ≡ (v + k) % 2 ^ 64 → newer first second ≡ true
   unfolding newer
-  ahead k l h b e =
-      let low : 0 < wrappedDifference v w = omega arith in
-      let high : wrappedDifference v w < 2 ^ 63 = omega arith in
-      search (both-hold, lt-ltb)
+  ahead k l h b e = above (wrappedDifference v w) (omega arith) (omega arith)
 
   -- it isn't if it is 0 to 2 ^ 63 behind
-  pub behind : (k : ℕ) → k ≤ 2 ^ 63 → w < 2 ^ 64 → v ≡ (w + k) % 2 ^ 64 → newer first second ≡ false
+  pub behind : (k : ℕ) → k ≤ 2 ^ 63 → v ≡ (w + k) % 2 ^ 64 → newer first second ≡ false
   unfolding newer
-  behind k h b e = not-above (wrappedDifference v w) (omega arith)
+  behind k h e = not-above (wrappedDifference v w) (omega arith)
 
-  -- "version one higher, wrapped", as second and as first
+  -- K12's "version one higher, wrapped", as second and as first
   pub next-second : v < 2 ^ 64 → w ≡ (v + 1) % 2 ^ 64 → newer first second ≡ true
   next-second = ahead 1 (omega arith) (omega arith)
 
-  pub next-first : w < 2 ^ 64 → v ≡ (w + 1) % 2 ^ 64 → newer first second ≡ false
+  pub next-first : v ≡ (w + 1) % 2 ^ 64 → newer first second ≡ false
   next-first = behind 1 (omega arith)
 
   -- of two with one version neither is newer
@@ -74,27 +68,19 @@ module _ (first second : Checkpoint) where
   same-version e = not-above (wrappedDifference v w) (omega arith)
 
   -- "A difference of exactly 2^63 keeps the first pack": neither is newer
-  pub half-apart : v < 2 ^ 64 → w ≡ (v + 2 ^ 63) % 2 ^ 64 → (newer first second ≡ false) × (newer second first ≡ false)
+  pub half-apart : w ≡ (v + 2 ^ 63) % 2 ^ 64 → (newer first second ≡ false) × (newer second first ≡ false)
   unfolding newer
-  half-apart b e = (not-above (wrappedDifference v w) (omega arith), not-above (wrappedDifference w v) (omega arith))
+  half-apart e = (not-above (wrappedDifference v w) (omega arith), not-above (wrappedDifference w v) (omega arith))
 
   -- not both of two are newer than each other
-  pub not-both : v < 2 ^ 64 → w < 2 ^ 64 → newer first second ≡ true → newer second first ≡ false
+  pub not-both : newer first second ≡ true → newer second first ≡ false
   unfolding newer
-  not-both b c n = let d = is-above (wrappedDifference v w) n in not-above (wrappedDifference w v) (omega arith)
-
-  -- but one of them is, unless they are the same or exactly 2 ^ 63 apart
-  pub one-of-two : v < 2 ^ 64 → w < 2 ^ 64 → (v ≡ w → ⊥) → (w ≡ (v + 2 ^ 63) % 2 ^ 64 → ⊥) → newer second first ≡ false
-      → newer first second ≡ true
-  unfolding newer
-  one-of-two b c apart half n =
-      let far : 2 ^ 63 ≤ wrappedDifference w v = is-far (wrappedDifference w v) n (omega arith) in
-      above (wrappedDifference v w) (omega arith) (omega arith)
+  not-both n = let d = is-above (wrappedDifference v w) n in not-above (wrappedDifference w v) (omega arith)
 
   -- less than 2 ^ 63 apart, the greater version wins
-  pub greater : v < w + 2 ^ 63 → w < v + 2 ^ 63 → newer first second ≡ ltb v w
+  pub greater-wins : v < w + 2 ^ 63 → w < v + 2 ^ 63 → newer first second ≡ ltb v w
   unfolding newer
-  greater b c =
+  greater-wins b c =
       ⊎-elim
       (λ (l : ltb v w ≡ true). let less : v < w = ltb-true v w l in rw l (above (wrappedDifference v w) (omega arith) (omega arith)))
       (λ (l : ltb v w ≡ false). let more : w ≤ v = ltb-false v w l in rw l (not-above (wrappedDifference v w) (omega arith)))
@@ -114,7 +100,7 @@ module _ (card : Card) (address : ℕ) where
       → chosen card address ≡ Pack (secondPack address)
   next-second-chosen p b e = chosen-second card address p (next-second one two b e)
 
-  pub next-first-chosen : packPasses card address ≡ true → two .«checkpoint_ver» < 2 ^ 64
+  pub next-first-chosen : packPasses card address ≡ true
       → one .«checkpoint_ver» ≡ (two .«checkpoint_ver» + 1) % 2 ^ 64
       → chosen card address ≡ Pack address
-  next-first-chosen p b e = chosen-first card address p (next-first one two b e)
+  next-first-chosen p e = chosen-first card address p (next-first one two e)

@@ -36,15 +36,15 @@ unfoldable pub packPasses : Card → ℕ → Bool
 packPasses card start =
     firstPasses (card .block start) && lastPasses (card .block (lastBlock card start)) (headerOf card start .«checkpoint_ver»)
 
--- "the 64-bit difference, wrapped": second minus first
+-- K3: "the 64-bit difference, wrapped", second minus first; 2 ^ 64 comes first, since a difference of numbers stops at 0
 abbrev pub wrappedDifference : ℕ → ℕ → ℕ
 wrappedDifference first second = (second + 2 ^ 64 - first) % 2 ^ 64
 
--- such a difference "as a signed number" is "above zero"; from 2 ^ 63 on it is below
+-- K3: such a difference "as a signed number" is "above zero"; from 2 ^ 63 on it is below
 abbrev pub aboveZero : ℕ → Bool
 aboveZero d = ltb 0 d && ltb d (2 ^ 63)
 
--- K3: "the second pack wins exactly if second minus first is above zero"
+-- K3: "the second pack wins exactly if second minus first is above zero"; in Linux, `ver_after(second, first)`
 unfoldable pub newer : Checkpoint → Checkpoint → Bool
 newer first second = aboveZero (wrappedDifference (first .«checkpoint_ver») (second .«checkpoint_ver»))
 
@@ -52,7 +52,7 @@ newer first second = aboveZero (wrappedDifference (first .«checkpoint_ver») (s
 abbrev pub secondPack : ℕ → ℕ
 secondPack address = address + 512
 
--- which pack is chosen, by its first block; Nothing is answer 7
+-- which pack is chosen, by its first block: "Of two that pass" the second if it wins, else the first; Nothing is answer 7
 unfoldable pub chosen : Card → ℕ → Chosen
 chosen card address =
     choose (packPasses card address)

@@ -133,10 +133,10 @@ fn pack_passes(image: &[u8], start: u32) -> bool
 pub fn is_newer(first: Checkpoint, second: Checkpoint) -> bool
     ensures { λ r. ⌜ r ≡ newer first second ⌝ }
 {
-    let one = first.checkpoint_ver;
-    let other = second.checkpoint_ver;
-    let difference = std::num::wrapping_sub_u64(other, one);
-    (0 < difference) & (difference < 9223372036854775808)
+    let from = first.checkpoint_ver;
+    let to = second.checkpoint_ver;
+    let difference = std::num::wrapping_sub_u64(to, from);
+    (0 < difference) & (difference < 0x8000000000000000)
 }
 
 // The first of two packs that passes; the other is tested only if that one doesn't.

@@ -99,6 +99,8 @@ fn expect_pack(json: &Json, pack: Option<&Pack>, in_use: bool) {
     assert_eq!(json.get("reason").is_some(), pack.is_none());
     if let Some(pack) = pack {
         assert_eq!(json["version"].number(), pack.version);
+        let hex = format!("{:016x}", pack.version);
+        assert_eq!(json["version_hex"].text(), hex);
         assert_eq!(texts(&json["flags"]), flag_names(pack.flags));
         assert_eq!(flag(&json["clean"]), pack.flags & CP_UMOUNT_FLAG != 0);
     }
