@@ -3,9 +3,17 @@
 use std::collections::BTreeMap;
 use std::fmt::Debug;
 
-/// An answer is its number, or that with more of the result.
-#[derive(Default)]
+use crate::cards::image::Image;
+use crate::cards::versions::Apart;
+
+/// An answer is its number, or that with more of the result; or whatever else has to come up.
 pub struct Answers<T = u32>(BTreeMap<T, u64>);
+
+impl<T> Default for Answers<T> {
+    fn default() -> Answers<T> {
+        Answers(BTreeMap::new())
+    }
+}
 
 impl<T: Ord + Debug> Answers<T> {
     pub fn note(&mut self, answer: T) {
@@ -18,6 +26,15 @@ impl<T: Ord + Debug> Answers<T> {
         for answer in answers {
             let seen = self.0.contains_key(answer);
             assert!(seen, "answer {answer:?} never came up");
+        }
+    }
+}
+
+impl Answers<Apart> {
+    /// Of a card with two packs, how their versions lie to each other.
+    pub fn note_versions(&mut self, image: &Image) {
+        if let [Some(first), Some(second)] = image.versions() {
+            self.note(Apart::of([first, second]));
         }
     }
 }

@@ -1,7 +1,7 @@
 //! A card with files in it. Nodes get their numbers and blocks in no order, so that the lists of a
 //! pull have to be sorted, and what nothing decides is junk.
 
-use std::collections::BTreeMap;
+use std::collections::{BTreeMap, BTreeSet};
 
 use crate::cards::image::Image;
 use crate::cards::knobs::{Knobs, Pack};
@@ -143,6 +143,43 @@ impl Card {
         let (block, at) = self.pack.journal_place().expect("a journal");
         let block = self.image.first_block(self.which_pack) + block;
         self.image.put_journal(block, at, &entries);
+    }
+}
+
+/// Checkpoints that follow each other.
+impl Card {
+    /// Writes the next checkpoint over the other pack, as Linux does. These nodes, by their file and place, are in other
+    /// blocks then. Table blocks that say so are in their other copies, so that the pack before leads where it led.
+    pub fn checkpoint(&mut self, version: u64, moved: &[(u32, u32)]) {
+        let nodes = moved.iter().map(|key| self.nodes[key].nid);
+        let table_blocks: BTreeSet<u32> = nodes.map(|nid| nid / ENTRIES_PER_BLOCK).collect();
+        for block in table_blocks {
+            self.image.copy_nat_block(block, self.pack.nat_copy(block));
+            self.pack.turn_nat_copy(block);
+        }
+        for &key in moved {
+            self.move_node(key);
+        }
+        self.which_pack = self.image.copy_pack(self.which_pack);
+        self.image.put_nat_map(self.which_pack, &self.pack.nat_map);
+        self.image.set_version(self.which_pack, version);
+        self.pack.version = version;
+    }
+
+    fn move_node(&mut self, key: (u32, u32)) {
+        let Node { nid, block } = self.nodes[&key];
+        let bytes = self.image.block(block).to_vec();
+        let block_addr = self.free_block();
+        self.image.put("moved node", block_addr, 0, &bytes);
+        let copy = self.pack.nat_copy(nid / ENTRIES_PER_BLOCK);
+        let entry = self.image.nat_entry(nid, copy);
+        let moved = NatEntry {
+            block_addr,
+            ..entry
+        };
+        self.image.set_nat_entry(nid, copy, moved);
+        let block = block_addr;
+        self.nodes.insert(key, Node { nid, block });
     }
 }
 

@@ -12,6 +12,7 @@ use crate::cards::layout::checkpoint::SIT_NAT_VERSION_BITMAP;
 use crate::cards::layout::nat::{NatEntry, ENTRIES_PER_BLOCK, MAP_BYTES_PER_SEGMENT};
 use crate::cards::layout::{checkpoint, footer, journal, nat, superblock};
 use crate::cards::layout::{Field, BLOCK_SIZE, SEGMENT_BLOCKS};
+use crate::cards::versions;
 use crate::sizes::CARD_BLOCKS_MOST;
 use crate::trial::Random;
 
@@ -189,13 +190,17 @@ impl Image {
         offset == checkpoint::CHECKSUM.at as u64
     }
 
-    /// Which of the packs that are there is in use, if they are sound: the greater version's, or the first.
-    pub fn pack_in_use(&self) -> usize {
-        let [first, second] = [0, 1].map(|which| {
+    /// The versions of the packs that are there.
+    pub fn versions(&self) -> [Option<u64>; 2] {
+        [0, 1].map(|which| {
             let version = self.get(self.first_block(which), checkpoint::CHECKPOINT_VER);
             self.has_pack(which).then_some(version)
-        });
-        usize::from(second > first)
+        })
+    }
+
+    /// Which of the packs that are there is in use, if they are sound.
+    pub fn pack_in_use(&self) -> usize {
+        versions::of_those_there(self.versions()).expect("a pack")
     }
 
     /// A pack that is there, as far as its numbers and its SIT map go.
@@ -226,6 +231,38 @@ impl Image {
     pub fn set_sealed(&mut self, block: u32, field: Field, value: u64) {
         self.set(block, field, value);
         self.seal(block);
+    }
+
+    /// A version stands in the first and in the last block of its pack.
+    pub fn set_version(&mut self, which: usize, version: u64) {
+        for block in [self.first_block(which), self.last_block(which)] {
+            self.set_sealed(block, checkpoint::CHECKPOINT_VER, version);
+        }
+    }
+
+    pub fn set_versions(&mut self, versions: [u64; 2]) {
+        for (which, version) in versions.into_iter().enumerate() {
+            self.set_version(which, version);
+        }
+    }
+
+    /// Copies a pack over the other one. Returns which that is.
+    pub fn copy_pack(&mut self, which: usize) -> usize {
+        let first = self.first_block(which);
+        let other = self.first_block(1 - which);
+        for block in first..=self.last_block(which) {
+            let bytes = self.block(block).to_vec();
+            self.put("pack", other + block - first, 0, &bytes);
+        }
+        1 - which
+    }
+
+    /// Writes a pack's NAT map, or its first bytes.
+    pub fn put_nat_map(&mut self, which: usize, map: &[u8]) {
+        let first = self.first_block(which);
+        let sit_map = self.get(first, checkpoint::SIT_VER_BITMAP_BYTESIZE) as usize;
+        self.put("NAT map", first, SIT_NAT_VERSION_BITMAP + sit_map, map);
+        self.seal(first);
     }
 
     /// Writes a pack, over whatever is there.
@@ -265,6 +302,13 @@ impl Image {
         let pairs_before = table_block / SEGMENT_BLOCKS;
         let within = table_block % SEGMENT_BLOCKS;
         self.areas.nat + (2 * pairs_before + copy) * SEGMENT_BLOCKS + within
+    }
+
+    /// Copies a table block, with all its entries, over its other copy.
+    pub fn copy_nat_block(&mut self, table_block: u32, copy: u32) {
+        let bytes = self.block(self.nat_block(table_block, copy)).to_vec();
+        let other = self.nat_block(table_block, 1 - copy);
+        self.put("table block", other, 0, &bytes);
     }
 
     /// The block that has a number's entry, and the entry's first byte there.

@@ -7,6 +7,7 @@ use crate::cards::layout::sit::VER_BITMAP_BYTES;
 use crate::cards::layout::sit_journal::{self, SitJournalEntry};
 use crate::cards::layout::superblock::*;
 use crate::cards::layout::{Field, SEGMENT_BLOCKS};
+use crate::cards::versions;
 
 /// A checkpoint pack.
 #[derive(Clone, Debug)]
@@ -93,6 +94,14 @@ impl Pack {
     /// Which copy of a table block its map says is in use.
     pub fn nat_copy(&self, table_block: u32) -> u32 {
         bit(&self.nat_map, table_block)
+    }
+
+    /// Says of a table block that its other copy is in use.
+    pub fn turn_nat_copy(&mut self, table_block: u32) {
+        let byte = table_block as usize / 8;
+        let len = self.nat_map.len().max(byte + 1);
+        self.nat_map.resize(len, 0);
+        self.nat_map[byte] ^= 0x80 >> (table_block % 8);
     }
 
     pub fn sit_copy(&self, table_block: u32) -> u32 {
@@ -194,17 +203,12 @@ impl Knobs {
         Knobs { packs, ..self }
     }
 
-    /// The pack with the greater version, or the first of two with the same; and which it is.
+    /// The pack in use, and which it is.
     pub fn pack_in_use(&self) -> (usize, &Pack) {
-        let there = self.packs.iter().flatten();
-        let greatest = there.map(|pack| pack.version).max();
-        let is_greatest = |pack: &Pack| Some(pack.version) == greatest;
-        let mut packs = self.packs.iter().enumerate();
-        packs
-            .find_map(|(which, pack)| {
-                Some((which, pack.as_ref().filter(|pack| is_greatest(pack))?))
-            })
-            .expect("a pack")
+        let there = self.packs.each_ref().map(Option::as_ref);
+        let versions = there.map(|pack| pack.map(|pack| pack.version));
+        let which = versions::of_those_there(versions).expect("a pack");
+        (which, there[which].expect("a pack"))
     }
 
     pub fn areas(&self) -> Areas {

@@ -15,4 +15,5 @@ pub mod random_files;
 pub mod random_segments;
 pub mod segments;
 pub mod tree;
+pub mod versions;
 pub mod walk_damage;

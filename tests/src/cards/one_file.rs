@@ -79,6 +79,17 @@ impl Scene {
         self.card.inode_block(self.ino)
     }
 
+    /// The next checkpoint, after a block of the file was written anew: so are the nodes on its way. Returns the block.
+    pub fn rewrite(&mut self, version: u64, index: u32) -> u32 {
+        let way = self.card.way(self.ino, index);
+        let moved: Vec<_> = way
+            .iter()
+            .map(|passage| (self.ino, passage.place))
+            .collect();
+        self.card.checkpoint(version, &moved);
+        self.card.add_block(self.ino, index)
+    }
+
     /// The lists of a pull that looked up so many nodes of a way and read so many of them.
     pub fn lists(&self, way: &[Passage], looked_up: usize, read: usize) -> (Vec<u32>, Vec<u32>) {
         let nids = way[..looked_up].iter().map(|passage| passage.node.nid);

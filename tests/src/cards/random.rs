@@ -7,6 +7,7 @@ use crate::cards::layout::checkpoint::{CP_COMPACT_SUM_FLAG, CP_LARGE_NAT_BITMAP_
 use crate::cards::layout::journal::{JournalEntry, MOST_ENTRIES};
 use crate::cards::layout::nat::NatEntry;
 use crate::cards::layout::SEGMENT_BLOCKS;
+use crate::cards::versions::Apart;
 use crate::trial::Random;
 
 pub fn pick<T: Copy>(random: &mut Random, choices: &[T]) -> T {
@@ -34,7 +35,7 @@ pub fn within(random: &mut Random, range: &RangeInclusive<u64>) -> u64 {
 pub fn sound_knobs(random: &mut Random) -> Knobs {
     let there = [[true, true], [true, false], [false, true]];
     let copies = pick(random, &there);
-    let packs = pick(random, &there).map(|there| there.then(|| sound_pack(random)));
+    let packs = sound_packs(random);
     Knobs {
         log_sectorsize: between(random, 9, 12),
         segs_per_sec: between(random, 1, u32::MAX),
@@ -54,15 +55,21 @@ pub fn sound_knobs(random: &mut Random) -> Knobs {
     }
 }
 
-fn sound_pack(random: &mut Random) -> Pack {
+/// Every other time two, whose versions lie to each other in any way.
+fn sound_packs(random: &mut Random) -> [Option<Pack>; 2] {
+    let both = [true, true];
+    let there = pick(random, &[both, both, [true, false], [false, true]]);
+    let versions = pick(random, &Apart::ALL).any(random);
+    [0, 1].map(|which| there[which].then(|| sound_pack(random, versions[which])))
+}
+
+fn sound_pack(random: &mut Random, version: u64) -> Pack {
     // Any flags but the one that makes a pack unreadable.
     let flags = random.number() as u32 & !CP_LARGE_NAT_BITMAP_FLAG;
     let compact = flags & CP_COMPACT_SUM_FLAG != 0;
     let total = between(random, if compact { 3 } else { 8 }, SEGMENT_BLOCKS);
     let entries = between(random, 0, MOST_ENTRIES as u32);
-    let any_version = random.number();
     Pack {
-        version: pick(random, &[1, 2, any_version]),
         total,
         flags,
         start_sum: if compact {
@@ -72,7 +79,7 @@ fn sound_pack(random: &mut Random) -> Pack {
         },
         nat_map: random.bytes(256),
         journal: (0..entries).map(|_| journal_entry(random)).collect(),
-        ..Pack::compact(0)
+        ..Pack::compact(version)
     }
 }
 

@@ -16,20 +16,20 @@ use harptimber_tests::trial::Random;
 use harptimber_tests::Compared;
 
 /// The block behind the first indirect node of 923 addresses.
-const INDEX: u32 = 2959;
+pub const INDEX: u32 = 2959;
 const SIZE: u64 = (INDEX as u64 + 1) * BLOCK_SIZE as u64;
 /// Data, a hole, a missing name, past the end.
 const CALLS: [(&[u8], u32); 4] = [(NAME, INDEX), (NAME, 7), (b"road", 0), (NAME, INDEX + 1)];
 
 /// A kept card, and the new one, so far the same.
-struct Cards {
+pub struct Cards {
     kept: Image,
-    scene: Scene,
+    pub scene: Scene,
     /// The file's data.
     data: u32,
 }
 
-fn cards(random: &mut Random) -> Cards {
+pub fn cards(random: &mut Random) -> Cards {
     let setting = Setting {
         root_inline: 0,
         file_inline: 0,
@@ -45,7 +45,7 @@ fn cards(random: &mut Random) -> Cards {
     }
 }
 
-fn pulls(kept: &Image) -> [Kept<'_>; 4] {
+pub fn pulls(kept: &Image) -> [Kept<'_>; 4] {
     let pulls = CALLS.map(|(name, index)| Kept::new(kept, name, index));
     let answers = [0, 1, 2, 3].map(|n: usize| pulls[n].outcome.pulled.answer);
     assert_eq!(answers, [0, 1, 2, 3], "pulls from {kept:?}");
@@ -297,7 +297,7 @@ fn newer_packs() {
         for pack in [
             Pack::compact(2),
             Pack::plain(9, 0),
-            Pack::plain(u64::MAX, CP_UMOUNT_FLAG),
+            Pack::plain(1 << 63, CP_UMOUNT_FLAG),
         ] {
             card.image.add_pack(1, &with_map(&map, pack), &knobs);
             compares.expect(kept, &card.image, SAME);
@@ -316,12 +316,11 @@ fn newer_packs() {
 /// The table block of `nid` is taken from its other copy. Returns the lowest listed number in it.
 fn add_other_map(image: &mut Image, knobs: &Knobs, map: &[u8], nodes: &[u32], nid: u32) -> u32 {
     let table_block = nid / ENTRIES_PER_BLOCK;
-    let mut nat_map = map.to_vec();
-    nat_map[table_block as usize / 8] ^= 0x80 >> (table_block % 8);
-    let pack = Pack {
-        nat_map,
+    let mut pack = Pack {
+        nat_map: map.to_vec(),
         ..Pack::compact(2)
     };
+    pack.turn_nat_copy(table_block);
     image.add_pack(1, &pack, knobs);
     let mut within = nodes
         .iter()

@@ -1,5 +1,6 @@
 //! Compare.
 
 mod changes;
+mod checkpoints;
 mod lists;
 mod random;

@@ -2,13 +2,15 @@
 
 use std::ops::RangeInclusive;
 
+use harptimber_tests::calls::answers::Answers;
 use harptimber_tests::calls::lookups::Lookups;
 use harptimber_tests::cards::damage::Damage;
 use harptimber_tests::cards::image::Image;
 use harptimber_tests::cards::knobs::Knobs;
-use harptimber_tests::cards::layout::nat::ENTRIES_PER_BLOCK;
+use harptimber_tests::cards::layout::nat::{NatEntry, ENTRIES_PER_BLOCK};
 use harptimber_tests::cards::layout::BLOCK_SIZE;
 use harptimber_tests::cards::random::{pick, sound_knobs, within};
+use harptimber_tests::cards::versions::Apart;
 use harptimber_tests::trial::Random;
 
 /// A number to look up: in the journal, at a border, or any.
@@ -24,20 +26,34 @@ fn number(knobs: &Knobs, random: &mut Random) -> u32 {
     pick(random, &numbers)
 }
 
+/// The entry of a number by the pack in use.
+fn entry_in_use(knobs: &Knobs, image: &Image, number: u32) -> NatEntry {
+    let (_, pack) = knobs.pack_in_use();
+    let journalled = pack.journal.iter().find(|entry| entry.nid == number);
+    let copy = pack.nat_copy(number / ENTRIES_PER_BLOCK);
+    journalled.map_or_else(|| image.nat_entry(number, copy), |found| found.entry)
+}
+
 /// Bytes that no rule consults are junk.
 #[test]
 fn sound_cards() {
     let mut lookups = Lookups::new("node lookup in random cards");
+    let mut met = Answers::default();
     for _ in 0..lookups.trial.times(150) {
         let knobs = sound_knobs(&mut lookups.trial.random);
         let image = Image::new(&knobs);
+        met.note_versions(&image);
         for _ in 0..50 {
             let number = number(&knobs, &mut lookups.trial.random);
-            let in_range = 0 < number && number < knobs.node_numbers();
-            lookups.expect(&image, number, if in_range { 0 } else { 9 });
+            if 0 < number && number < knobs.node_numbers() {
+                lookups.expect_entry(&image, number, entry_in_use(&knobs, &image, number));
+            } else {
+                lookups.expect(&image, number, 9);
+            }
         }
     }
     lookups.finish(150 * 50, &[0, 9]);
+    met.finish(&Apart::ALL);
 }
 
 /// Damages random cards, each time with so many strikes. They are undone before the next ones, so

@@ -1,10 +1,16 @@
 //! Node lookup: which checkpoint packs pass, and which of them is chosen.
 
+use std::array::IntoIter;
+use std::iter::Cycle;
+
+use harptimber_tests::calls::answers::Answers;
 use harptimber_tests::calls::lookups::{distinct_entry, journalled, Lookups};
 use harptimber_tests::cards::image::Image;
 use harptimber_tests::cards::knobs::{Knobs, Pack};
 use harptimber_tests::cards::layout::checkpoint::*;
 use harptimber_tests::cards::layout::{superblock, Field};
+use harptimber_tests::cards::random::pick;
+use harptimber_tests::cards::versions::{of_two, Apart, CHOSEN, HALF};
 
 const NUMBER: u32 = 3;
 const PACKS: [usize; 2] = [0, 1];
@@ -205,32 +211,6 @@ fn other_numbers_of_the_last_block() {
     lookups.finish(2 * 5, &[0]);
 }
 
-#[test]
-fn chosen_by_version() {
-    let mut lookups = Lookups::new("node lookup by the packs' versions");
-    let halves = [(1 << 32) + 2, (2 << 32) + 1];
-    let rising = [
-        [0, 1],
-        [5, 6],
-        [u64::from(u32::MAX), 1 << 32],
-        [5, 1 << 63],
-        [(1 << 63) - 1, 1 << 63],
-        [u64::MAX - 1, u64::MAX],
-        [0, u64::MAX],
-        halves,
-    ];
-    let bits = (0..64).map(|bit| [0, 1 << bit]);
-    for [less, greater] in rising.into_iter().chain(bits) {
-        expect_chosen(&mut lookups, &with_two([less, greater]), 1);
-        expect_chosen(&mut lookups, &with_two([greater, less]), 0);
-    }
-    // If equal, the first; 5 and 5 are on the bench sheet.
-    for version in [0, 5, 1 << 32, 1 << 63, u64::MAX] {
-        expect_chosen(&mut lookups, &with_two([version, version]), 0);
-    }
-    lookups.finish(2 * 72 + 5, &[0]);
-}
-
 /// Makes a pack not pass in one of several ways.
 type Spoil = fn(&mut Image, usize);
 const SPOILS: [Spoil; 7] = [
@@ -238,17 +218,135 @@ const SPOILS: [Spoil; 7] = [
     |image, which| image.set(image.last_block(which), CHECKSUM, 0),
     |image, which| image.set_sealed(image.first_block(which), CHECKSUM_OFFSET, 0),
     |image, which| image.set_sealed(image.last_block(which), CHECKSUM_OFFSET, 0),
-    |image, which| image.set_sealed(image.last_block(which), CHECKPOINT_VER, 99),
+    |image, which| {
+        let version = image.get(image.first_block(which), CHECKPOINT_VER);
+        let newer = version.wrapping_add(1);
+        image.set_sealed(image.last_block(which), CHECKPOINT_VER, newer);
+    },
     |image, which| image.set_sealed(image.first_block(which), CP_PACK_TOTAL_BLOCK_COUNT, 1),
     |image, which| image.set_sealed(image.first_block(which), CP_PACK_TOTAL_BLOCK_COUNT, 513),
 ];
+
+/// Choices between the two packs of one card, whose versions change again and again.
+struct Choices {
+    lookups: Lookups,
+    image: Image,
+    ways: Cycle<IntoIter<Spoil, 7>>,
+}
+
+impl Choices {
+    fn new(name: &'static str) -> Choices {
+        Choices {
+            lookups: Lookups::new(name),
+            image: with_two([0, 0]),
+            ways: SPOILS.into_iter().cycle(),
+        }
+    }
+
+    /// Expects the chosen pack of two that pass; of one, that one; and of none 7.
+    fn expect(&mut self, versions: [u64; 2], chosen: usize) {
+        self.image.set_versions(versions);
+        let mark = self.image.mark();
+        for passing in [[true, true], [true, false], [false, true], [false, false]] {
+            for which in PACKS.into_iter().filter(|&which| !passing[which]) {
+                let spoil = self.ways.next().expect("a way");
+                spoil(&mut self.image, which);
+            }
+            let (lookups, image) = (&mut self.lookups, &self.image);
+            match passing {
+                [true, true] => expect_chosen(lookups, image, chosen),
+                [false, false] => lookups.expect(image, NUMBER, 7),
+                [first_passes, _] => expect_chosen(lookups, image, usize::from(!first_passes)),
+            }
+            self.image.undo(mark);
+        }
+        self.image.undo(0);
+    }
+
+    /// Ends the trial, in which so many pairs of versions were to be tried.
+    fn finish(self, pairs: u64) {
+        self.lookups.finish(4 * pairs, &[0, 7]);
+    }
+}
+
+#[test]
+fn versions_of_the_papers() {
+    let mut choices = Choices::new("node lookup by the papers' versions");
+    for (versions, chosen) in CHOSEN {
+        choices.expect(versions, chosen);
+    }
+    choices.finish(22);
+}
+
+/// Each with each, in both orders.
+#[test]
+fn versions_in_pairs() {
+    let mut choices = Choices::new("node lookup by pairs of versions");
+    let near = |version: u64| [-2, -1, 0, 1, 2].map(|by| version.wrapping_add_signed(by));
+    let ends = [0, HALF].into_iter().flat_map(near);
+    let lower_half = [(1 << 31) - 1, 1 << 31, (1 << 32) - 1, 1 << 32];
+    let opposite = [(1 << 32) + 2, (2 << 32) + 1];
+    let opposite_from_top = opposite.map(|version| u64::MAX - version);
+    let others = [[5, HALF + 5], opposite, opposite_from_top];
+    let versions: Vec<u64> = ends
+        .chain(lower_half)
+        .chain(others.into_iter().flatten())
+        .collect();
+    for &first in &versions {
+        for &second in &versions {
+            choices.expect([first, second], of_two([first, second]));
+        }
+    }
+    choices.finish(20 * 20);
+}
+
+/// From several versions on: of each bit, and one less and one more. Only the difference decides.
+#[test]
+fn differences_of_versions() {
+    let mut choices = Choices::new("node lookup by differences of versions");
+    let bits = (0..64).flat_map(|bit| [-1, 0, 1].map(|by| (1u64 << bit).wrapping_add_signed(by)));
+    for difference in bits {
+        for start in [0, 5, u64::from(u32::MAX), HALF - 1, HALF, u64::MAX] {
+            let up = start.wrapping_add(difference);
+            let second_wins = 0 < difference && difference < HALF;
+            choices.expect([start, up], usize::from(second_wins));
+            let second_wins_back = difference > HALF;
+            choices.expect([up, start], usize::from(second_wins_back));
+        }
+    }
+    choices.finish(64 * 3 * 6 * 2);
+}
+
+/// Any two versions, and pairs of each kind.
+#[test]
+fn random_versions() {
+    const PAIRS: u64 = 400;
+    let mut choices = Choices::new("node lookup by random versions");
+    let mut met = Answers::default();
+    for _ in 0..choices.lookups.trial.times(PAIRS) {
+        let random = &mut choices.lookups.trial.random;
+        let any_two = [random.number(), random.number()];
+        let of_a_kind = pick(random, &Apart::ALL).any(random);
+        for versions in [any_two, of_a_kind] {
+            met.note(Apart::of(versions));
+            choices.expect(versions, of_two(versions));
+        }
+    }
+    choices.finish(2 * PAIRS);
+    met.finish(&Apart::ALL);
+}
 
 /// With one pack spoilt the other is chosen, whichever is newer; with both the answer is 7.
 #[test]
 fn one_or_both_packs_spoilt() {
     let mut lookups = Lookups::new("node lookup with packs spoilt");
-    for versions in [[5, 5], [5, 6], [6, 5]] {
-        let mut image = with_two(versions);
+    let over_the_wrap = [[u64::MAX, 0], [0, u64::MAX]];
+    let half_apart = [[5, HALF + 5], [HALF + 5, 5]];
+    let plain = [[5, 5], [5, 6], [6, 5]];
+    let mut image = with_two([0, 0]);
+    for versions in plain.into_iter().chain(over_the_wrap).chain(half_apart) {
+        image.set_versions(versions);
+        let sound = image.mark();
         for which in PACKS {
             for spoil in SPOILS {
                 spoil(&mut image, which);
@@ -259,20 +357,21 @@ fn one_or_both_packs_spoilt() {
                     lookups.expect(&image, NUMBER, 7);
                     image.undo(mark);
                 }
-                image.undo(0);
+                image.undo(sound);
             }
         }
     }
-    lookups.finish(3 * 2 * 7 * 8, &[0, 7]);
+    lookups.finish(7 * 2 * 7 * 8, &[0, 7]);
 }
 
 /// A pack that passes but isn't readable: if chosen the answer is 8, else it isn't consulted.
 #[test]
 fn unreadable_pack() {
     let mut lookups = Lookups::new("node lookup with an unreadable pack");
-    for (versions, chosen) in [([5, 5], 0), ([6, 5], 0), ([5, 6], 1)] {
-        let mut image = with_two(versions);
+    let mut image = with_two([0, 0]);
+    for (versions, chosen) in CHOSEN {
         for which in PACKS {
+            image.set_versions(versions);
             let first = image.first_block(which);
             image.set_sealed(first, CKPT_FLAGS, u64::from(CP_LARGE_NAT_BITMAP_FLAG));
             if which == chosen {
@@ -283,7 +382,7 @@ fn unreadable_pack() {
             image.undo(0);
         }
     }
-    lookups.finish(3 * 2, &[0, 8]);
+    lookups.finish(22 * 2, &[0, 8]);
 }
 
 /// Packs start at the checkpoint address of the copy used, wherever that is.

@@ -12,6 +12,7 @@ use harptimber_tests::cards::layout::nat::NatEntry;
 use harptimber_tests::cards::layout::{slots, Field, BLOCK_SIZE};
 use harptimber_tests::cards::names::good_name;
 use harptimber_tests::cards::tree;
+use harptimber_tests::cards::versions::CHOSEN;
 use harptimber_tests::node_lookup;
 use harptimber_tests::tools::outside::{inode_number, CardFile, Opinions, Reader};
 use harptimber_tests::tools::published::{
@@ -26,6 +27,7 @@ const ALL: [Reader; 4] = [
     Reader::Dump,
 ];
 const FIRST: [Reader; 3] = [Reader::Harptimber, Reader::GrubCat, Reader::Dump];
+const WITHOUT_GRUB: [Reader; 2] = [Reader::Harptimber, Reader::Dump];
 
 /// Expects all files of an image from these readers.
 fn expect_files(opinions: &mut Opinions, readers: &[Reader], image: &Image, files: &[File]) {
@@ -155,7 +157,6 @@ fn others_beside() {
 /// GRUB ends its search of a directory block at a name of 255 bytes, so that such a card isn't for it.
 #[test]
 fn longest_names() {
-    let readers = [Reader::Harptimber, Reader::Dump];
     let mut random = Random::new(5);
     let mut file = |len| {
         (
@@ -166,8 +167,8 @@ fn longest_names() {
     let files = [255, 254, 255, 8].map(&mut file);
     let image = filled_with(64, "", &files);
     let mut opinions = Opinions::new("outside readers, the longest names");
-    expect_files(&mut opinions, &readers, &image, &files);
-    opinions.finish(&least(&readers, 4));
+    expect_files(&mut opinions, &WITHOUT_GRUB, &image, &files);
+    opinions.finish(&least(&WITHOUT_GRUB, 4));
 }
 
 const LONG: &[u8] = b"long";
@@ -219,8 +220,7 @@ fn holes() {
     let (mut image, long) = long_file(&mut Random::new(6));
     let holed = with_holes(&long, ends());
     let mut opinions = Opinions::new("outside readers, holes");
-    let without_grub = [Reader::Harptimber, Reader::Dump];
-    for (address, readers) in [(0, &ALL[..]), (u32::MAX, &without_grub)] {
+    for (address, readers) in [(0, &ALL[..]), (u32::MAX, &WITHOUT_GRUB)] {
         for index in ends() {
             let way = way(&image, index);
             let (block, slot) = way[way.len() - 1];
@@ -251,15 +251,10 @@ fn holes_for_nodes() {
         image.set(block, slot, 0);
         let holed = with_holes(&long, first(node)..LONG_BLOCKS.min(first(node + nodes)));
         let files = [(LONG.to_vec(), holed)];
-        expect_files(
-            &mut opinions,
-            &[Reader::Harptimber, Reader::Dump],
-            &image,
-            &files,
-        );
+        expect_files(&mut opinions, &WITHOUT_GRUB, &image, &files);
         image.undo(0);
     }
-    opinions.finish(&[(Reader::Harptimber, 5), (Reader::Dump, 5)]);
+    opinions.finish(&least(&WITHOUT_GRUB, 5));
 }
 
 /// An inode with more addresses: sload.f2fs writes none, but the 50 behind its 873 are 0, so holes, once
@@ -307,33 +302,22 @@ fn put_plain(image: &mut Image, which: usize, entries: &[JournalEntry]) {
 /// Makes the second pack one version newer than the first.
 fn make_second_newer(image: &mut Image) {
     let version = image.get(image.first_block(0), CHECKPOINT_VER) + 1;
-    for block in [image.first_block(1), image.last_block(1)] {
-        image.set_sealed(block, CHECKPOINT_VER, version);
-    }
+    image.set_version(1, version);
 }
 
 /// Copies the first pack over the second, and makes that one newer.
 fn copy_to_newer(image: &mut Image) {
-    let [first, second] = [0, 1].map(|which| image.first_block(which));
-    for block in first..=image.last_block(0) {
-        let bytes = image.block(block).to_vec();
-        image.put("pack", second + block - first, 0, &bytes);
-    }
+    image.copy_pack(0);
     make_second_newer(image);
 }
 
 /// The second copy of the first table block has these entries, and the second pack's map says so.
 fn use_second_copy(image: &mut Image, right: &[JournalEntry]) {
-    let bytes = image.block(image.nat_block(0, 0)).to_vec();
-    image.put("table block", image.nat_block(0, 1), 0, &bytes);
+    image.copy_nat_block(0, 0);
     for &JournalEntry { nid, entry } in right {
         image.set_nat_entry(nid, 1, entry);
     }
-    let pack = image.first_block(1);
-    let sit_map = image.get(pack, SIT_VER_BITMAP_BYTESIZE) as usize;
-    let at = SIT_NAT_VERSION_BITMAP + sit_map;
-    image.put("NAT map", pack, at, &[0x80]);
-    image.seal(pack);
+    image.put_nat_map(1, &[0x80]);
 }
 
 /// The table is wrong about some nodes. What is right stands in the journal of the first pack, in that
@@ -369,4 +353,55 @@ fn tables() {
         image.undo(0);
     }
     opinions.finish(&least(&ALL, 4));
+}
+
+const ROAD: &[u8] = b"road.bin";
+
+/// Writes other bytes of the file behind everything on the card, under an inode of their own there. Returns the table's
+/// entry for that.
+fn write_anew(image: &mut Image, bytes: &[u8]) -> JournalEntry {
+    let nid = inode_number(image, ROAD);
+    let entry = image.nat_entry(nid, 0);
+    let mut free = (image.areas.main..image.areas.main_end).rev();
+    let block_addr = free.next().expect("a block");
+    let inode = image.block(entry.block_addr).to_vec();
+    image.put("inode", block_addr, 0, &inode);
+    for (index, part) in bytes.chunks(BLOCK_SIZE).enumerate() {
+        let block = free.next().expect("a block");
+        image.put("data", block, 0, part);
+        let slot = slots::I_ADDR.moved(index * slots::SIZE);
+        image.set(block_addr, slot, block.into());
+    }
+    let entry = NatEntry {
+        block_addr,
+        ..entry
+    };
+    JournalEntry { nid, entry }
+}
+
+/// Two packs that differ in where the file is, by their maps, and in their versions, which alone decide. To GRUB the
+/// greater number is the newer version, so it isn't asked where the smaller one is chosen, or the first of two half apart.
+#[test]
+fn versions() {
+    let mut random = Random::new(10);
+    let files = [0, 1].map(|_| [(ROAD.to_vec(), contents(&mut random, 50_000))]);
+    let mut image = filled_with(64, "", &files[0]);
+    let anew = write_anew(&mut image, &files[1][0].1);
+    image.copy_pack(0);
+    use_second_copy(&mut image, &[anew]);
+    image.settle("the file written anew for the second pack");
+    let mut opinions = Opinions::new("outside readers, versions of two packs");
+    for (versions, chosen) in CHOSEN {
+        let greater = usize::from(versions[1] > versions[0]);
+        let readers = if chosen == greater {
+            &ALL[..]
+        } else {
+            &WITHOUT_GRUB
+        };
+        image.set_versions(versions);
+        expect_files(&mut opinions, readers, &image, &files[chosen]);
+        image.undo(0);
+    }
+    let by_grub = least(&[Reader::GrubCat, Reader::GrubCp], 13);
+    opinions.finish(&[least(&WITHOUT_GRUB, 22), by_grub].concat());
 }

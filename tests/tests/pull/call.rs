@@ -2,10 +2,10 @@
 
 use harptimber_tests::calls::lent::Lens;
 use harptimber_tests::calls::pulls::{Call, Pulls};
-use harptimber_tests::cards::card::{Card, ROOT};
-use harptimber_tests::cards::directory::{in_slot, Dentry};
+use harptimber_tests::cards::card::ROOT;
+use harptimber_tests::cards::directory::in_slot;
 use harptimber_tests::cards::image::Image;
-use harptimber_tests::cards::knobs::{Knobs, Pack};
+use harptimber_tests::cards::knobs::Knobs;
 use harptimber_tests::cards::layout::checkpoint::{
     CHECKSUM_OFFSET, CKPT_FLAGS, CP_LARGE_NAT_BITMAP_FLAG,
 };
@@ -16,7 +16,6 @@ use harptimber_tests::cards::layout::{dentry, footer, nat, Field, BLOCK_SIZE};
 use harptimber_tests::cards::names::good_name;
 use harptimber_tests::cards::one_file::{Scene, Setting, NAME};
 use harptimber_tests::sizes::CARD_BLOCKS_MOST;
-use harptimber_tests::trial::Random;
 
 const PLAIN: Setting = Setting {
     root_inline: 0,
@@ -255,37 +254,6 @@ fn journal_counts() {
         pulls.expect(&card.image, NAME, 0, answer);
     }
     pulls.finish(5, &[0, 8, 11]);
-}
-
-/// A card whose two packs have different maps, of which one leads to the files.
-fn with_two_packs(versions: [u64; 2], random: &mut Random) -> Card {
-    let maps = [0x00, 0xFF].map(|byte| vec![byte; 64]);
-    let packs = [0, 1].map(|which| {
-        Some(Pack {
-            nat_map: maps[which].clone(),
-            ..Pack::compact(versions[which])
-        })
-    });
-    let knobs = Knobs {
-        packs,
-        ..Knobs::sound()
-    };
-    Card::new(knobs, Random::new(random.number()))
-}
-
-/// The bench sheet: versions 5 and 5, the first pack.
-#[test]
-fn packs_by_version() {
-    let mut pulls = Pulls::new("pull with two packs");
-    for versions in [[5, 5], [6, 5], [5, 6], [1, 1 << 63]] {
-        let mut card = with_two_packs(versions, &mut pulls.trial.random);
-        card.add_root(0, 1);
-        let ino = card.add_file(0, 1);
-        card.link(0, 0, &Dentry::new(NAME, ino));
-        let data = card.add_block(ino, 0);
-        pulls.expect_data(&card.image, NAME, 0, &card.image.block(data)[..1]);
-    }
-    pulls.finish(4, &[0]);
 }
 
 #[test]

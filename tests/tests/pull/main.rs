@@ -5,5 +5,6 @@ mod directory;
 mod file;
 mod kinds;
 mod nodes;
+mod packs;
 mod random;
 mod slots;

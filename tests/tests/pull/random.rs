@@ -2,11 +2,13 @@
 
 use std::ops::RangeInclusive;
 
+use harptimber_tests::calls::answers::Answers;
 use harptimber_tests::calls::pulls::Pulls;
 use harptimber_tests::cards::damage::Damage;
 use harptimber_tests::cards::names::good_name;
 use harptimber_tests::cards::random::within;
 use harptimber_tests::cards::random_files::{any_target, random_files, RandomFiles};
+use harptimber_tests::cards::versions::Apart;
 use harptimber_tests::cards::walk_damage::strike_either;
 
 /// One in so many damages is to what a card is opened by.
@@ -15,10 +17,12 @@ const OPENING: u64 = 6;
 /// Each target of each card, and names that aren't there.
 #[test]
 fn sound_cards() {
-    const CARDS: u64 = 40;
+    const CARDS: u64 = 150;
     let mut pulls = Pulls::new("pull from random cards");
+    let mut met = Answers::default();
     for _ in 0..pulls.trial.times(CARDS) {
         let RandomFiles { card, targets } = random_files(&mut pulls.trial.random);
+        met.note_versions(&card.image);
         for target in &targets {
             pulls.compare(&card.image, &target.name, target.index);
             let name = good_name(&mut pulls.trial.random, 6);
@@ -26,6 +30,7 @@ fn sound_cards() {
         }
     }
     pulls.finish(CARDS * 32, &[0, 1, 2]);
+    met.finish(&Apart::ALL);
 }
 
 /// Damages random cards, each time with so many strikes, which are undone before the next ones.

@@ -7,6 +7,7 @@ use harptimber_tests::cards::layout::sit::SitEntry;
 use harptimber_tests::cards::layout::sit_journal::{IN_COMPACT_BLOCK, IN_PLAIN_BLOCK};
 use harptimber_tests::cards::layout::superblock::{MAGIC, SEGMENT_COUNT_MAIN};
 use harptimber_tests::cards::segments::SegmentCard;
+use harptimber_tests::cards::versions::CHOSEN;
 
 use crate::{journalled, knobs, FLAGS};
 
@@ -132,7 +133,7 @@ fn pack_in_use() {
         ..Pack::compact(1)
     };
     let by_pack = [Report::of(&[0, 2], 1 + 4), Report::of(&[1, 3], 2 + 4)];
-    for (versions, chosen) in [([1, 2], 1), ([2, 1], 0), ([5, 5], 0), ([0, u64::MAX], 1)] {
+    for (versions, chosen) in CHOSEN {
         let packs = [pack(versions[0], 0x00, 2), pack(versions[1], 0xFF, 3)];
         let mut card = SegmentCard::new(&Knobs {
             main_segments: 4,
@@ -153,7 +154,7 @@ fn pack_in_use() {
         card.image.set(last, CHECKSUM, 0);
         reports.expect(&card.image, &by_pack[1 - chosen]);
     }
-    reports.finish(4 * 2, &[0]);
+    reports.finish(22 * 2, &[0]);
 }
 
 /// Copies of the superblock with different main segments. The list that is needed goes with them.

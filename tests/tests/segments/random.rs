@@ -2,6 +2,7 @@
 
 use std::ops::RangeInclusive;
 
+use harptimber_tests::calls::answers::Answers;
 use harptimber_tests::calls::segments::{needed, Report, Reports};
 use harptimber_tests::cards::damage::Damage;
 use harptimber_tests::cards::image::Image;
@@ -14,6 +15,7 @@ use harptimber_tests::cards::random_segments::{
     in_use, random_segments, sit_entry, sit_journal, RandomSegments,
 };
 use harptimber_tests::cards::segments::SegmentCard;
+use harptimber_tests::cards::versions::Apart;
 use harptimber_tests::trial::Random;
 
 /// Of up to 120 main segments, in any sound layout.
@@ -37,15 +39,18 @@ fn report(table: &[SitEntry], journal: &[SitJournalEntry]) -> Report {
 #[test]
 fn sound_cards() {
     let mut reports = Reports::new("segment report of random cards");
+    let mut met = Answers::default();
     for _ in 0..reports.trial.times(150) {
         let RandomSegments {
             card,
             table,
             journal,
         } = card(&mut reports.trial.random);
+        met.note_versions(&card.image);
         reports.expect(&card.image, &report(&table, &journal));
     }
     reports.finish(150, &[0]);
+    met.finish(&Apart::ALL);
 }
 
 /// Whatever bytes stand in the table and in the map.

@@ -95,14 +95,40 @@ fn indirect(cards: &[Card]) -> Grid {
 fn lookup(cards: &[Card], agreed: &mut Agreed) -> Grid {
     by_card(OFTEN, cards, |card| {
         let [nodes, _] = rested_on(card);
-        let (image, inode) = (card.image, *nodes.last().expect("an inode"));
-        let archive = move || harptimber_tests::node_lookup(black_box(image), inode);
-        let reference = move || reference_lookup(black_box(image), inode);
-        let found = archive();
-        let same = found.answer == 0 && reference() == Ok((found.inode, found.address));
-        agreed.see(same, &format!("a lookup on {} MB", card.megabytes));
-        vec![contender(archive), contender(reference)]
+        let inode = *nodes.last().expect("an inode");
+        let what = format!("a lookup on {} MB", card.megabytes);
+        lookups(card.image, inode, &what, agreed)
     })
+}
+
+/// Both sides look up a number.
+pub fn lookups<'a>(
+    image: &'a [u8],
+    number: u32,
+    what: &str,
+    agreed: &mut Agreed,
+) -> Vec<Contender<'a>> {
+    let archive = move || harptimber_tests::node_lookup(black_box(image), number);
+    let reference = move || reference_lookup(black_box(image), number);
+    let found = archive();
+    let same = found.answer == 0 && reference() == Ok((found.inode, found.address));
+    agreed.see(same, what);
+    vec![contender(archive), contender(reference)]
+}
+
+/// Both sides pull a file's first block.
+pub fn first_block<'a>(
+    image: &'a [u8],
+    name: &'a str,
+    what: &str,
+    agreed: &mut Agreed,
+) -> Vec<Contender<'a>> {
+    let [archive, reference] = PULLS.map(|pull| {
+        let mut lent = Lent::default();
+        (pull(image, name.as_bytes(), 0, &mut lent), lent.block)
+    });
+    agreed.see(archive.0.answer == 0 && archive == reference, what);
+    PULLS.map(|pull| pulling(pull, image, name, 0..1)).into()
 }
 
 /// A compare of a full list, all the same; then memcmp over the same blocks beside two openings.

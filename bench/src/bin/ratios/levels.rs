@@ -1,10 +1,8 @@
 //! Pulls from root directories of many levels: the name is the last that a search comes to.
 
-use crate::calls::LONGER;
-use crate::cards::PULLS;
+use crate::calls::{first_block, LONGER};
 use harptimber_bench::agreed::Agreed;
 use harptimber_bench::grid::Grid;
-use harptimber_bench::pulls::{pulling, Lent};
 use harptimber_tests::cards::card::Card;
 use harptimber_tests::cards::directory::{Dentry, BUCKET_BLOCKS};
 use harptimber_tests::cards::knobs::{Knobs, Pack};
@@ -20,14 +18,8 @@ const NAME: &str = "road.bin";
 pub fn levels(agreed: &mut Agreed) -> Grid {
     let images = DEPTHS.map(card);
     let columns = DEPTHS.iter().zip(&images).map(|(depth, image)| {
-        let [archive, reference] = PULLS.map(|pull| {
-            let mut lent = Lent::default();
-            (pull(image, NAME.as_bytes(), 0, &mut lent), lent.block)
-        });
-        let same = archive.0.answer == 0 && archive == reference;
-        agreed.see(same, &format!("a pull through {depth} levels"));
-        let sides = PULLS.map(|pull| pulling(pull, image, NAME, 0..1));
-        sides.into()
+        let what = format!("a pull through {depth} levels");
+        first_block(image, NAME, &what, agreed)
     });
     Grid::of(LONGER, columns.collect())
 }

@@ -4,6 +4,7 @@ mod calls;
 mod cards;
 mod levels;
 mod segments;
+mod versions;
 mod whole;
 
 use calls::{Calls, MEMCMP, SAME_BLOCK};
@@ -26,6 +27,7 @@ fn main() -> ExitCode {
     growth_with_segments(&mut agreed);
     whole_files(&whole::columns(&cards, &files), &mut agreed);
     checksum(&mut agreed);
+    packs_by_version(&mut agreed);
     agreed.finish()
 }
 
@@ -42,7 +44,7 @@ Every number in the tables is a ratio of two times of this run. No time is claim
               both are built for release
   GRUB        its F2FS reader, by {}
   cards       written by mkfs.f2fs {OPTIONS} and sload.f2fs, sparse files, mapped for reading; those of
-              tables 4 and 5 are built in memory
+              tables 4, 5 and 8 are built in memory
   buffers     warm: each card is in the page cache, mapped and read before; what is lent to a pull is
               lent again to the next one, and not cleared in between
   times       the processor's, user and system, children included: other load shows only where it
@@ -168,5 +170,23 @@ fn checksum(agreed: &mut Agreed) {
         "7. The checksum of a checkpoint block, which is most of an opening
    time of a loop over bits as a multiple of the archive's; higher is better. The compiler may turn
    that loop into one over a table, and is left to it",
+    );
+}
+
+fn packs_by_version(agreed: &mut Agreed) {
+    let grids = versions::by_versions(agreed);
+    let mut table = Table::new(versions::heads());
+    for (label, grid) in ["pull", "lookup"].iter().zip(grids) {
+        let parts = grid.parts(ARCHIVE, REFERENCE);
+        table.row(&format!("{label}, archive to reference/"), &parts);
+        for (side, name) in [(ARCHIVE, "archive"), (REFERENCE, "reference/")] {
+            let row = format!("{label}, {name} to its versions 1, 2");
+            table.row(&row, &grid.growth(side));
+        }
+    }
+    table.print(
+        "8. Two packs by their versions, of which the second is in use: a plain and a wrapped one
+   time as a part of reference/'s, then as a multiple of the same side's with plain versions; lower is
+   better. 1 throughout: the pack that isn't chosen costs no checksum, as if it weren't there",
     );
 }
