@@ -233,11 +233,13 @@ impl Image {
         self.seal(block);
     }
 
-    /// A version stands in the first and in the last block of its pack.
-    pub fn set_version(&mut self, which: usize, version: u64) {
-        for block in [self.first_block(which), self.last_block(which)] {
+    /// Gives a pack a version, in its first and its last block. Returns those.
+    pub fn set_version(&mut self, which: usize, version: u64) -> [u32; 2] {
+        let blocks = [self.first_block(which), self.last_block(which)];
+        for block in blocks {
             self.set_sealed(block, checkpoint::CHECKPOINT_VER, version);
         }
+        blocks
     }
 
     pub fn set_versions(&mut self, versions: [u64; 2]) {

@@ -81,7 +81,15 @@ const INNER_KEYS: [(&str, &[&str]); 9] = [
     ("copies", &["passes", "in_use", "reason"]),
     (
         "packs",
-        &["passes", "in_use", "reason", "version", "version_hex", "flags", "clean"],
+        &[
+            "passes",
+            "in_use",
+            "reason",
+            "version",
+            "version_hex",
+            "flags",
+            "clean",
+        ],
     ),
     ("partitions", &["number", "first", "bytes", "marked"]),
     (

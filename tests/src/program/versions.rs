@@ -1,64 +1,24 @@
-//! Which of two checkpoint packs that pass is in use, by their versions, and a card that has two.
+//! What is said of two checkpoint packs by their versions, and a card that has two.
 
 use crate::cards::image::Image;
 use crate::cards::knobs::{Knobs, Pack};
-use crate::cards::layout::checkpoint::CHECKPOINT_VER;
 use crate::cards::layout::journal::JournalEntry;
 use crate::cards::layout::nat::NatEntry;
 use crate::cards::layout::slots::I_ADDR;
+use crate::cards::versions::Apart;
 use crate::program::card::{ProgramCard, Put, ROAD};
 
-/// The first pack's version and the second's, which pack is in use, and what info says behind its version.
-pub type Choice = ([u64; 2], usize, &'static str);
-
-const WRAPS: &str = ", newer because versions wrap: 0 comes after 0xffffffffffffffff";
-const HALFWAY: &str =
-    ", exactly 2^63 from the other's: neither is newer, so the first pack is used";
-
-/// From the request: the second is in use exactly if second minus first, wrapped, is above zero as a signed number.
-/// Where that isn't the greater number, it is explained.
-pub const CHOICES: [Choice; 26] = [
-    ([5, 6], 1, ""),
-    ([6, 5], 0, ""),
-    // The same.
-    ([0, 0], 0, ""),
-    ([5, 5], 0, ""),
-    ([u64::MAX, u64::MAX], 0, ""),
-    // "Versions FFFFFFFFFFFFFFFF and 0 choose the 0."
-    ([0xFFFF_FFFF_FFFF_FFFF, 0], 1, WRAPS),
-    ([0, 0xFFFF_FFFF_FFFF_FFFF], 0, WRAPS),
-    ([0xFFFF_FFFF_FFFF_FFF0, 7], 1, WRAPS),
-    ([7, 0xFFFF_FFFF_FFFF_FFF0], 0, WRAPS),
-    // "A difference of exactly 2^63 keeps the first pack."
-    ([0, 0x8000_0000_0000_0000], 0, HALFWAY),
-    ([0x8000_0000_0000_0000, 0], 0, ""),
-    ([5, 0x8000_0000_0000_0005], 0, HALFWAY),
-    ([0x8000_0000_0000_0005, 5], 0, ""),
-    ([0x7FFF_FFFF_FFFF_FFFF, 0xFFFF_FFFF_FFFF_FFFF], 0, HALFWAY),
-    // One less than that, and one more.
-    ([5, 0x8000_0000_0000_0004], 1, ""),
-    ([0x8000_0000_0000_0004, 5], 0, ""),
-    ([5, 0x8000_0000_0000_0006], 0, WRAPS),
-    ([0x8000_0000_0000_0006, 5], 1, WRAPS),
-    // One apart where a signed number turns.
-    ([0x7FFF_FFFF_FFFF_FFFF, 0x8000_0000_0000_0000], 1, ""),
-    ([0x8000_0000_0000_0000, 0x7FFF_FFFF_FFFF_FFFF], 0, ""),
-    // 32 bits would turn or wrap.
-    ([0, 0x8000_0000], 1, ""),
-    ([0x8000_0000, 0], 0, ""),
-    ([0xFFFF_FFFF, 0], 0, ""),
-    ([0, 0xFFFF_FFFF], 1, ""),
-    ([0, 0x1_0000_0000], 1, ""),
-    ([0x1_0000_0000, 1], 0, ""),
-];
-
-/// Gives a pack a version, in both blocks that have it. Returns those.
-pub fn set_version(image: &mut Image, which: usize, version: u64) -> [u32; 2] {
-    let blocks = [image.first_block(which), image.last_block(which)];
-    for block in blocks {
-        image.set_sealed(block, CHECKPOINT_VER, version);
+/// What info says behind the version of the pack in use: why, where that is the smaller number.
+pub fn words_on_choice(versions: [u64; 2]) -> &'static str {
+    match Apart::of(versions) {
+        Apart::Newer { wrapped: true, .. } => {
+            ", newer because versions wrap: 0 comes after 0xffffffffffffffff"
+        }
+        Apart::Half {
+            second_greater: true,
+        } => ", exactly 2^63 from the other's: neither is newer, so the first pack is used",
+        _ => "",
     }
-    blocks
 }
 
 /// The road as a pack has it, and its inode's block there.

@@ -12,7 +12,7 @@ use harptimber_tests::program::card::{ProgramCard, EMPTY, LONG, NAMES, OUTSIDE, 
 use harptimber_tests::program::compares::Expected;
 use harptimber_tests::program::page::{expect_head, expect_name, shown};
 use harptimber_tests::program::special_build::SpecialBuild;
-use harptimber_tests::program::versions::{add_moved_road, set_version, MOVED_BYTE};
+use harptimber_tests::program::versions::{add_moved_road, MOVED_BYTE};
 use harptimber_tests::program::{run, Ran, Words};
 use harptimber_tests::tools::published::{filled_on, File};
 use harptimber_tests::trial::Random;
@@ -198,7 +198,7 @@ fn table() {
 fn wrapped_version() {
     let mut cards = Cards::new();
     for disk in [&mut cards.kept.disk, &mut cards.fresh] {
-        let blocks = set_version(&mut disk.image, 0, u64::MAX);
+        let blocks = disk.image.set_version(0, u64::MAX);
         disk.write_blocks(&blocks);
     }
     add_moved_road(&mut cards.kept, &mut cards.fresh.image, 0);

@@ -11,11 +11,12 @@ use harptimber_tests::cards::layout::superblock::*;
 use harptimber_tests::cards::layout::Field;
 use harptimber_tests::cards::on_disk::OnDisk;
 use harptimber_tests::cards::random::sound_knobs;
+use harptimber_tests::cards::versions::CHOSEN;
 use harptimber_tests::node_lookup;
 use harptimber_tests::program::json::Json;
 use harptimber_tests::program::page::{expect_head, meaning, shown, status_of};
 use harptimber_tests::program::special_build::SpecialBuild;
-use harptimber_tests::program::versions::{set_version, CHOICES};
+use harptimber_tests::program::versions::words_on_choice;
 use harptimber_tests::program::{run, Ran, Words};
 use harptimber_tests::tools::outside::CardFile;
 use harptimber_tests::tools::published::{self, formatted};
@@ -206,7 +207,7 @@ fn expect_pack_lines(disk: &OnDisk, packs: [(&str, u64, &str); 2]) {
 /// The pack in use, as JSON and in words. JSON needs no words on the choice: it has the versions and a flag.
 #[test]
 fn choices() {
-    for (versions, used, why) in CHOICES {
+    for (versions, used) in CHOSEN {
         let disk = OnDisk::new(with_versions(versions));
         let json = info(&disk);
         let packs = [0, 1].map(|which| {
@@ -214,7 +215,7 @@ fn choices() {
             let pack = Pack::plain(version, CP_UMOUNT_FLAG);
             expect_pack(&json["packs"].list()[which], Some(&pack), in_use);
             match in_use {
-                true => ("in use", version, why),
+                true => ("in use", version, words_on_choice(versions)),
                 false => ("passes", version, ""),
             }
         });
@@ -226,7 +227,7 @@ fn choices() {
 #[test]
 fn choices_of_one() {
     const FAILS: &str = "doesn't pass: its last block has checksum_offset 0, not 4092";
-    for (versions, ..) in CHOICES {
+    for (versions, _) in CHOSEN {
         for used in 0..2 {
             let mut image = with_versions(versions);
             image.set_sealed(image.last_block(1 - used), CHECKSUM_OFFSET, 0);
@@ -241,7 +242,7 @@ fn choices_of_one() {
 #[test]
 fn choices_of_unreadable_packs() {
     let size = |which: usize| 65 + which as u64;
-    for (versions, used, _) in CHOICES {
+    for (versions, used) in CHOSEN {
         for unreadable in [&[used][..], &[1 - used], &[0, 1]] {
             let mut image = with_versions(versions);
             for &which in unreadable {
@@ -359,10 +360,8 @@ fn published_cards() {
 #[test]
 fn published_choices() {
     let mut image = formatted(64, "");
-    for (versions, used, _) in CHOICES {
-        for (which, version) in versions.into_iter().enumerate() {
-            set_version(&mut image, which, version);
-        }
+    for (versions, used) in CHOSEN {
+        image.set_versions(versions);
         let card = CardFile::of(&image);
         let dump = published::run(Command::new("dump.f2fs").arg(card.path()));
         let dump = String::from_utf8(dump).unwrap();

@@ -7,10 +7,11 @@ use harptimber_tests::cards::image::Image;
 use harptimber_tests::cards::layout::inode::I_SIZE;
 use harptimber_tests::cards::layout::BLOCK_SIZE;
 use harptimber_tests::cards::on_disk::OnDisk;
+use harptimber_tests::cards::versions::CHOSEN;
 use harptimber_tests::program::card::{pulled, ProgramCard, ROAD};
 use harptimber_tests::program::page::{expect_head, expect_name, status_of};
 use harptimber_tests::program::run;
-use harptimber_tests::program::versions::{add_moved_road, set_version, Moved, CHOICES};
+use harptimber_tests::program::versions::{add_moved_road, Moved};
 use harptimber_tests::tools::published::{filled_on, File, LONGEST_INLINE};
 use harptimber_tests::trial::Random;
 
@@ -71,9 +72,9 @@ fn pack_in_use() {
     let roads = [Moved { road, inode }, moved];
     let mut disk = OnDisk::new(image);
     let path = disk.path();
-    for (versions, used, _) in CHOICES {
+    for (versions, used) in CHOSEN {
         for (which, version) in versions.into_iter().enumerate() {
-            let blocks = set_version(&mut disk.image, which, version);
+            let blocks = disk.image.set_version(which, version);
             disk.write_blocks(&blocks);
         }
         let Moved { road, inode } = &roads[used];

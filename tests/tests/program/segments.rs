@@ -14,11 +14,11 @@ use harptimber_tests::cards::on_disk::OnDisk;
 use harptimber_tests::cards::random::pick;
 use harptimber_tests::cards::random_segments::{in_use, random_segments, RandomSegments};
 use harptimber_tests::cards::segments::{SegmentCard, Sit};
+use harptimber_tests::cards::versions::CHOSEN;
 use harptimber_tests::program::json::Json;
 use harptimber_tests::program::page::{expect_head, meaning, status_of};
 use harptimber_tests::program::segments::{hint, Segment, Segments};
 use harptimber_tests::program::special_build::SpecialBuild;
-use harptimber_tests::program::versions::CHOICES;
 use harptimber_tests::program::{run, run_on_terminal, run_on_terminal_after, Ran, Words};
 use harptimber_tests::sizes::{CARD_BLOCKS_MOST, SEGMENTS_MOST};
 use harptimber_tests::tools::outside::CardFile;
@@ -215,7 +215,7 @@ fn with_two_packs(versions: [u64; 2], used: usize) -> (Image, Segments) {
 #[test]
 fn pack_in_use() {
     let count = |which: usize| 7 + which as u64;
-    for (versions, used, _) in CHOICES {
+    for (versions, used) in CHOSEN {
         let (image, segments) = with_two_packs(versions, used);
         let mut disk = OnDisk::new(image);
         let path = disk.path();
