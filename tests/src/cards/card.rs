@@ -148,8 +148,9 @@ impl Card {
 
 /// Checkpoints that follow each other.
 impl Card {
-    /// Writes the next checkpoint over the other pack, as Linux does. These nodes, by their file and place, are in other
-    /// blocks then. Table blocks that say so are in their other copies, so that the pack before leads where it led.
+    /// Writes the next checkpoint over the other pack, as Linux does. These nodes, by their file and place,
+    /// are in other blocks then. Table blocks that say so are in their other copies, so that the pack before
+    /// leads where it led.
     pub fn checkpoint(&mut self, version: u64, moved: &[(u32, u32)]) {
         let nodes = moved.iter().map(|key| self.nodes[key].nid);
         let table_blocks: BTreeSet<u32> = nodes.map(|nid| nid / ENTRIES_PER_BLOCK).collect();

@@ -79,7 +79,8 @@ impl Scene {
         self.card.inode_block(self.ino)
     }
 
-    /// The next checkpoint, after a block of the file was written anew: so are the nodes on its way. Returns the block.
+    /// The next checkpoint, after a block of the file was written anew, and so were the nodes on its way.
+    /// Returns the block.
     pub fn rewrite(&mut self, version: u64, index: u32) -> u32 {
         let way = self.card.way(self.ino, index);
         let moved: Vec<_> = way

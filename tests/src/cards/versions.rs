@@ -1,14 +1,14 @@
-//! The versions of a card's two packs, and which of them is in use. A version goes on from FFFFFFFFFFFFFFFF to 0.
+//! The versions of a card's two packs, and which of them is in use. After FFFFFFFFFFFFFFFF comes 0.
 
 use crate::cards::random::pick;
 use crate::trial::Random;
 
-/// So far apart, neither of two versions is newer.
+/// At this difference neither of two versions is newer.
 pub const HALF: u64 = 1 << 63;
 
-/// Which of two packs that pass is in use: "The kernel takes the 64-bit difference, wrapped, as a signed number: the second
-/// pack wins exactly if second minus first is above zero." Here it is counted in steps up from the first to the second: above
-/// zero are 1 to 2^63 - 1 of them.
+/// Which of two packs that pass is in use: "The kernel takes the 64-bit difference, wrapped, as a signed
+/// number: the second pack wins exactly if second minus first is above zero." Here it is counted in steps
+/// up from the first to the second: above zero are 1 to 2^63 - 1 of them.
 pub fn of_two([first, second]: [u64; 2]) -> usize {
     let round = 1 << 64;
     let steps_up = (round + u128::from(second) - u128::from(first)) % round;
@@ -23,12 +23,13 @@ pub fn of_those_there(versions: [Option<u64>; 2]) -> Option<usize> {
     }
 }
 
-/// Versions of two packs, each pair with the pack that it chooses, as the papers have it and beside that.
-pub const CHOSEN: [([u64; 2], usize); 22] = [
+/// Versions of two packs, and which of the two they choose: the papers' own, and others beside them.
+pub const CHOSEN: [([u64; 2], usize); 26] = [
     // "Versions 5 and 5: first pack."
     ([5, 5], 0),
     ([5, 6], 1),
     ([6, 5], 0),
+    ([0xFFFF_FFFF_FFFF_FFFF, 0xFFFF_FFFF_FFFF_FFFF], 0),
     // "Versions FFFFFFFFFFFFFFFF and 0 choose the 0."
     ([0xFFFF_FFFF_FFFF_FFFF, 0], 1),
     ([0, 0xFFFF_FFFF_FFFF_FFFF], 0),
@@ -49,6 +50,10 @@ pub const CHOSEN: [([u64; 2], usize); 22] = [
     // Where a signed number goes on from its greatest to its least.
     ([0x7FFF_FFFF_FFFF_FFFF, 0x8000_0000_0000_0000], 1),
     ([0x8000_0000_0000_0000, 0x7FFF_FFFF_FFFF_FFFF], 0),
+    // In 32 bits the difference would be below zero, zero, or above.
+    ([0, 0x8000_0000], 1),
+    ([0, 0x0000_0001_0000_0000], 1),
+    ([0x0000_0001_0000_0000, 1], 0),
     // The halves of 32 bits say the opposite of each other.
     ([0x0000_0001_0000_0002, 0x0000_0002_0000_0001], 1),
     ([0x0000_0002_0000_0001, 0x0000_0001_0000_0002], 0),
@@ -84,7 +89,7 @@ impl Apart {
         Apart::Half { second_greater }
     }
 
-    pub const fn newer(which: usize, wrapped: bool) -> Apart {
+    const fn newer(which: usize, wrapped: bool) -> Apart {
         Apart::Newer { which, wrapped }
     }
 

@@ -1,4 +1,5 @@
-//! Compare over checkpoints that follow each other, each written over the older pack, and over versions that wrap.
+//! Compare over checkpoints that follow each other, each written over the older pack, and over versions
+//! that wrap.
 
 use harptimber_tests::calls::compares::{changed, Compares, Kept, SAME};
 use harptimber_tests::cards::card::ROOT;
@@ -20,8 +21,8 @@ fn with_version(random: &mut Random, version: u64) -> Scene {
     scene
 }
 
-/// A card whose last checkpoint has the version FFFFFFFFFFFFFFFF, and the one before it FFFFFFFFFFFFFFFE. The next one is
-/// written over this pack.
+/// A card whose last checkpoint has the version FFFFFFFFFFFFFFFF, and the one before it FFFFFFFFFFFFFFFE.
+/// The next one is written over this pack.
 fn before_the_wrap(random: &mut Random, next: usize) -> Scene {
     let written = 1 + next as u64;
     let mut scene = with_version(random, u64::MAX - written);
@@ -67,8 +68,8 @@ fn moves(ino: u32, unlisted: u32) -> [Vec<Key>; 8] {
     ]
 }
 
-/// Writes the checkpoint with version 0, after which these nodes are elsewhere, and so is the data if its address was in
-/// one of them; by the table or by the journal. Returns the nodes' numbers.
+/// Writes the checkpoint with version 0, after which these nodes are elsewhere, by the table or by the
+/// journal, and so is the data if its address was in one of them. Returns the nodes' numbers.
 fn write_version_0(scene: &mut Scene, moved: &[Key], in_journal: bool) -> Vec<u32> {
     let card = &mut scene.card;
     card.checkpoint(0, moved);
@@ -83,10 +84,10 @@ fn write_version_0(scene: &mut Scene, moved: &[Key], in_journal: bool) -> Vec<u3
     nids
 }
 
-/// The accident, over the wrap. The kept card's packs have the versions FFFFFFFFFFFFFFFE and FFFFFFFFFFFFFFFF; on the new
-/// one the checkpoint with version 0 is written over the older of them. A reader for which the greater number is the
-/// newer version goes on reading the old pack, all of which is still there, and says "same" of a file that has changed:
-/// this test would have caught that.
+/// The accident, over the wrap. The kept card's packs have the versions FFFFFFFFFFFFFFFE and
+/// FFFFFFFFFFFFFFFF; on the new one the checkpoint with version 0 is written over the older of them. A reader
+/// for which the greater number is the newer version goes on reading the old pack, all of which is still
+/// there, and says "same" of a file that has changed: this test would have caught that.
 #[test]
 fn version_0_is_written() {
     let mut compares = Compares::new("compare over a version that wraps");
@@ -106,7 +107,8 @@ fn version_0_is_written() {
     compares.finish(2 * 2 * 8 * 4, &[(15, 0, 0), (16, 0, 2)]);
 }
 
-/// A card with two packs, each of which leads to other data; and the numbers of which their tables say different things.
+/// A card with two packs, each of which leads to other data; and the numbers of which their tables say
+/// different things.
 fn two_packs(random: &mut Random) -> (Image, Vec<u32>) {
     let scene = before_the_wrap(random, 0);
     let moved = way_nodes(&scene);
@@ -130,7 +132,7 @@ fn card_and_itself() {
             compares.expect(kept, &image, SAME);
         }
     }
-    compares.finish(22 * 4, &[(15, 0, 0)]);
+    compares.finish(26 * 4, &[(15, 0, 0)]);
 }
 
 /// The same packs under other versions: "same" exactly if the same one is in use.
@@ -150,7 +152,7 @@ fn versions_of_both_cards() {
             fresh.undo(0);
         }
     }
-    compares.finish(22 * 22, &[(15, 0, 0), (16, 0, 2)]);
+    compares.finish(26 * 26, &[(15, 0, 0), (16, 0, 2)]);
 }
 
 /// Versions shortly before places where one could be taken wrongly.

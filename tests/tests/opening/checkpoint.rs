@@ -275,7 +275,7 @@ fn versions_of_the_papers() {
     for (versions, chosen) in CHOSEN {
         choices.expect(versions, chosen);
     }
-    choices.finish(22);
+    choices.finish(26);
 }
 
 /// Each with each, in both orders.
@@ -382,7 +382,7 @@ fn unreadable_pack() {
             image.undo(0);
         }
     }
-    lookups.finish(22 * 2, &[0, 8]);
+    lookups.finish(26 * 2, &[0, 8]);
 }
 
 /// Packs start at the checkpoint address of the copy used, wherever that is.

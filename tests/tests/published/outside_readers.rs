@@ -357,8 +357,8 @@ fn tables() {
 
 const ROAD: &[u8] = b"road.bin";
 
-/// Writes other bytes of the file behind everything on the card, under an inode of their own there. Returns the table's
-/// entry for that.
+/// Writes other bytes of the file behind everything on the card, under an inode of their own there. Returns
+/// the table's entry for that.
 fn write_anew(image: &mut Image, bytes: &[u8]) -> JournalEntry {
     let nid = inode_number(image, ROAD);
     let entry = image.nat_entry(nid, 0);
@@ -379,8 +379,8 @@ fn write_anew(image: &mut Image, bytes: &[u8]) -> JournalEntry {
     JournalEntry { nid, entry }
 }
 
-/// Two packs that differ in where the file is, by their maps, and in their versions, which alone decide. To GRUB the
-/// greater number is the newer version, so it isn't asked where the smaller one is chosen, or the first of two half apart.
+/// Two packs that differ in where the file is, by their maps, and in their versions, which alone decide. To
+/// GRUB (2.06) the greater number is the newer version, so it isn't asked where that isn't chosen.
 #[test]
 fn versions() {
     let mut random = Random::new(10);
@@ -402,6 +402,6 @@ fn versions() {
         expect_files(&mut opinions, readers, &image, &files[chosen]);
         image.undo(0);
     }
-    let by_grub = least(&[Reader::GrubCat, Reader::GrubCp], 13);
-    opinions.finish(&[least(&WITHOUT_GRUB, 22), by_grub].concat());
+    let by_grub = least(&[Reader::GrubCat, Reader::GrubCp], 17);
+    opinions.finish(&[least(&WITHOUT_GRUB, 26), by_grub].concat());
 }

@@ -1,5 +1,5 @@
-//! Pull: two packs, each of which leads to other data of the same file. The bytes and the lists are those that the
-//! chosen one leads to.
+//! Pull: two packs, each of which leads to other data of the same file. The bytes and the lists are those
+//! that the chosen one leads to.
 
 use harptimber_tests::calls::pulls::{Call, Pulls};
 use harptimber_tests::cards::image::Image;
@@ -71,10 +71,10 @@ fn by_version() {
         }
         image.undo(0);
     }
-    pulls.finish(22 * 3 * 2, &[0]);
+    pulls.finish(26 * 3 * 2, &[0]);
 }
 
-/// One checkpoint after the other, each over the older pack, from versions before each of these to some behind them.
+/// One checkpoint after the other, each over the older pack, from versions before a border to some behind it.
 #[test]
 fn one_after_the_other() {
     let mut pulls = Pulls::new("pull after one checkpoint after the other");

@@ -154,7 +154,7 @@ fn pack_in_use() {
         card.image.set(last, CHECKSUM, 0);
         reports.expect(&card.image, &by_pack[1 - chosen]);
     }
-    reports.finish(22 * 2, &[0]);
+    reports.finish(26 * 2, &[0]);
 }
 
 /// Copies of the superblock with different main segments. The list that is needed goes with them.
