@@ -42,9 +42,9 @@ extern "C" {
 
 /* The version of this header, and of the library that is installed with it. */
 #define HARPTIMBER_VERSION_MAJOR 0
-#define HARPTIMBER_VERSION_MINOR 2
+#define HARPTIMBER_VERSION_MINOR 3
 #define HARPTIMBER_VERSION_PATCH 0
-#define HARPTIMBER_VERSION "0.2.0"
+#define HARPTIMBER_VERSION "0.3.0"
 
 enum {
     /* Of what is asked: a card's blocks, and a name's bytes. */
@@ -226,6 +226,9 @@ struct harptimber_compared {
  * HARPTIMBER_CHANGED means that something differs which the answer rested on, if only a date in an inode
  * or another entry of the directory. The block may have the same bytes then; a pull on the new image
  * tells.
+ *
+ * Lists that a version before 0.3.0 left may be of another checkpoint than the one that is read now,
+ * where versions have wrapped. `harptimber info` tells of which images: pull from those again.
  *
  * 4 is answered, first, for an image's length; and, once both images are opened, where the node list is
  * empty, a list isn't strictly rising, a count exceeds its slice, or a listed block lies outside the

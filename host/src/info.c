@@ -99,7 +99,8 @@ static void words_choice(const struct opening_pack *used, const struct opening_p
     if (!other->passes || used->version >= other->version)
         return;
     if (ver_after(used->version, other->version))
-        printf(", newer because versions wrap: 0 comes after 0x%" PRIx64, UINT64_MAX);
+        printf(", newer than the other's by %" PRIu64 ": versions go on from 0x%" PRIx64 " to 0",
+               used->version - other->version, UINT64_MAX);
     else
         printf(", exactly 2^63 from the other's: neither is newer, so the first pack is used");
 }

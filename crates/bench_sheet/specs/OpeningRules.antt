@@ -1,5 +1,5 @@
 -- The rules for opening a card, by number: what the definitions compute on both sides of each boundary, and what the sentence of
--- document 01, or of a request, says. 1 is yes, 0 no.
+-- document 01, or of a request, says. 1 is yes, 0 no; of two packs it is which.
 use mathlib.Core.Path.{refl}
 use mathlib.Core.List.{List, [], _∷_, _++_}
 use mathlib.Core.List as List

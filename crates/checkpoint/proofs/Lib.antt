@@ -1,7 +1,7 @@
 pub mod Inside
 mod Negated
 mod Passing
-mod Choosing
+pub mod Choosing
 pub mod Versions
 mod Reading
 pub mod Ways

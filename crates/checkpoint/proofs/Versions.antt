@@ -2,16 +2,19 @@
 -- 2 ^ 63 - 1 versions on, wrapped, wins from either side. Less than 2 ^ 63 apart as numbers, the greater wins.
 use mathlib.Core.Path.{_≡_}
 use mathlib.Core.Bool.{Bool, true, false, _&&_, and-false}
+use mathlib.Core.List.{List}
 use mathlib.Core.Logic.{_⊎_, ⊎-elim}
 use Prim.Native.Nat.{ℕ, _+_, _%_, _^_, _≤_, _<_}
 use native.Mathlib.Omega.{arith}
+use lib.ListN.{getD}
 use lib.Dec.{ltb}
 use borrow.Author.Tests.{lt-ltb, le-ltb, ltb-true, ltb-false}
+use Rattle.field.specs.Number.{le16, le32, le64}
 use Rattle.field.specs.Card.{Card}
 use Rattle.field.proofs.Choosing.{either, needed}
 use Rattle.checkpoint.specs.declared.Checkpoint.{Checkpoint}
 use Rattle.checkpoint.specs.declared.Chosen.the-variants.{Pack}
-use Rattle.checkpoint.specs.Checkpoint.{headerOf}
+use Rattle.checkpoint.specs.Checkpoint.{checkpointOf, headerOf}
 use Rattle.checkpoint.specs.Pack.{packPasses, wrappedDifference, aboveZero, newer, secondPack, chosen}
 use Rattle.checkpoint.proofs.Choosing.{chosen-first, chosen-second}
 
@@ -86,7 +89,12 @@ module _ (first second : Checkpoint) where
       (λ (l : ltb v w ≡ false). let more : w ≤ v = ltb-false v w l in rw l (not-above (wrappedDifference v w) (omega arith)))
       (either (ltb v w))
 
--- ---- the choice: the pack whose version is one higher, wrapped, is chosen if it passes, whatever the other holds
+-- ---- the choice: a pack that passes and wins by its version is chosen, whatever the other holds
+
+-- what `ahead` asks of the first version holds of every block of bytes
+pub version-fits : (block : List ℕ) → ((i : ℕ) → getD block i 0 < 256) → checkpointOf block .«checkpoint_ver» < 2 ^ 64
+unfolding checkpointOf le64 le32 le16
+version-fits block bytes = omega (arith, bytes 0, bytes 1, bytes 2, bytes 3, bytes 4, bytes 5, bytes 6, bytes 7)
 
 module _ (card : Card) (address : ℕ) where
   abbrev one : Checkpoint
@@ -104,3 +112,8 @@ module _ (card : Card) (address : ℕ) where
       → one .«checkpoint_ver» ≡ (two .«checkpoint_ver» + 1) % 2 ^ 64
       → chosen card address ≡ Pack address
   next-first-chosen p e = chosen-first card address p (next-first one two e)
+
+  pub half-apart-chosen : packPasses card address ≡ true
+      → two .«checkpoint_ver» ≡ (one .«checkpoint_ver» + 2 ^ 63) % 2 ^ 64
+      → chosen card address ≡ Pack address
+  half-apart-chosen p e = chosen-first card address p (half-apart one two e .0)

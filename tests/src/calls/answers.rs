@@ -3,9 +3,6 @@
 use std::collections::BTreeMap;
 use std::fmt::Debug;
 
-use crate::cards::image::Image;
-use crate::cards::versions::Apart;
-
 /// An answer is its number, or that with more of the result; or whatever else has to come up.
 pub struct Answers<T = u32>(BTreeMap<T, u64>);
 
@@ -22,19 +19,10 @@ impl<T: Ord + Debug> Answers<T> {
 
     /// Each of these has to have come up.
     pub fn finish(&self, answers: &[T]) {
-        println!("  answers, each with how often: {:?}", self.0);
+        println!("  what came up, each with how often: {:?}", self.0);
         for answer in answers {
             let seen = self.0.contains_key(answer);
-            assert!(seen, "answer {answer:?} never came up");
-        }
-    }
-}
-
-impl Answers<Apart> {
-    /// Of a card with two packs, how their versions lie to each other.
-    pub fn note_versions(&mut self, image: &Image) {
-        if let [Some(first), Some(second)] = image.versions() {
-            self.note(Apart::of([first, second]));
+            assert!(seen, "{answer:?} never came up");
         }
     }
 }

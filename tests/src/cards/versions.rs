@@ -1,5 +1,7 @@
 //! The versions of a card's two packs, and which of them is in use. After FFFFFFFFFFFFFFFF comes 0.
 
+use crate::calls::answers::Answers;
+use crate::cards::image::Image;
 use crate::cards::random::pick;
 use crate::trial::Random;
 
@@ -23,8 +25,11 @@ pub fn of_those_there(versions: [Option<u64>; 2]) -> Option<usize> {
     }
 }
 
+/// How many there are below.
+pub const PAIRS: u64 = 26;
+
 /// Versions of two packs, and which of the two they choose: the papers' own, and others beside them.
-pub const CHOSEN: [([u64; 2], usize); 26] = [
+pub const CHOSEN: [([u64; 2], usize); PAIRS as usize] = [
     // "Versions 5 and 5: first pack."
     ([5, 5], 0),
     ([5, 6], 1),
@@ -131,4 +136,13 @@ fn near_an_end(random: &mut Random, least: u64, most: u64) -> u64 {
     let near = random.below(4).min(steps);
     let any = random.below(steps.saturating_add(1));
     pick(random, &[least + near, most - near, least + any])
+}
+
+impl Answers<Apart> {
+    /// Of a card with two packs, how their versions lie to each other.
+    pub fn note_versions(&mut self, image: &Image) {
+        if let [Some(first), Some(second)] = image.versions() {
+            self.note(Apart::of([first, second]));
+        }
+    }
 }

@@ -9,20 +9,27 @@ use crate::cards::versions::Apart;
 use crate::program::card::{ProgramCard, Put, ROAD};
 
 /// What info says behind the version of the pack in use: why, where that is the smaller number.
-pub fn words_on_choice(versions: [u64; 2]) -> &'static str {
+pub fn words_on_choice(versions: [u64; 2]) -> String {
     match Apart::of(versions) {
-        Apart::Newer { wrapped: true, .. } => {
-            ", newer because versions wrap: 0 comes after 0xffffffffffffffff"
+        Apart::Newer {
+            which,
+            wrapped: true,
+        } => {
+            let steps = versions[which].wrapping_sub(versions[1 - which]);
+            format!(
+                ", newer than the other's by {steps}: versions go on from 0xffffffffffffffff to 0"
+            )
         }
         Apart::Half {
             second_greater: true,
-        } => ", exactly 2^63 from the other's: neither is newer, so the first pack is used",
-        _ => "",
+        } => ", exactly 2^63 from the other's: neither is newer, so the first pack is used"
+            .to_string(),
+        _ => String::new(),
     }
 }
 
 /// The road as a pack has it, and its inode's block there.
-pub struct Moved {
+pub struct RoadAt {
     pub road: Put,
     pub inode: u32,
 }
@@ -32,7 +39,7 @@ pub const MOVED_BYTE: usize = 17;
 
 /// Adds a second pack to an image of the card: by its journal the road's inode has moved, and there its first block
 /// is another one, in which a byte differs.
-pub fn add_moved_road(card: &mut ProgramCard, image: &mut Image, version: u64) -> Moved {
+pub fn add_moved_road(card: &mut ProgramCard, image: &mut Image, version: u64) -> RoadAt {
     let mut road = card.file(ROAD).clone();
     let old_inode = card.card.inode_block(road.ino);
     let [inode, first] = [0; 2].map(|_| card.card.free_block());
@@ -58,5 +65,5 @@ pub fn add_moved_road(card: &mut ProgramCard, image: &mut Image, version: u64) -
         ..card.card.pack.clone()
     };
     image.add_pack(1, &pack, &Knobs::sound());
-    Moved { road, inode }
+    RoadAt { road, inode }
 }

@@ -5,7 +5,7 @@ use harptimber_tests::calls::compares::{changed, Compares, Kept, SAME};
 use harptimber_tests::cards::card::ROOT;
 use harptimber_tests::cards::image::Image;
 use harptimber_tests::cards::one_file::{Scene, NAME};
-use harptimber_tests::cards::versions::{CHOSEN, HALF};
+use harptimber_tests::cards::versions::{CHOSEN, HALF, PAIRS};
 use harptimber_tests::trial::Random;
 use harptimber_tests::Compared;
 
@@ -22,7 +22,7 @@ fn with_version(random: &mut Random, version: u64) -> Scene {
 }
 
 /// A card whose last checkpoint has the version FFFFFFFFFFFFFFFF, and the one before it FFFFFFFFFFFFFFFE.
-/// The next one is written over this pack.
+/// The next one is written over the older pack, which is `next`.
 fn before_the_wrap(random: &mut Random, next: usize) -> Scene {
     let written = 1 + next as u64;
     let mut scene = with_version(random, u64::MAX - written);
@@ -52,8 +52,10 @@ fn way_nodes(scene: &Scene) -> Vec<u32> {
     nodes.to_vec()
 }
 
+const MOVES: usize = 8;
+
 /// The nodes that a checkpoint moves: none, one that isn't listed, each that is, and several.
-fn moves(ino: u32, unlisted: u32) -> [Vec<Key>; 8] {
+fn moves(ino: u32, unlisted: u32) -> [Vec<Key>; MOVES] {
     let way = WAY.map(|place| (ino, place));
     let all = [&[(ROOT, 0)], &way[..], &[(unlisted, 0)]].concat();
     [
@@ -73,7 +75,7 @@ fn moves(ino: u32, unlisted: u32) -> [Vec<Key>; 8] {
 fn write_version_0(scene: &mut Scene, moved: &[Key], in_journal: bool) -> Vec<u32> {
     let card = &mut scene.card;
     card.checkpoint(0, moved);
-    if moved.contains(&(scene.ino, 4)) {
+    if moved.contains(&(scene.ino, WAY[2])) {
         card.add_block(scene.ino, INDEX);
     }
     let nids = moved.iter().map(|&(ino, place)| card.node(ino, place).nid);
@@ -87,13 +89,13 @@ fn write_version_0(scene: &mut Scene, moved: &[Key], in_journal: bool) -> Vec<u3
 /// The accident, over the wrap. The kept card's packs have the versions FFFFFFFFFFFFFFFE and
 /// FFFFFFFFFFFFFFFF; on the new one the checkpoint with version 0 is written over the older of them. A reader
 /// for which the greater number is the newer version goes on reading the old pack, all of which is still
-/// there, and says "same" of a file that has changed: this test would have caught that.
+/// there, and says "same" of a file that has changed.
 #[test]
 fn version_0_is_written() {
     let mut compares = Compares::new("compare over a version that wraps");
     let cases = [0, 1].map(|next| [(next, false), (next, true)]);
     for (next, in_journal) in cases.into_iter().flatten() {
-        for n in 0..8 {
+        for n in 0..MOVES {
             let mut scene = before_the_wrap(&mut compares.trial.random, next);
             let unlisted = scene.card.add_file(0, 1);
             let kept = scene.card.image.clone();
@@ -104,7 +106,7 @@ fn version_0_is_written() {
             }
         }
     }
-    compares.finish(2 * 2 * 8 * 4, &[(15, 0, 0), (16, 0, 2)]);
+    compares.finish(2 * 2 * MOVES as u64 * 4, &[(15, 0, 0), (16, 0, 2)]);
 }
 
 /// A card with two packs, each of which leads to other data; and the numbers of which their tables say
@@ -132,7 +134,7 @@ fn card_and_itself() {
             compares.expect(kept, &image, SAME);
         }
     }
-    compares.finish(26 * 4, &[(15, 0, 0)]);
+    compares.finish(PAIRS * 4, &[(15, 0, 0)]);
 }
 
 /// The same packs under other versions: "same" exactly if the same one is in use.
@@ -152,7 +154,7 @@ fn versions_of_both_cards() {
             fresh.undo(0);
         }
     }
-    compares.finish(26 * 26, &[(15, 0, 0), (16, 0, 2)]);
+    compares.finish(PAIRS * PAIRS, &[(15, 0, 0), (16, 0, 2)]);
 }
 
 /// Versions shortly before places where one could be taken wrongly.

@@ -10,7 +10,7 @@ use harptimber_tests::cards::knobs::{Knobs, Pack};
 use harptimber_tests::cards::layout::checkpoint::*;
 use harptimber_tests::cards::layout::{superblock, Field};
 use harptimber_tests::cards::random::pick;
-use harptimber_tests::cards::versions::{of_two, Apart, CHOSEN, HALF};
+use harptimber_tests::cards::versions::{of_two, Apart, CHOSEN, HALF, PAIRS};
 
 const NUMBER: u32 = 3;
 const PACKS: [usize; 2] = [0, 1];
@@ -275,7 +275,7 @@ fn versions_of_the_papers() {
     for (versions, chosen) in CHOSEN {
         choices.expect(versions, chosen);
     }
-    choices.finish(26);
+    choices.finish(PAIRS);
 }
 
 /// Each with each, in both orders.
@@ -320,10 +320,10 @@ fn differences_of_versions() {
 /// Any two versions, and pairs of each kind.
 #[test]
 fn random_versions() {
-    const PAIRS: u64 = 400;
+    const TIMES: u64 = 400;
     let mut choices = Choices::new("node lookup by random versions");
     let mut met = Answers::default();
-    for _ in 0..choices.lookups.trial.times(PAIRS) {
+    for _ in 0..choices.lookups.trial.times(TIMES) {
         let random = &mut choices.lookups.trial.random;
         let any_two = [random.number(), random.number()];
         let of_a_kind = pick(random, &Apart::ALL).any(random);
@@ -332,7 +332,7 @@ fn random_versions() {
             choices.expect(versions, of_two(versions));
         }
     }
-    choices.finish(2 * PAIRS);
+    choices.finish(2 * TIMES);
     met.finish(&Apart::ALL);
 }
 
@@ -382,7 +382,7 @@ fn unreadable_pack() {
             image.undo(0);
         }
     }
-    lookups.finish(26 * 2, &[0, 8]);
+    lookups.finish(PAIRS * 2, &[0, 8]);
 }
 
 /// Packs start at the checkpoint address of the copy used, wherever that is.

@@ -212,7 +212,7 @@ fn wrapped_version() {
     assert_eq!(cards.expect(b"4097"), 0, "another file");
     let before = cards.kept.file(ROAD).block(&cards.kept.disk.image, 0)[MOVED_BYTE];
     let line = format!(
-        "road.bin: 1 of 6 blocks differs, first at byte 17 of the file (0x{before:02x} before, 0x{:02x} now); \
+        "road.bin: 1 of 6 blocks differs, first at byte {MOVED_BYTE} of the file (0x{before:02x} before, 0x{:02x} now); \
          5 have the same bytes but rest on something that changed\n",
         !before
     );
@@ -220,7 +220,7 @@ fn wrapped_version() {
     let ran = run(&[&"compare", &paths[0], &paths[1], &ROAD]).expect(1);
     assert!(ran.words().starts_with(&line), "no '{line}' in {ran:?}");
     let info = run(&[&"info", &paths[1]]).expect(0);
-    let in_use = "checkpoint pack 2: in use; version 0 (0x0), newer because versions wrap: ";
+    let in_use = "checkpoint pack 2: in use; version 0 (0x0), newer than the other's by 1: ";
     assert!(info.words().contains(in_use), "of {info:?}");
 }
 

@@ -192,9 +192,9 @@ fn with_versions(versions: [u64; 2]) -> Image {
 }
 
 /// What is said of the packs, each by its state, its version, and words on the choice behind that.
-fn expect_pack_lines(disk: &OnDisk, packs: [(&str, u64, &str); 2]) {
+fn expect_pack_lines(disk: &OnDisk, packs: [(&str, u64, String); 2]) {
     let lines = [0, 1].map(|which| {
-        let (state, version, why) = packs[which];
+        let (state, version, why) = &packs[which];
         let number = which + 1;
         format!("checkpoint pack {number}: {state}; version {version} ({version:#x}){why}; flags: unmount")
     });
@@ -204,10 +204,13 @@ fn expect_pack_lines(disk: &OnDisk, packs: [(&str, u64, &str); 2]) {
     assert_eq!(said.collect::<Vec<_>>(), lines);
 }
 
-/// The pack in use, as JSON and in words. JSON needs no words on the choice: it has the versions and a flag.
+/// The pack in use, as JSON and in words. JSON needs no words on the choice: it has the versions and a flag. The words stand
+/// exactly where a version before 0.3.0 read the other pack, the one with the greater number.
 #[test]
 fn choices() {
     for (versions, used) in CHOSEN {
+        let greater = usize::from(versions[1] > versions[0]);
+        assert_eq!(words_on_choice(versions).is_empty(), used == greater);
         let disk = OnDisk::new(with_versions(versions));
         let json = info(&disk);
         let packs = [0, 1].map(|which| {
@@ -216,7 +219,7 @@ fn choices() {
             expect_pack(&json["packs"].list()[which], Some(&pack), in_use);
             match in_use {
                 true => ("in use", version, words_on_choice(versions)),
-                false => ("passes", version, ""),
+                false => ("passes", version, String::new()),
             }
         });
         expect_pack_lines(&disk, packs);
@@ -232,7 +235,7 @@ fn choices_of_one() {
             let mut image = with_versions(versions);
             image.set_sealed(image.last_block(1 - used), CHECKSUM_OFFSET, 0);
             let state = |which| if which == used { "in use" } else { FAILS };
-            let packs = [0, 1].map(|which| (state(which), versions[which], ""));
+            let packs = [0, 1].map(|which| (state(which), versions[which], String::new()));
             expect_pack_lines(&OnDisk::new(image), packs);
         }
     }

@@ -11,7 +11,7 @@ use harptimber_tests::cards::versions::CHOSEN;
 use harptimber_tests::program::card::{pulled, ProgramCard, ROAD};
 use harptimber_tests::program::page::{expect_head, expect_name, status_of};
 use harptimber_tests::program::run;
-use harptimber_tests::program::versions::{add_moved_road, Moved};
+use harptimber_tests::program::versions::{add_moved_road, RoadAt};
 use harptimber_tests::tools::published::{filled_on, File, LONGEST_INLINE};
 use harptimber_tests::trial::Random;
 
@@ -59,7 +59,8 @@ fn every_answer() {
     }
 }
 
-/// By two packs the road has its inode in different blocks, and other bytes. Each command reads it by the pack in use.
+/// By two packs the road has its inode in different blocks, and other bytes. Each command reads it by the pack that the library
+/// has in use, whatever the program itself makes of the versions.
 #[test]
 fn pack_in_use() {
     let mut card = ProgramCard::build();
@@ -69,7 +70,7 @@ fn pack_in_use() {
     image.set(moved.inode, I_SIZE, moved.road.size);
     let road = card.file(ROAD).clone();
     let inode = card.card.inode_block(road.ino);
-    let roads = [Moved { road, inode }, moved];
+    let roads = [RoadAt { road, inode }, moved];
     let mut disk = OnDisk::new(image);
     let path = disk.path();
     for (versions, used) in CHOSEN {
@@ -77,7 +78,7 @@ fn pack_in_use() {
             let blocks = disk.image.set_version(which, version);
             disk.write_blocks(&blocks);
         }
-        let Moved { road, inode } = &roads[used];
+        let RoadAt { road, inode } = &roads[used];
         assert_eq!(expect_json(&disk, &disk.image, ROAD, 0), 0);
         let cat = run(&[&"cat", &path, &ROAD]).expect(0);
         assert!(cat.out == road.bytes(&disk.image), "cat by {versions:?}");

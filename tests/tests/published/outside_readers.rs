@@ -12,7 +12,7 @@ use harptimber_tests::cards::layout::nat::NatEntry;
 use harptimber_tests::cards::layout::{slots, Field, BLOCK_SIZE};
 use harptimber_tests::cards::names::good_name;
 use harptimber_tests::cards::tree;
-use harptimber_tests::cards::versions::CHOSEN;
+use harptimber_tests::cards::versions::{CHOSEN, PAIRS};
 use harptimber_tests::node_lookup;
 use harptimber_tests::tools::outside::{inode_number, CardFile, Opinions, Reader};
 use harptimber_tests::tools::published::{
@@ -403,5 +403,5 @@ fn versions() {
         image.undo(0);
     }
     let by_grub = least(&[Reader::GrubCat, Reader::GrubCp], 17);
-    opinions.finish(&[least(&WITHOUT_GRUB, 26), by_grub].concat());
+    opinions.finish(&[least(&WITHOUT_GRUB, PAIRS as usize), by_grub].concat());
 }

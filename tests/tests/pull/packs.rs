@@ -6,7 +6,7 @@ use harptimber_tests::cards::image::Image;
 use harptimber_tests::cards::layout::checkpoint::CHECKSUM;
 use harptimber_tests::cards::layout::BLOCK_SIZE;
 use harptimber_tests::cards::one_file::{Scene, Setting, NAME};
-use harptimber_tests::cards::versions::{CHOSEN, HALF};
+use harptimber_tests::cards::versions::{CHOSEN, HALF, PAIRS};
 
 /// A block behind the first direct node of 923 addresses.
 const INDEX: u32 = 1000;
@@ -71,7 +71,7 @@ fn by_version() {
         }
         image.undo(0);
     }
-    pulls.finish(26 * 3 * 2, &[0]);
+    pulls.finish(PAIRS * 3 * 2, &[0]);
 }
 
 /// One checkpoint after the other, each over the older pack, from versions before a border to some behind it.

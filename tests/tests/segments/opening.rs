@@ -7,7 +7,7 @@ use harptimber_tests::cards::layout::sit::SitEntry;
 use harptimber_tests::cards::layout::sit_journal::{IN_COMPACT_BLOCK, IN_PLAIN_BLOCK};
 use harptimber_tests::cards::layout::superblock::{MAGIC, SEGMENT_COUNT_MAIN};
 use harptimber_tests::cards::segments::SegmentCard;
-use harptimber_tests::cards::versions::CHOSEN;
+use harptimber_tests::cards::versions::{CHOSEN, PAIRS};
 
 use crate::{journalled, knobs, FLAGS};
 
@@ -154,7 +154,7 @@ fn pack_in_use() {
         card.image.set(last, CHECKSUM, 0);
         reports.expect(&card.image, &by_pack[1 - chosen]);
     }
-    reports.finish(26 * 2, &[0]);
+    reports.finish(PAIRS * 2, &[0]);
 }
 
 /// Copies of the superblock with different main segments. The list that is needed goes with them.

@@ -185,8 +185,9 @@ fn packs_by_version(agreed: &mut Agreed) {
         }
     }
     table.print(
-        "8. Two packs by their versions, of which the second is in use: a plain and a wrapped one
-   time as a part of reference/'s, then as a multiple of the same side's with plain versions; lower is
-   better. 1 throughout: the pack that isn't chosen costs no checksum, as if it weren't there",
+        "8. Two packs, the second in use: plain versions, versions that wrapped, and no first pack
+   time as a part of reference/'s, then as a multiple of the same side's with versions 1, 2; lower is
+   better. The archive's multiples are about 1: a pack that isn't chosen costs it no checksum.
+   reference/ tests both",
     );
 }
