@@ -9,9 +9,9 @@ use native.Mathlib.Omega.{arith}
 use lib.ListN.{getD}
 use lib.Dec.{ltb}
 use borrow.Author.Tests.{lt-ltb, le-ltb, ltb-true, ltb-false}
-use Rattle.field.specs.Number.{le16, le32, le64}
 use Rattle.field.specs.Card.{Card}
 use Rattle.field.proofs.Choosing.{either, needed}
+use Rattle.field.proofs.Widths.{le64-fits}
 use Rattle.checkpoint.specs.declared.Checkpoint.{Checkpoint}
 use Rattle.checkpoint.specs.declared.Chosen.the-variants.{Pack}
 use Rattle.checkpoint.specs.Checkpoint.{checkpointOf, headerOf}
@@ -19,9 +19,6 @@ use Rattle.checkpoint.specs.Pack.{packPasses, wrappedDifference, aboveZe
 use Rattle.checkpoint.proofs.Choosing.{chosen-first, chosen-second}
 
 -- ---- above zero is 1 to 2 ^ 63 - 1
-
-both-hold : (a b : Bool) → a ≡ true → b ≡ true → (a && b) ≡ true
-both-hold a b p q = rw (p, q)
 
 one-fails : (a b : Bool) → b ≡ false → (a && b) ≡ false
 one-fails a b p = rw (p, and-false)
@@ -34,7 +31,7 @@ not-above d far =
     (either (ltb 0 d))
 
 above : (d : ℕ) → 0 < d → d < 2 ^ 63 → aboveZero d ≡ true
-above d l h = search (both-hold, lt-ltb)
+above d l h = rw (lt-ltb 0 d l, lt-ltb d (2 ^ 63) h)
 
 is-above : (d : ℕ) → aboveZero d ≡ true → (0 < d) × (d < 2 ^ 63)
 is-above d h = (ltb-true 0 d (needed (λ l. rw l) h), ltb-true d (2 ^ 63) (needed (λ l. rw (l, and-false)) h))
@@ -93,8 +90,8 @@ module _ (first second : Checkpoint) where
 
 -- what `ahead` asks of the first version holds of every block of bytes
 pub version-fits : (block : List ℕ) → ((i : ℕ) → getD block i 0 < 256) → checkpointOf block .«checkpoint_ver» < 2 ^ 64
-unfolding checkpointOf le64 le32 le16
-version-fits block bytes = omega (arith, bytes 0, bytes 1, bytes 2, bytes 3, bytes 4, bytes 5, bytes 6, bytes 7)
+unfolding checkpointOf
+version-fits block bytes = le64-fits block bytes 0
 
 module _ (card : Card) (address : ℕ) where
   abbrev one : Checkpoint

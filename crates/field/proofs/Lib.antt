@@ -1,4 +1,5 @@
 pub mod Blocks
 pub mod Maps
+pub mod Widths
 pub mod Choosing
 mod Comparing

@@ -10,6 +10,7 @@ use lib.Count.{ones, ones-step, ones-cat}
 use Rattle.field.specs.Number.{le16, le32, le64}
 use Rattle.field.specs.Map.{topBit}
 use Rattle.field.proofs.Maps.{top-bit}
+use Rattle.field.proofs.Widths.{le16-fits, le32-fits}
 use Rattle.sit.specs.Entry.{onesBelow}
 
 -- no more ones than bits
@@ -75,25 +76,17 @@ module _ (map : List ℕ) (bytes : (k : ℕ) → getD map k 0 < 256) where
       let j = ones-joined w lo hi h in
       rw e (omega arith)
 
-  below-16 : (k : ℕ) → le16 map k < 65536
-  unfolding le16
-  below-16 k = omega (arith, bytes k, bytes (k + 1))
-
   counted-16 : (k : ℕ) → Counted k 2 (le16 map k)
   unfolding le16
   counted-16 k = counted-twice 8 k 1 (getD map k 0) (getD map (k + 1) 0) (bytes k) (counted-8 k) (counted-8 (k + 1))
 
-  below-32 : (k : ℕ) → le32 map k < 4294967296
-  unfolding le32
-  below-32 k = omega (arith, below-16 k, below-16 (k + 2))
-
   counted-32 : (k : ℕ) → Counted k 4 (le32 map k)
   unfolding le32
-  counted-32 k = counted-twice 16 k 2 (le16 map k) (le16 map (k + 2)) (below-16 k) (counted-16 k) (counted-16 (k + 2))
+  counted-32 k = counted-twice 16 k 2 (le16 map k) (le16 map (k + 2)) (le16-fits map bytes k) (counted-16 k) (counted-16 (k + 2))
 
   counted-64 : (k : ℕ) → Counted k 8 (le64 map k)
   unfolding le64
-  counted-64 k = counted-twice 32 k 4 (le32 map k) (le32 map (k + 4)) (below-32 k) (counted-32 k) (counted-32 (k + 4))
+  counted-64 k = counted-twice 32 k 4 (le32 map k) (le32 map (k + 4)) (le32-fits map bytes k) (counted-32 k) (counted-32 (k + 4))
 
   -- a loop's turn: eight bytes more
   pub ones-word : (i : ℕ) → onesBelow (64 * (i + 1)) map ≡ onesBelow (64 * i) map + ones (le64 map (8 * i))
