@@ -42,15 +42,15 @@ extern "C" {
 
 /* The version of this header, and of the library that is installed with it. */
 #define HARPTIMBER_VERSION_MAJOR 0
-#define HARPTIMBER_VERSION_MINOR 3
+#define HARPTIMBER_VERSION_MINOR 4
 #define HARPTIMBER_VERSION_PATCH 0
-#define HARPTIMBER_VERSION "0.3.0"
+#define HARPTIMBER_VERSION "0.4.0"
 
 enum {
     /* Of what is asked: a card's blocks, and a name's bytes. */
     HARPTIMBER_BLOCK_BYTES = 4096,
     HARPTIMBER_CARD_BLOCKS_LEAST = 2,
-    HARPTIMBER_CARD_BLOCKS_MOST = 262144,
+    HARPTIMBER_CARD_BLOCKS_MOST = 4194304,
     HARPTIMBER_NAME_BYTES_MOST = 255,
     /* The most that a pull rests on, and the bytes to lend for a list with room for that. */
     HARPTIMBER_NODES_MOST = 179,
@@ -59,13 +59,16 @@ enum {
     HARPTIMBER_BLOCKS_BYTES = 4 * HARPTIMBER_BLOCKS_MOST,
     HARPTIMBER_SEGMENT_BLOCKS = 512,
     /*
-     * The most main segments that a card has, 505, and the bytes to lend for a list of all of them. Before
+     * The most main segments that a card has, 8,185, and the bytes to lend for a list of all of them. Before
      * the main area lie at least the two copies of the superblock, a block each, and two segments each of
      * checkpoint, SIT and NAT.
      */
     HARPTIMBER_SEGMENTS_MOST = (HARPTIMBER_CARD_BLOCKS_MOST - 2) / HARPTIMBER_SEGMENT_BLOCKS - 6,
     HARPTIMBER_SEGMENTS_BYTES = 4 * HARPTIMBER_SEGMENTS_MOST
 };
+
+/* The bytes of the largest card, 16 GiB. As a product of the enumerators they would pass an int. */
+#define HARPTIMBER_CARD_BYTES_MOST ((uint64_t)HARPTIMBER_CARD_BLOCKS_MOST * HARPTIMBER_BLOCK_BYTES)
 
 /* What an answer number means, harptimber_answer_words says. */
 enum harptimber_answer {
@@ -167,7 +170,7 @@ struct harptimber_entry {
 
 /*
  * What a card's node table, with its journal, says of node `number`. `image` is the whole card: 2 to
- * 262,144 blocks of 4,096 bytes; any other length is HARPTIMBER_OUT_OF_SHAPE. Numbers run from 1 to
+ * 4,194,304 blocks of 4,096 bytes; any other length is HARPTIMBER_OUT_OF_SHAPE. Numbers run from 1 to
  * 116,480 times the card's NAT segments, less 1; any other is HARPTIMBER_NO_NODE.
  */
 struct harptimber_entry harptimber_node_lookup(const uint8_t *image, size_t image_len, uint32_t number);

@@ -54,7 +54,7 @@ bool part_take(struct card *card, const struct part *part)
     if (!part->by_offset)
         return true;
     if (part->offset < card->file_len)
-        return take(card, part->offset, (uint64_t)HARPTIMBER_CARD_BLOCKS_MOST * BLOCK_SIZE);
+        return take(card, part->offset, HARPTIMBER_CARD_BYTES_MOST);
     char there[NUMBER_ROOM];
     complain(card->path, "has no byte %" PRIu64 ": it has %s bytes", part->offset, number_text(there, card->file_len));
     return false;

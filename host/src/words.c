@@ -53,7 +53,7 @@ static void show_bad_length(FILE *out, const struct card *card)
             show_count(out, card->len, "byte");
             fputs(")", out);
         }
-        fputs("; at most 1 GiB is read", out);
+        fputs("; at most 16 GiB is read", out);
     }
 }
 

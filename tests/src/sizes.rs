@@ -1,7 +1,7 @@
 //! The sizes of calls, under the names of host/include/harptimber.h. tests/documents/header.rs holds them to it.
 
 /// The most blocks that a card may have.
-pub const CARD_BLOCKS_MOST: u32 = 262_144;
+pub const CARD_BLOCKS_MOST: u32 = 4_194_304;
 /// The most node numbers and blocks that a pull lists.
 pub const NODES_MOST: u32 = 179;
 pub const BLOCKS_MOST: u32 = 238;

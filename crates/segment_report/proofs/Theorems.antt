@@ -149,7 +149,7 @@ module _ (image list : List ℕ) where
       let inside = address-inside (cardOf image) v sit s h in
       (block-in-table (cardOf image) v sit s h, inside .0, inside .1)
 
-  -- a list of 505 numbers has room for every card: before its main area lie two blocks of superblocks, and two segments each of
+  -- a list of 8,185 numbers has room for every card: before its main area lie two blocks of superblocks, and two segments each of
   -- checkpoint, SIT and NAT
   pub segments-most : (v : Volume) → openedWithSit image ≡ Opened v → v .areas .«main_segments» ≤ (mostBlocks - 2) / 512 - 6
   segments-most v e =

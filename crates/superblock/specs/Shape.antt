@@ -1,4 +1,5 @@
--- "An image has whole blocks, 2 to 262,144 of them."
+-- "An image has whole blocks", 2 of them or more. K8: "Raise the image limit to 4,194,304 blocks (16 GiB). 4,194,304 is in shape, one more
+-- is 4."
 use mathlib.Core.Bool.{Bool, _&&_}
 use Prim.Native.Nat.{ℕ, _/_, _%_, _≤_}
 use lib.Dec.{eqb, leb}
@@ -6,7 +7,7 @@ use Rattle.field.specs.Card.{Card}
 
 -- the most blocks that an image may have
 abbrev pub mostBlocks : ℕ
-mostBlocks = 262144
+mostBlocks = 4194304
 
 -- an image of so many bytes is in shape
 unfoldable pub inShape : ℕ → Bool

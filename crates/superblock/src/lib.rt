@@ -12,6 +12,9 @@ ghost use Rattle.superblock.specs.Superblock.{copyOf, mark, superblockOf
 ghost use Rattle.superblock.specs.Superblock.{countsPass, endOf, areasPass, endsPass, fieldsPass, passes};
 ghost use Rattle.superblock.specs.Areas.{areasOf, accepted, found};
 
+// 16 GiB.
+const MOST_BLOCKS: usize = 4194304;
+
 // A copy's fields, under their names in the Linux header.
 pub struct Superblock {
     pub log_sectorsize: u32,
@@ -70,7 +73,7 @@ pub enum Tried {
 pub fn in_shape(bytes: usize) -> bool
     ensures { λ r. ⌜ r ≡ inShape bytes ⌝ }
 {
-    (bytes % 4096 == 0) & (2 <= bytes / 4096) & (bytes / 4096 <= 262144)
+    (bytes % 4096 == 0) & (2 <= bytes / 4096) & (bytes / 4096 <= MOST_BLOCKS)
 }
 
 fn has_mark(copy: &[u8]) -> bool
