@@ -17,6 +17,9 @@ pub const JOURNAL_ENTRY_SIZE: usize = 13;
 /// "a 16-bit count, at most 38"
 const JOURNAL_MOST: usize = 38;
 
+/// "Raise the image limit to 4,194,304 blocks (16 GiB)."
+const MOST_IMAGE_BLOCKS: usize = 4_194_304;
+
 /// What an image that opens is read by.
 #[derive(Debug, Clone, Copy)]
 pub struct Volume<'a> {
@@ -82,9 +85,9 @@ pub fn open(image: &[u8]) -> Result<Volume<'_>, u32> {
     })
 }
 
-/// "An image has whole blocks, 2 to 262,144 of them."
+/// "An image has whole blocks, 2 to [the limit] of them." "4,194,304 is in shape, one more is 4".
 pub fn is_image_length(length: usize) -> bool {
-    length % BLOCK_SIZE == 0 && (2..=262_144).contains(&(length / BLOCK_SIZE))
+    length % BLOCK_SIZE == 0 && (2..=MOST_IMAGE_BLOCKS).contains(&(length / BLOCK_SIZE))
 }
 
 /// One superblock copy, as stored.
@@ -369,9 +372,39 @@ mod tests {
         assert_eq!(open(&[]).err(), Some(4));
         assert_eq!(open(&[0; 4096]).err(), Some(4));
         assert_eq!(open(&[0; 4097]).err(), Some(4));
-        assert!(!is_image_length(262_145 * 4096));
-        assert!(is_image_length(262_144 * 4096));
+        assert!(!is_image_length(4_194_305 * 4096));
+        assert!(is_image_length(4_194_304 * 4096));
         assert_eq!(open(&[0; 8192]).err(), Some(5));
+    }
+
+    #[test]
+    fn lengths_up_to_the_limit_and_over_it() {
+        // Around document 01's own limit, byte 2^32 and the limit that holds now.
+        let in_shape = [262_144, 262_145, 1_048_575, 1_048_576, 1_048_577, 4_194_303, 4_194_304];
+        for blocks in in_shape {
+            assert!(is_image_length(blocks * 4096), "{blocks} blocks");
+            for length in [blocks * 4096 - 1, blocks * 4096 + 1, blocks * 4096 + 4095] {
+                assert!(!is_image_length(length), "{length} bytes");
+            }
+        }
+        // Cut to 32 bits, the second and the last would be 2 blocks long.
+        for blocks in [4_194_305, 4_194_306, 8_388_608, (1 << 32) + 2] {
+            assert!(!is_image_length(blocks * 4096), "{blocks} blocks");
+        }
+        assert!(!is_image_length(usize::MAX));
+    }
+
+    /// The superblock alone, since its image would be too much to lend here.
+    #[test]
+    fn superblock_of_the_largest_card() {
+        let mut sample = Sample::new();
+        for (at, value) in [(36, 4_194_304), (48, 8191), (68, 8184)] {
+            sample.put32(0, 1024 + at, value);
+        }
+        let superblock = Superblock::read(block(&sample.bytes, 0)).unwrap();
+        assert_eq!(superblock.main_end(), 4_194_304);
+        assert!(superblock.passes(4_194_304));
+        assert!(!superblock.passes(4_194_303));
     }
 
     #[test]

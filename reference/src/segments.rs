@@ -393,6 +393,23 @@ mod tests {
         assert_eq!(reported(&sample, 8), (one, vec![1, 0, 0, 0, LENT, LENT, LENT, LENT]));
     }
 
+    /// The report reads no main block, so a small image does for the 8,184 main segments that its
+    /// layout has on a card of 4,194,304 blocks.
+    #[test]
+    fn every_segment_of_the_largest_card() {
+        let mut sample = Sample::new();
+        for segment in 0..8184 {
+            sample.put_sit(SIT + segment / 55, segment % 55, &sit_entry(512, 512));
+        }
+        sample.put_sit(SIT + 148, 43, &sit_entry(511, 512));
+        let volume = Volume { main_segments: 8184, ..open(&sample.bytes).unwrap() };
+        let mut list = vec![LENT; 8184 * 4];
+        let segments = list_wrong_counts(&Sit::new(volume).unwrap(), &mut list);
+        assert_eq!(segments, Segments { answer: 0, count: 1, valid_blocks: 8184 * 512 });
+        assert_eq!(le32(&list, 0), 8183);
+        assert!(list[4..].iter().all(|&byte| byte == LENT));
+    }
+
     #[test]
     fn without_main_segments_any_list_will_do() {
         let mut sample = Sample::new();
