@@ -8,7 +8,7 @@ use native.Mathlib.Omega.{arith}
 use lib.ListN.{length}
 use Rattle.field.specs.Card.{cardOf}
 use Rattle.field.proofs.Choosing.{either, needed-eq, needed-le}
-use Rattle.superblock.specs.Shape.{inShape, InShape}
+use Rattle.superblock.specs.Shape.{mostBlocks, inShape, InShape}
 
 module _ (image : List ℕ) (h : inShape (length image) ≡ true) where
   pub shape-card : InShape (cardOf image)
@@ -30,8 +30,8 @@ unfolding inShape
 longer-out-of-shape bytes longer =
     ⊎-elim
     (λ h.
-      let whole = needed-eq {m = bytes % 4096} {n = 0} (λ p. rw p refl) h in
-      let few = needed-le {m = bytes / 4096} {n = 4194304} (λ p. simp (p, and-false)) h in
-      absurd (omega arith))
+    let whole = needed-eq {m = bytes % 4096} {n = 0} (λ p. rw p refl) h in
+    let few = needed-le {m = bytes / 4096} {n = mostBlocks} (λ p. simp (p, and-false)) h in
+    absurd (omega arith))
     (λ h. h)
     (either (inShape bytes))
