@@ -60,7 +60,7 @@ static void expect_compared(const uint8_t *kept, size_t kept_len, const uint8_t 
                kept_len, fresh_len, got.answer, got.side, answer, side);
 }
 
-/* A pull, and compares with `len` zeros on either side and on both: without a superblock it is the kept side's fault. */
+/* A pull, and compares with `len` zeros on either side and on both: without a superblock it is the kept one's fault. */
 static void expect_length(const uint8_t *zeros, size_t len, uint32_t answer)
 {
     uint32_t side = answer == HARPTIMBER_OUT_OF_SHAPE ? 0 : 1;
