@@ -21,6 +21,8 @@ const SEEK_DATA: c_int = 3;
 const SEEK_HOLE: c_int = 4;
 /// There is no data any more.
 const ENXIO: i32 = 6;
+const SIGXFSZ: c_int = 25;
+const SIG_IGN: usize = 1;
 
 /// `struct statvfs`: among others the size in which room is counted, and how much an ordinary user can have.
 #[derive(Default)]
@@ -47,6 +49,7 @@ extern "C" {
     fn madvise(address: *mut c_void, len: usize, advice: c_int) -> c_int;
     fn lseek(file: c_int, offset: i64, whence: c_int) -> i64;
     fn statvfs(path: *const c_char, disk: *mut Disk) -> c_int;
+    fn signal(number: c_int, action: usize) -> usize;
 }
 
 /// Maps so many bytes; without a file they are zeros.
@@ -160,6 +163,9 @@ pub fn need_room(folder: &Path, bytes: u64) {
 /// A new file of so many bytes, that are all a hole.
 pub fn sparse_file(path: &Path, len: u64) -> File {
     let file = File::create(path).unwrap_or_else(|error| panic!("{}: {error}", path.display()));
+    // Where files may not be so long, there is to be an error and not a signal.
+    // SAFETY: no function of this program is called by the signal.
+    unsafe { signal(SIGXFSZ, SIG_IGN) };
     let made = file.set_len(len).and_then(|()| file.metadata());
     let taken = match made {
         Ok(made) => made.blocks() * 512,
