@@ -37,9 +37,10 @@ bool length_is_in_shape(const struct card *card)
            blocks <= HARPTIMBER_CARD_BLOCKS_MOST;
 }
 
+/* Says how long it is: the whole file, or what options chose of it. */
 static void show_bad_length(FILE *out, const struct card *card)
 {
-    fputs("the image has ", out);
+    fputs(card->len == card->file_len ? "the image has " : "the chosen part has ", out);
     if (card->len % BLOCK_SIZE != 0) {
         show_count(out, card->len, "byte");
         fputs(", which isn't a whole number of 4,096-byte blocks", out);
@@ -53,8 +54,20 @@ static void show_bad_length(FILE *out, const struct card *card)
             show_count(out, card->len, "byte");
             fputs(")", out);
         }
-        fputs("; at most 16 GiB is read", out);
+        fputs("; at most ", out);
+        show_size(out, HARPTIMBER_CARD_BYTES_MOST);
+        fputs(" is read", out);
     }
+}
+
+/* Whether the card is a partition with an F2FS mark already: then there is no other to take. */
+static bool is_taken(const struct partitions *partitions, const struct card *card)
+{
+    uint64_t first = (uint64_t)(card->bytes - card->map);
+    for (uint32_t i = 0; i < partitions->count; i++)
+        if (partitions->list[i].marked && partitions->list[i].first == first)
+            return true;
+    return false;
 }
 
 /* What the file is if it is a disk, and what to do then. Returns whether that was said. */
@@ -62,7 +75,7 @@ static bool show_disk(FILE *out, const struct card *card)
 {
     struct partitions partitions;
     partitions_read(&partitions, card->map, card->file_len);
-    if (partitions.table == NULL)
+    if (partitions.table == NULL || is_taken(&partitions, card))
         return false;
     fputs("; ", out);
     show_partitions(out, &partitions);

@@ -84,15 +84,17 @@ impl Images {
         let few = ": the image has 1 block of 4,096 bytes; a card has at least 2";
         self.add_length(block, 4, few);
         let larger = [
-            (most + block, "1 GiB (1,073,745,920 bytes)"),
-            (2 * most, "2 GiB"),
-            (5 * most / 2, "2.5 GiB (2,684,354,560 bytes)"),
+            (most + block, "16 GiB (17,179,873,280 bytes)"),
+            (33 << 29, "16.5 GiB (17,716,740,096 bytes)"),
+            ((17 << 30) - block, "16.9 GiB (18,253,606,912 bytes)"),
+            (2 * most, "32 GiB"),
+            (5 * most / 2, "40 GiB"),
         ];
         for (len, size) in larger {
             self.add_length(
                 len,
                 4,
-                &format!(": the image has {size}; at most 1 GiB is read"),
+                &format!(": the image has {size}; at most 16 GiB is read"),
             );
         }
         let [count, left] = [whole, whole - block].map(|len| len / block);
@@ -141,19 +143,26 @@ impl Images {
         let fields = [(0, LOG_BLOCKSIZE, 13), (1, LOG_BLOCKSIZE, 13)];
         let why = ": each copy: log_blocksize is 13, not 12";
         self.add_changed("larger blocks", 5, why, &fields);
-        let blocks = sound().bytes().len() / BLOCK_SIZE;
-        let count = (1 << 33) + 9;
-        for (copy, other) in [(0, 1), (1, 0)] {
-            let counts = [count, blocks as u64].map(|blocks| with_commas(blocks as usize));
-            let counts = format!(
-                "a volume of {} blocks, but the image has only {}",
-                counts[0], counts[1]
-            );
+        let blocks = with_commas(sound().bytes().len() / BLOCK_SIZE);
+        let few = format!("but the image has only {blocks}");
+        let more = "at most 4,194,304 are read";
+        let counts = [
+            (4_194_304, format!("a volume of 4,194,304 blocks, {few}")),
+            (4_194_305, format!("a volume of 4,194,305 blocks; {more}")),
+            (
+                (1 << 33) + 9,
+                format!("a volume of 8,589,934,601 blocks; {more}"),
+            ),
+        ];
+        for ((count, words), (copy, other)) in counts
+            .iter()
+            .flat_map(|count| [(count, (0, 1)), (count, (1, 0))])
+        {
             let mut whys = ["no F2FS mark"; 2];
-            whys[copy as usize] = &counts;
+            whys[copy as usize] = words;
             let why = format!(": copy 1: {}; copy 2: {}", whys[0], whys[1]);
-            let name = format!("many blocks by copy {copy}");
-            let fields = [(copy, BLOCK_COUNT, count), (other, MAGIC, 0)];
+            let name = format!("{count} blocks by copy {copy}");
+            let fields = [(copy, BLOCK_COUNT, *count), (other, MAGIC, 0)];
             self.add_changed(&name, 5, &why, &fields);
         }
     }
@@ -248,6 +257,29 @@ fn in_words() {
             let ends = ["", "; nothing was written"].map(Some);
             assert!(ends.contains(&behind), "no '{part}' in {ran:?}");
         }
+    }
+}
+
+/// Lengths from the shortest card that opens to the longest: the blocks behind a volume change no answer.
+#[test]
+fn lengths_in_shape() {
+    let disk = OnDisk::new(sound());
+    let path = disk.path();
+    let lines: [Words; 4] = [
+        &[&"pull", &"--json", &path, &NAME, &"0"],
+        &[&"node", &"--json", &path, &"3"],
+        &[&"segments", &"--json", &path],
+        &[&"ls", &"--json", &path],
+    ];
+    let answers = || lines.map(|line| run(line).out);
+    let alone = answers();
+    for blocks in [262_144, 262_145, 4_194_303, 4_194_304] {
+        let file = File::options().write(true).open(&path).unwrap();
+        file.set_len(blocks * BLOCK_SIZE as u64).unwrap();
+        let info = run(&[&"info", &"--json", &path]).expect(0).json();
+        expect_head(&info, "info", 0);
+        assert_eq!(info["bytes"].number(), blocks * BLOCK_SIZE as u64);
+        assert_eq!(answers(), alone, "with {blocks} blocks");
     }
 }
 
