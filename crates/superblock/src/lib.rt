@@ -249,7 +249,7 @@ pub fn find_superblock(image: &[u8]) -> Found
     requires { ⌜ InShape (cardOf (now image)) ⌝ }
     ensures { λ r. ⌜ r ≡ found (cardOf (now (image .entry))) ⌝ }
 {
-    let blocks = image.len() as u64 / 4096;
+    let blocks = field::block_count(image);
     let first = try_copy(field::block_at(image, 0), blocks);
     match first {
         Tried::Passed(s) => accept(s),

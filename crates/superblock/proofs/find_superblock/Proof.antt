@@ -14,27 +14,35 @@ use Rattle.superblock.proofs.find_superblock.Tie as tie
 abbrev card-of : tie.Start → Card
 card-of s = cardOf (s .args .image .now)
 
--- places: where the copy in block 0 was tried, and where the one in block 1 was
+-- places: where the blocks were counted, the copy in block 0 was tried, and the one in block 1 was
+abbrev counted-of : tie.After-try-copy → tie.After-block-count
+counted-of k = k .before .before
+
 abbrev start-of : tie.After-try-copy → tie.Start
-start-of k = k .before .before .before
+start-of k = counted-of k .before .before
 
 abbrev first-of : tie.After-try-copy2 → tie.After-enum-told
 first-of k = k .before .before
 
 first-tried : (k : tie.After-try-copy) → let card = card-of (start-of k) in
     k .try-copy .result ≡ choose (copyPasses card 0) (Passed (superblockOf (copyIn card 0))) Failed
-first-tried k = rw (k .before .block-at .ensures) at (k .try-copy .ensures)
+first-tried k = rw (k .before .block-at .ensures, counted-of k .block-count .ensures) at (k .try-copy .ensures)
 
 second-tried : (k : tie.After-try-copy2) → let card = card-of (start-of (first-of k .before .before)) in
     k .try-copy2 .result ≡ choose (copyPasses card 1) (Passed (superblockOf (copyIn card 1))) Failed
-second-tried k = rw (k .before .block-at2 .ensures) at (k .try-copy2 .ensures)
+second-tried k =
+    let first = first-of k .before .before in
+    rw (k .before .block-at2 .ensures, counted-of first .block-count .ensures) at (k .try-copy2 .ensures)
+
+block-count-requires : tie.Need-block-count-requires
+block-count-requires c κs = search needs
 
 block-at-requires : tie.Need-block-at-requires
 block-at-requires c κs = search needs
 
 try-copy-requires : tie.Need-try-copy-requires
 try-copy-requires c κs =
-    length-of-block _ 0 (omega (arith, c .before .before .pre .least)) (c .block-at .ensures)
+    length-of-block _ 0 (omega (arith, c .before .before .before .pre .least)) (c .block-at .ensures)
 
 enum-known-first : tie.Need-enum-known-first
 enum-known-first c = search needs
@@ -97,6 +105,7 @@ pub find-superblock-spec : {M : Type 1} → statement M
 find-superblock-spec =
     tie.close
     (tie.spec
+    block-count-requires
     block-at-requires
     try-copy-requires
     enum-known-first

@@ -1,0 +1,37 @@
+-- An image whose length is out of shape is answered with 4 by each call that takes one, whatever its bytes and whatever else is
+-- asked: all other numbers are 0, and what was lent stays as it was. `longer-out-of-shape` (superblock/proofs/Shaped.antt) says it of every
+-- image that is longer than the limit.
+use mathlib.Core.Path.{_≡_}
+use mathlib.Core.Bool.{false, and-false}
+use mathlib.Core.List.{List}
+use Prim.Native.Nat.{ℕ}
+use lib.ListN.{length}
+use Rattle.superblock.specs.Shape.{inShape}
+use Rattle.checkpoint.proofs.Ways.{shape-refuses}
+use Rattle.list.specs.Lists.{Listed}
+use Rattle.nat.specs.Lookup.{lookupOf}
+use Rattle.pull.specs.Pull.{Lent, callInShape, refusedPull, pulled}
+use Rattle.pull.proofs.Results.{call-refused}
+use Rattle.compare.specs.Compare.{refused, compared}
+use Rattle.compare.proofs.Openings.{shape-refused}
+use Rattle.sit.specs.Opening.{openedWithSit}
+use Rattle.segment_report.specs.Report.{refusedReport, segmentReport}
+
+module _ (image : List ℕ) (out : inShape (length image) ≡ false) where
+  pub lookup-out-of-shape : (number : ℕ) → lookupOf image number ≡ record { answer = 4; inode = 0; address = 0 }
+  unfolding lookupOf
+  lookup-out-of-shape number = rw (shape-refuses image out)
+
+  pub pull-out-of-shape : (name : List ℕ) (index : ℕ) (lent : Lent) → pulled image name index lent ≡ refusedPull 4 lent
+  unfolding callInShape
+  pull-out-of-shape name index lent = call-refused image name index lent (rw out)
+
+  pub kept-out-of-shape : (fresh : List ℕ) (nodes blocks : Listed) → compared image fresh nodes blocks ≡ refused 4 0
+  kept-out-of-shape fresh nodes blocks = shape-refused image fresh nodes blocks (rw out)
+
+  pub fresh-out-of-shape : (kept : List ℕ) (nodes blocks : Listed) → compared kept image nodes blocks ≡ refused 4 0
+  fresh-out-of-shape kept nodes blocks = shape-refused kept image nodes blocks (rw (out, and-false))
+
+  pub report-out-of-shape : (list : List ℕ) → segmentReport image list ≡ refusedReport 4 list
+  unfolding segmentReport openedWithSit
+  report-out-of-shape list = rw (shape-refuses image out)
