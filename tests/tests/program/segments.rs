@@ -19,7 +19,9 @@ use harptimber_tests::program::json::Json;
 use harptimber_tests::program::page::{expect_head, meaning, status_of};
 use harptimber_tests::program::segments::{hint, Segment, Segments};
 use harptimber_tests::program::special_build::SpecialBuild;
-use harptimber_tests::program::{run, run_on_terminal, run_on_terminal_after, Ran, Words};
+use harptimber_tests::program::{
+    self, on_terminal, run, run_on_terminal, run_on_terminal_after, Ran, Words,
+};
 use harptimber_tests::sizes::{CARD_BLOCKS_MOST, SEGMENTS_MOST};
 use harptimber_tests::tools::outside::CardFile;
 use harptimber_tests::tools::published::{self, contents, filled_with, formatted, Scratch};
@@ -247,9 +249,9 @@ fn no_main_segments() {
     assert_eq!(on_terminal.words(), ran.words());
 }
 
-/// As many main segments as there can be, each of them off, and a journal that names one more.
-#[test]
-fn largest_card() {
+/// The largest card: as many main segments as there can be, fuller and fuller and each of them off, and a journal that
+/// names one more.
+fn largest() -> Put {
     let of = |segments| Knobs {
         ssa_segments: 0,
         ..card_of(segments)
@@ -257,7 +259,8 @@ fn largest_card() {
     assert!(of(SEGMENTS_MOST + 1).image_blocks() > CARD_BLOCKS_MOST);
     let mut card = Put::new(&of(SEGMENTS_MOST));
     for segment in 0..SEGMENTS_MOST {
-        card.put(segment, &SitEntry::counted(segment as u16 + 1, segment));
+        let ones = 512 * segment / (SEGMENTS_MOST - 1);
+        card.put(segment, &SitEntry::counted(ones as u16 + 1, ones));
     }
     let behind = SitJournalEntry {
         segno: SEGMENTS_MOST,
@@ -265,10 +268,50 @@ fn largest_card() {
     };
     let (block, at) = card.sit.journal;
     card.disk.image.put_sit_journal(block, at, &[behind; 6]);
-    card.expect();
-    let words: Words = &[&"segments", &"--json", &card.disk.path()];
-    let json = SpecialBuild::sanitized().run(words).expect(1).json();
-    assert_eq!(json["count"].number(), 505);
+    card
+}
+
+#[test]
+fn largest_card() {
+    let card = largest();
+    let words = card.expect();
+    let lines: Vec<&str> = words.words().lines().collect();
+    assert!(lines[0].ends_with(": can be read (answer 0): 8,185 segments are off"));
+    let tenth = "  segment 9 counts 1 valid block, its map marks 0 (SIT table, block 1026)";
+    assert_eq!(
+        lines[10..12],
+        [tenth, "  8,175 more segments; --json has all"]
+    );
+    let last = "2,091,272 of 4,190,720 blocks valid in 8,185 segments (49.9 %), 16 of them empty";
+    assert_eq!(lines.last(), Some(&last), "of {words:?}");
+    let build = SpecialBuild::sanitized();
+    let path = card.disk.path();
+    let json = build.run(&[&"segments", &"--json", &path]).expect(1).json();
+    card.segments.expect_json(&json);
+    let sanitized = build.run(&[&"segments", &path]).expect(1);
+    assert_eq!(sanitized.words(), words.words());
+    expect_bars(&card, words.words());
+}
+
+/// As many segments a column as it takes; also under the compiler's sanitizers.
+fn expect_bars(card: &Put, words: &str) {
+    let line: Words = &[&"segments", &card.disk.path()];
+    let commands = [
+        program::command(line),
+        SpecialBuild::sanitized().command(line),
+    ];
+    let in_80_columns = "a column is 105 segments, blank if empty, # if full\n\
+        [...........:::::::::::-----------============+++++++++++***********%%%%%%%%%%%]\n";
+    assert_eq!(card.segments.bars(80, PLAIN), in_80_columns);
+    for (columns, bars) in [(3, PLAIN), (80, PLAIN), (81, BLOCKS), (9000, BLOCKS)] {
+        let locale = if bars == PLAIN { "C" } else { "C.UTF-8" };
+        let setting = format!("stty cols {columns}; LC_ALL={locale}");
+        for command in &commands {
+            let ran = on_terminal(&setting, command, None).expect(1);
+            let lines = card.segments.bars(columns, bars);
+            assert_eq!(ran.words(), format!("{words}{lines}"));
+        }
+    }
 }
 
 /// What dump.f2fs says of each segment: how many valid blocks it counts.
