@@ -6,6 +6,7 @@ pub mod cards;
 pub mod program;
 pub mod running;
 pub mod sizes;
+pub mod system;
 pub mod tools;
 pub mod trial;
 

@@ -2,7 +2,7 @@
 //! pulls.
 
 use harptimber_bench::pulls;
-use harptimber_bench::system::mapped;
+use harptimber_tests::system::mapped;
 use std::io::{stdout, BufWriter, Write};
 use std::os::unix::ffi::OsStrExt;
 use std::process::ExitCode;

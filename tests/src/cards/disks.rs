@@ -5,7 +5,6 @@ use std::os::unix::fs::FileExt;
 use std::path::PathBuf;
 
 use crate::cards::image::Image;
-use crate::cards::layout::BLOCK_SIZE;
 use crate::tools::published::Scratch;
 
 /// An MBR counts in these.
@@ -111,10 +110,8 @@ impl Disk {
     }
 
     pub fn put_card(&self, at: u64, image: &Image) {
-        for (block, bytes) in image.bytes().chunks(BLOCK_SIZE).enumerate() {
-            if bytes.iter().any(|&byte| byte != 0) {
-                self.put(at + (block * BLOCK_SIZE) as u64, bytes);
-            }
+        for (place, block) in image.data() {
+            self.put(at + place as u64, block);
         }
     }
 

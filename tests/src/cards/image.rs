@@ -4,7 +4,6 @@
 use std::fmt::{Debug, Formatter, Result};
 use std::fs::File;
 use std::ops::Range;
-use std::os::unix::fs::FileExt;
 use std::path::Path;
 
 use crate::cards::knobs::{Areas, Knobs, Pack};
@@ -12,6 +11,7 @@ use crate::cards::layout::checkpoint::SIT_NAT_VERSION_BITMAP;
 use crate::cards::layout::nat::{NatEntry, ENTRIES_PER_BLOCK, MAP_BYTES_PER_SEGMENT};
 use crate::cards::layout::{checkpoint, footer, journal, nat, superblock};
 use crate::cards::layout::{Field, BLOCK_SIZE, SEGMENT_BLOCKS};
+use crate::cards::sparse::Sparse;
 use crate::cards::versions;
 use crate::sizes::CARD_BLOCKS_MOST;
 use crate::trial::Random;
@@ -20,7 +20,7 @@ use crate::trial::Random;
 pub struct Image {
     /// How it came about, to be printed with a mismatch.
     origin: String,
-    bytes: Vec<u8>,
+    bytes: Sparse,
     patches: Vec<Patch>,
     /// As built: a patch of a superblock doesn't change them.
     pub areas: Areas,
@@ -53,8 +53,7 @@ impl Image {
         image
     }
 
-    /// With one block too many. The pages that nothing is written to are never really there, so that
-    /// a gigabyte costs little.
+    /// With one block too many.
     pub fn largest(knobs: Knobs) -> Image {
         Image::new(&Knobs {
             spare_image_blocks: CARD_BLOCKS_MOST + 1 - knobs.image_blocks(),
@@ -63,7 +62,7 @@ impl Image {
     }
 
     /// An image that wasn't built here. Its first superblock copy has to be sound.
-    pub fn read(origin: String, bytes: Vec<u8>) -> Image {
+    pub fn read(origin: String, bytes: Sparse) -> Image {
         let number = |field| number_in(&bytes, 0, field) as u32;
         let main = number(superblock::MAIN_BLKADDR);
         let areas = Areas {
@@ -78,7 +77,7 @@ impl Image {
         Image::over(origin, bytes, areas)
     }
 
-    fn over(origin: String, bytes: Vec<u8>, areas: Areas) -> Image {
+    fn over(origin: String, bytes: Sparse, areas: Areas) -> Image {
         Image {
             origin,
             bytes,
@@ -133,14 +132,12 @@ impl Image {
     /// Writes it to a file, in which blocks of zeros take no room.
     pub fn save(&self, path: &Path) {
         let file = File::create(path).expect("an image file");
-        let len = self.bytes.len() as u64;
-        file.set_len(len).expect("room for an image");
-        for (block, bytes) in self.bytes.chunks(BLOCK_SIZE).enumerate() {
-            if bytes.iter().any(|&byte| byte != 0) {
-                let at = (block * BLOCK_SIZE) as u64;
-                file.write_all_at(bytes, at).expect("an image's bytes");
-            }
-        }
+        self.bytes.save(&file);
+    }
+
+    /// The blocks that aren't zeros, each with the place of its first byte.
+    pub fn data(&self) -> impl Iterator<Item = (usize, &[u8])> {
+        self.bytes.data()
     }
 
     /// The bytes that the patches wrote, each with their place in the image.
@@ -392,10 +389,11 @@ fn number_in(bytes: &[u8], block: u32, field: Field) -> u64 {
 }
 
 /// The bytes before anything is written.
-fn background(knobs: &Knobs) -> Vec<u8> {
-    let mut bytes = vec![0; knobs.image_blocks() as usize * BLOCK_SIZE];
+fn background(knobs: &Knobs) -> Sparse {
+    let len = knobs.image_blocks() as usize * BLOCK_SIZE;
+    let mut bytes = Sparse::zeros(len);
     if let Some(seed) = knobs.junk {
-        put_junk(&mut bytes, seed);
+        put_junk(&mut bytes[0..len], seed);
     }
     bytes
 }

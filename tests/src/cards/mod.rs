@@ -14,6 +14,7 @@ pub mod random;
 pub mod random_files;
 pub mod random_segments;
 pub mod segments;
+pub mod sparse;
 pub mod tree;
 pub mod versions;
 pub mod walk_damage;

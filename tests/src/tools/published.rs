@@ -2,7 +2,6 @@
 
 use std::ffi::{OsStr, OsString};
 use std::fs;
-use std::io::Read;
 use std::os::unix::ffi::OsStrExt;
 use std::path::{Path, PathBuf};
 use std::process::{self, Command, Stdio};
@@ -10,6 +9,7 @@ use std::sync::atomic::{AtomicU32, Ordering};
 use std::time::{Duration, UNIX_EPOCH};
 
 use crate::cards::image::Image;
+use crate::cards::sparse::Sparse;
 use crate::running::{Ran, Running};
 use crate::trial::Random;
 
@@ -103,18 +103,10 @@ impl Scratch {
             .args([folder, self.image_path()]));
     }
 
-    /// Reads the image. Zeros aren't written to memory, which for them isn't really there.
+    /// Reads the image.
     fn image(&self, origin: String) -> Image {
-        let mut file = fs::File::open(self.image_path()).expect("the image");
-        let len = file.metadata().expect("its length").len() as usize;
-        let (mut bytes, mut part) = (vec![0; len], vec![0; MEGABYTE]);
-        for place in bytes.chunks_exact_mut(MEGABYTE) {
-            file.read_exact(&mut part).expect("its bytes");
-            if part.iter().any(|&byte| byte != 0) {
-                place.copy_from_slice(&part);
-            }
-        }
-        Image::read(origin, bytes)
+        let file = fs::File::open(self.image_path()).expect("the image");
+        Image::read(origin, Sparse::read(&file))
     }
 }
 

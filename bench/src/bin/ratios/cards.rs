@@ -2,7 +2,7 @@
 
 use harptimber_bench::agreed::Agreed;
 use harptimber_bench::pulls::{self, Lent, Pull, Pulled, BLOCK_SIZE};
-use harptimber_bench::system::mapped;
+use harptimber_tests::system::mapped;
 use harptimber_tests::tools::published::{file_with, File, Scratch};
 use harptimber_tests::trial::Random;
 use std::process::Command;

@@ -1,0 +1,111 @@
+//! What Rust's library doesn't have: mapped memory, and where a sparse file has data. Both are Linux's on 64 bits.
+
+use std::ffi::{c_int, c_void};
+use std::fs::File;
+use std::io::{Error, Result};
+use std::ops::{Deref, DerefMut, Range};
+use std::os::fd::AsRawFd;
+use std::path::Path;
+use std::{ptr, slice};
+
+const PROT_READ: c_int = 1;
+const PROT_WRITE: c_int = 2;
+const MAP_PRIVATE: c_int = 0x2;
+const MAP_ANONYMOUS: c_int = 0x20;
+const MAP_NORESERVE: c_int = 0x4000;
+const SEEK_DATA: c_int = 3;
+const SEEK_HOLE: c_int = 4;
+/// There is no data any more.
+const ENXIO: i32 = 6;
+
+extern "C" {
+    fn mmap(
+        address: *mut c_void,
+        len: usize,
+        protection: c_int,
+        flags: c_int,
+        file: c_int,
+        offset: i64,
+    ) -> *mut c_void;
+    fn munmap(address: *mut c_void, len: usize) -> c_int;
+    fn lseek(file: c_int, offset: i64, whence: c_int) -> i64;
+}
+
+/// Maps so many bytes; without a file they are zeros.
+fn map(len: usize, protection: c_int, flags: c_int, file: Option<&File>) -> Result<*mut u8> {
+    let file = file.map_or(-1, AsRawFd::as_raw_fd);
+    // SAFETY: a fresh mapping, which is over nothing that is in use.
+    let start = unsafe { mmap(ptr::null_mut(), len, protection, flags, file, 0) };
+    match start as isize {
+        -1 => Err(Error::last_os_error()),
+        _ => Ok(start.cast()),
+    }
+}
+
+/// Zeros that can be written to. They are only addresses: a page takes memory once it is written to, and not yet when
+/// it is read.
+pub struct Zeros {
+    start: *mut u8,
+    len: usize,
+}
+
+impl Zeros {
+    pub fn new(len: usize) -> Zeros {
+        let flags = MAP_PRIVATE | MAP_ANONYMOUS | MAP_NORESERVE;
+        let start = map(len, PROT_READ | PROT_WRITE, flags, None);
+        let start = start.unwrap_or_else(|error| panic!("{len} bytes of zeros: {error}"));
+        Zeros { start, len }
+    }
+}
+
+impl Deref for Zeros {
+    type Target = [u8];
+
+    fn deref(&self) -> &[u8] {
+        // SAFETY: mmap gave so many bytes, which are this value's own.
+        unsafe { slice::from_raw_parts(self.start, self.len) }
+    }
+}
+
+impl DerefMut for Zeros {
+    fn deref_mut(&mut self) -> &mut [u8] {
+        // SAFETY: as above.
+        unsafe { slice::from_raw_parts_mut(self.start, self.len) }
+    }
+}
+
+impl Drop for Zeros {
+    fn drop(&mut self) {
+        // SAFETY: this value is all that knows of the bytes.
+        unsafe { munmap(self.start.cast(), self.len) };
+    }
+}
+
+// SAFETY: they are bytes of its own, as a Vec's are.
+unsafe impl Send for Zeros {}
+unsafe impl Sync for Zeros {}
+
+/// The bytes of a file that nobody writes any more. They stay mapped as long as the program runs.
+pub fn mapped(path: &Path) -> &'static [u8] {
+    let mapped = File::open(path).and_then(|file| {
+        let len = file.metadata()?.len() as usize;
+        Ok((map(len, PROT_READ, MAP_PRIVATE, Some(&file))?, len))
+    });
+    let (start, len) = mapped.unwrap_or_else(|error| panic!("{}: {error}", path.display()));
+    // SAFETY: mmap gave so many bytes, which are never taken back.
+    unsafe { slice::from_raw_parts(start, len) }
+}
+
+/// The next part of a file, from a place on, that has data. What lies before it is a hole.
+pub fn next_data(file: &File, from: u64) -> Option<Range<u64>> {
+    let seek = |from: u64, whence| {
+        // SAFETY: only numbers cross.
+        let found = unsafe { lseek(file.as_raw_fd(), from as i64, whence) };
+        u64::try_from(found).map_err(|_| Error::last_os_error())
+    };
+    match seek(from, SEEK_DATA) {
+        Ok(start) => Some(start..seek(start, SEEK_HOLE).expect("an end of data")),
+        Err(error) if error.raw_os_error() == Some(ENXIO) => None,
+        Err(error) => panic!("data of a file: {error}"),
+    }
+}
