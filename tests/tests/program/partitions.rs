@@ -316,6 +316,11 @@ fn long_partitions() {
         expect_reason(&disk, "--partition=2", 4, &format!("{reason}{hint}"));
         // By its start alone the card can be read.
         expect_card_at(&disk, &["--offset", &start().to_string()], start());
+        // As a logical one.
+        let chain = START - 63;
+        disk.put_mbr(0, &[entry(EXTENDED[0], chain, u32::MAX), EMPTY]);
+        disk.put_mbr(chain.into(), &[entry(LINUX, 63, sectors as u32)]);
+        expect_reason(&disk, "--partition=5", 4, &reason);
     }
 }
 
