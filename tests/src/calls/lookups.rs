@@ -3,6 +3,7 @@
 use std::fmt::Debug;
 
 use crate::calls::answers::Answers;
+use crate::cards::card::{Card, Node};
 use crate::cards::image::Image;
 use crate::cards::layout::journal::JournalEntry;
 use crate::cards::layout::nat::NatEntry;
@@ -52,6 +53,18 @@ impl Lookups {
             (library, "as written", library),
             (reference, "as written", found(entry)),
         );
+    }
+
+    /// The same of each node of a card.
+    pub fn expect_nodes(&mut self, card: &Card) {
+        for (ino, Node { nid, block }) in card.nodes() {
+            let entry = NatEntry {
+                version: 0,
+                ino,
+                block_addr: block,
+            };
+            self.expect_entry(&card.image, nid, entry);
+        }
     }
 
     /// What the library finds, and what the reference does.

@@ -6,7 +6,10 @@ use std::fmt::Debug;
 use crate::calls::answers::Answers;
 use crate::calls::lent::{Pattern, Slice, NUMBER_SIZE};
 use crate::cards::image::Image;
+use crate::cards::layout::sit::SitEntry;
+use crate::cards::layout::sit_journal::SitJournalEntry;
 use crate::cards::layout::SEGMENT_BLOCKS;
+use crate::cards::random_segments::in_use;
 use crate::sizes::SEGMENTS_MOST;
 use crate::trial::{Random, Trial};
 use crate::Segments;
@@ -31,6 +34,14 @@ impl Report {
             off: off.to_vec(),
             valid_blocks,
         }
+    }
+
+    /// What these entries of the table say, and a journal over them.
+    pub fn by_entries(table: &[SitEntry], journal: &[SitJournalEntry]) -> Report {
+        let entries = in_use(table, journal);
+        let off = (0..).zip(&entries).filter(|(_, (entry, _))| entry.is_off());
+        let off: Vec<u32> = off.map(|(segno, _)| segno).collect();
+        Report::of(&off, entries.iter().map(|(entry, _)| entry.ones()).sum())
     }
 
     pub fn answer(&self) -> u32 {

@@ -2,6 +2,7 @@
 //! pull have to be sorted, and what nothing decides is junk.
 
 use std::collections::{BTreeMap, BTreeSet};
+use std::ops::Range;
 
 use crate::cards::image::Image;
 use crate::cards::knobs::{Knobs, Pack};
@@ -42,31 +43,38 @@ pub struct Card {
     /// Blocks of the root directory by their index.
     pub directory: BTreeMap<u32, u32>,
     free_blocks: Vec<u32>,
+    /// Blocks that are junk already.
+    junk_blocks: Range<u32>,
     /// Whether unneeded slots of nodes stay junk; otherwise they are holes.
     junk_slots: bool,
 }
 
+/// So many blocks of the main area are used at most.
+const MOST_USED: u32 = 1 << 14;
+
 impl Card {
-    pub fn new(knobs: Knobs, random: Random) -> Card {
-        Card::over(knobs, random, false)
+    pub fn new(mut knobs: Knobs, mut random: Random) -> Card {
+        knobs.junk.get_or_insert(random.number());
+        let free_blocks = free_blocks(&knobs, &mut random);
+        Card::within(knobs, random, free_blocks)
     }
 
     /// With junk in each slot that isn't needed, so that a step aside doesn't end in a hole.
     pub fn with_junk_slots(knobs: Knobs, random: Random) -> Card {
-        Card::over(knobs, random, true)
+        Card {
+            junk_slots: true,
+            ..Card::new(knobs, random)
+        }
     }
 
-    fn over(mut knobs: Knobs, mut random: Random, junk_slots: bool) -> Card {
-        knobs.junk.get_or_insert(random.number());
+    /// With these blocks of the main area to be used, the last of them first. What isn't used is junk only if the knobs
+    /// say so.
+    pub fn within(mut knobs: Knobs, random: Random, free_blocks: Vec<u32>) -> Card {
         for pack in knobs.packs.iter_mut().flatten() {
             // Entries for nodes come later.
             pack.journal.clear();
         }
         let (which_pack, pack) = knobs.pack_in_use();
-        let areas = knobs.areas();
-        // The first and the last block are left to the tests.
-        let mut free_blocks: Vec<u32> = (areas.main + 1..areas.main_end - 1).collect();
-        shuffle(&mut random, &mut free_blocks);
         Card {
             image: Image::new(&knobs),
             node_numbers: knobs.node_numbers(),
@@ -76,13 +84,18 @@ impl Card {
             nodes: BTreeMap::new(),
             directory: BTreeMap::new(),
             free_blocks,
-            junk_slots,
+            junk_blocks: knobs.junk.map_or(0..0, |_| knobs.junk_blocks()),
+            junk_slots: false,
         }
     }
 
     /// A block of the main area that nothing uses.
     pub fn free_block(&mut self) -> u32 {
-        self.free_blocks.pop().expect("room in the main area")
+        let block = self.free_blocks.pop().expect("room in the main area");
+        if !self.junk_blocks.contains(&block) {
+            self.image.put_junk(block..block + 1, self.random.number());
+        }
+        block
     }
 
     /// A node number that nothing uses.
@@ -95,6 +108,17 @@ impl Card {
             }
         }
     }
+}
+
+/// Blocks of the main area in no order, spread over all of it if there are many. The first and the last are left to
+/// the tests.
+fn free_blocks(knobs: &Knobs, random: &mut Random) -> Vec<u32> {
+    let areas = knobs.areas();
+    let inside = areas.main + 1..areas.main_end - 1;
+    let every = inside.len() as u32 / MOST_USED + 1;
+    let mut blocks: Vec<u32> = inside.step_by(every as usize).collect();
+    shuffle(random, &mut blocks);
+    blocks
 }
 
 /// Nodes and the table.
@@ -222,6 +246,11 @@ impl Card {
         ];
         self.add_inode(ino, &fields);
         ino
+    }
+
+    /// All nodes, each with the number of its inode.
+    pub fn nodes(&self) -> impl Iterator<Item = (u32, Node)> + '_ {
+        self.nodes.iter().map(|(&(ino, _), &node)| (ino, node))
     }
 
     /// The node at this place of a file, which has to be there.

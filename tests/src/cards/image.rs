@@ -39,8 +39,11 @@ struct Patch {
 
 impl Image {
     pub fn new(knobs: &Knobs) -> Image {
-        let bytes = background(knobs);
+        let bytes = Sparse::zeros(knobs.image_blocks() as usize * BLOCK_SIZE);
         let mut image = Image::over(format!("{knobs:?}"), bytes, knobs.areas());
+        if let Some(seed) = knobs.junk {
+            image.put_junk(knobs.junk_blocks(), seed);
+        }
         for copy in (0..2).filter(|&copy| knobs.copies[copy as usize]) {
             image.set_all(copy, &knobs.superblock_fields());
         }
@@ -55,10 +58,7 @@ impl Image {
 
     /// With one block too many.
     pub fn largest(knobs: Knobs) -> Image {
-        Image::new(&Knobs {
-            spare_image_blocks: CARD_BLOCKS_MOST + 1 - knobs.image_blocks(),
-            ..knobs
-        })
+        Image::new(&knobs.in_image_of(CARD_BLOCKS_MOST + 1))
     }
 
     /// An image that wasn't built here. Its first superblock copy has to be sound.
@@ -125,8 +125,11 @@ impl Image {
 
     /// Fills blocks with random bytes, which aren't undone.
     pub fn put_junk(&mut self, blocks: Range<u32>, seed: u64) {
-        let len = blocks.len() * BLOCK_SIZE;
-        put_junk(&mut self.bytes[place(blocks.start, 0, len)], seed);
+        let place = place(blocks.start, 0, blocks.len() * BLOCK_SIZE);
+        let mut random = Random::new(seed);
+        for eight in self.bytes[place].chunks_exact_mut(8) {
+            eight.copy_from_slice(&random.number().to_le_bytes());
+        }
     }
 
     /// Writes it to a file, in which blocks of zeros take no room.
@@ -386,23 +389,6 @@ fn number(stored: &[u8]) -> u64 {
 
 fn number_in(bytes: &[u8], block: u32, field: Field) -> u64 {
     number(&bytes[place(block, field.at, field.size)])
-}
-
-/// The bytes before anything is written.
-fn background(knobs: &Knobs) -> Sparse {
-    let len = knobs.image_blocks() as usize * BLOCK_SIZE;
-    let mut bytes = Sparse::zeros(len);
-    if let Some(seed) = knobs.junk {
-        put_junk(&mut bytes[0..len], seed);
-    }
-    bytes
-}
-
-fn put_junk(bytes: &mut [u8], seed: u64) {
-    let mut random = Random::new(seed);
-    for eight in bytes.chunks_exact_mut(8) {
-        eight.copy_from_slice(&random.number().to_le_bytes());
-    }
 }
 
 /// Where a pack's NAT map starts, and its bytes as far as they lie before the checksum.

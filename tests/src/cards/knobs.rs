@@ -1,5 +1,7 @@
 //! What a card is built from.
 
+use std::ops::Range;
+
 use crate::cards::layout::checkpoint::*;
 use crate::cards::layout::journal::{self, JournalEntry};
 use crate::cards::layout::nat::{BLOCKS_PER_SEGMENT, ENTRIES_PER_BLOCK, MAP_BYTES_PER_SEGMENT};
@@ -8,6 +10,7 @@ use crate::cards::layout::sit_journal::{self, SitJournalEntry};
 use crate::cards::layout::superblock::*;
 use crate::cards::layout::{Field, SEGMENT_BLOCKS};
 use crate::cards::versions;
+use crate::sizes::CARD_BLOCKS_MOST;
 
 /// A checkpoint pack.
 #[derive(Clone, Debug)]
@@ -151,9 +154,15 @@ pub struct Knobs {
     /// Which superblock copies are there.
     pub copies: [bool; 2],
     pub packs: [Option<Pack>; 2],
-    /// Bytes that nothing above decides are random from this seed; without one they are 0.
+    /// Bytes that nothing above decides are random from this seed; without one they are 0. Of a large card
+    /// only those in `junk_blocks` are.
     pub junk: Option<u64>,
 }
+
+/// A card with more blocks is a large one: it would take too much memory, were it full of junk.
+const FULL_OF_JUNK: u32 = 64 * SEGMENT_BLOCKS;
+/// In a large one so many blocks are junk. If its tables are short, these are all before the main area.
+const JUNK_IN_LARGE: u32 = 12 * SEGMENT_BLOCKS;
 
 impl Knobs {
     /// A card with room everywhere, so that a small change breaks one rule and no other.
@@ -188,10 +197,29 @@ impl Knobs {
         }
     }
 
+    /// A sound card of the most blocks, with so many segments of node table. Its main area ends with it.
+    pub fn largest(nat_segments: u32) -> Knobs {
+        let knobs = Knobs {
+            segment0: SEGMENT_BLOCKS,
+            nat_segments,
+            ..Knobs::sound()
+        };
+        let rest = CARD_BLOCKS_MOST - knobs.areas().main;
+        knobs.with_segments(rest / SEGMENT_BLOCKS)
+    }
+
     /// The same with so many main segments.
     pub fn with_segments(self, main_segments: u32) -> Knobs {
         Knobs {
             main_segments,
+            ..self
+        }
+    }
+
+    /// The same in an image of so many blocks.
+    pub fn in_image_of(self, blocks: u32) -> Knobs {
+        Knobs {
+            spare_image_blocks: blocks - self.areas().block_count,
             ..self
         }
     }
@@ -232,6 +260,15 @@ impl Knobs {
 
     pub fn image_blocks(&self) -> u32 {
         self.areas().block_count + self.spare_image_blocks
+    }
+
+    /// The blocks that are junk, if there is a seed.
+    pub fn junk_blocks(&self) -> Range<u32> {
+        let Areas { cp, main, .. } = self.areas();
+        match self.image_blocks() {
+            all @ ..=FULL_OF_JUNK => 0..all,
+            _ => cp..main.min(cp + JUNK_IN_LARGE),
+        }
     }
 
     /// The first number past the node table.

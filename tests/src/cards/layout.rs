@@ -196,8 +196,8 @@ pub mod sit {
     pub const MAP_SIZE: usize = 64;
     /// The count has the bits below it, the segment's type those from it on.
     pub const VBLOCKS_SHIFT: u32 = 10;
-    /// Enough of the map between the table's copies: no card has more than 10 table blocks in use.
-    pub const VER_BITMAP_BYTES: usize = 2;
+    /// Enough of the map between the table's copies: no card has more than 149 table blocks in use.
+    pub const VER_BITMAP_BYTES: usize = 19;
 
     // The numbers of a block's first entry.
     fields! { from 0:

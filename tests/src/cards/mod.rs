@@ -2,11 +2,13 @@
 
 pub mod card;
 pub mod damage;
+pub mod decoys;
 pub mod directory;
 pub mod disks;
 pub mod image;
 pub mod knobs;
 pub mod layout;
+pub mod lengths;
 pub mod names;
 pub mod on_disk;
 pub mod one_file;

@@ -63,7 +63,7 @@ impl Scene {
         Scene::on(card, setting)
     }
 
-    fn on(mut card: Card, setting: Setting) -> Scene {
+    pub fn on(mut card: Card, setting: Setting) -> Scene {
         card.add_root(setting.root_inline, 1);
         let ino = card.add_file(setting.file_inline, setting.size);
         let linked = card.link(0, 0, &Dentry::new(NAME, ino));

@@ -4,7 +4,7 @@
 use crate::cards::image::Image;
 use crate::cards::knobs::{Areas, Knobs, Pack};
 use crate::cards::layout::checkpoint::SIT_NAT_VERSION_BITMAP;
-use crate::cards::layout::sit::{SitEntry, ENTRIES_PER_BLOCK, ENTRY_SIZE, VER_BITMAP_BYTES};
+use crate::cards::layout::sit::{SitEntry, ENTRIES_PER_BLOCK, ENTRY_SIZE};
 use crate::cards::layout::sit_journal::{self, SitJournalEntry, MOST_ENTRIES, N_SITS, SEGNO};
 use crate::cards::layout::{Field, SEGMENT_BLOCKS};
 use crate::cards::random::pick;
@@ -106,7 +106,9 @@ impl Sit {
                 (journal, start + N_SITS.size + byte)
             }
             2 => {
-                let byte = byte_of(random, VER_BITMAP_BYTES);
+                // Those with the bits of table blocks in use, and one more.
+                let in_use = (self.main_segments / ENTRIES_PER_BLOCK / 8) as usize + 1;
+                let byte = byte_of(random, in_use + 1);
                 (self.first_block, SIT_NAT_VERSION_BITMAP + byte)
             }
             _ => {
@@ -119,7 +121,7 @@ impl Sit {
 }
 
 /// A card whose segment table is known. What a report has no business with is junk in the checkpoint area
-/// and the table, and never really there in the main area, so that a gigabyte of it costs little.
+/// and the table, and never really there in the main area, so that a large one costs little.
 pub struct SegmentCard {
     pub image: Image,
     pub sit: Sit,

@@ -12,6 +12,7 @@ use harptimber_tests::cards::layout::checkpoint::{
 use harptimber_tests::cards::layout::journal::MOST_ENTRIES;
 use harptimber_tests::cards::layout::superblock::{FEATURE, MAGIC};
 use harptimber_tests::cards::layout::{BLOCK_SIZE, SEGMENT_BLOCKS};
+use harptimber_tests::cards::lengths::{lengths, LENGTHS};
 use harptimber_tests::Compared;
 
 /// Two main segments, and a spare one behind them.
@@ -331,6 +332,25 @@ fn image_lengths() {
         compares.expect_in(input, [image.bytes(), &zeros[..len]], lists, refused(5, 2));
     }
     compares.finish(6 * 6 + 4, &[(4, 0, 0), (5, 1, 0), (5, 2, 0)]);
+}
+
+/// A card in longer and longer images, beside one that is as long as it has to be: on either side, and on both.
+#[test]
+fn longest_images() {
+    let mut compares = Compares::new("compare by length of large images");
+    let image = Image::to_be_cut(Knobs::sound());
+    let other = Image::new(&Knobs::sound());
+    let nodes = stored(&[3]);
+    let lists = Lists::whole(&nodes, &[]);
+    for (len, in_shape) in lengths() {
+        let (cut, other) = (&image.bytes()[..len], other.bytes());
+        let paper = if in_shape { SAME } else { OUT_OF_SHAPE };
+        let input = ("cut to bytes", len, &image);
+        for cards in [[cut, other], [other, cut], [cut, cut]] {
+            compares.expect_in(input, cards, lists, paper);
+        }
+    }
+    compares.finish(3 * LENGTHS, &[(4, 0, 0), (15, 0, 0)]);
 }
 
 #[test]

@@ -5,9 +5,8 @@ use harptimber_tests::cards::damage::all_faults;
 use harptimber_tests::cards::image::Image;
 use harptimber_tests::cards::knobs::Knobs;
 use harptimber_tests::cards::layout::BLOCK_SIZE;
-use harptimber_tests::sizes::CARD_BLOCKS_MOST;
+use harptimber_tests::cards::lengths::{lengths, LENGTHS};
 
-const MOST_BLOCKS: usize = CARD_BLOCKS_MOST as usize;
 const NUMBERS: [u32; 4] = [0, 1, 3, u32::MAX];
 
 /// Looks up numbers in the first `len` bytes; `answer` is that of numbers in range.
@@ -25,7 +24,7 @@ fn expect_at_length(lookups: &mut Lookups, image: &Image, len: usize, answer: u3
 #[test]
 fn lengths_of_a_sound_card() {
     let mut lookups = Lookups::new("node lookup by length");
-    let image = Image::largest(Knobs::sound());
+    let image = Image::to_be_cut(Knobs::sound());
     let blocks = image.areas.block_count as usize;
     let by_blocks = [
         (0, 4),
@@ -35,22 +34,23 @@ fn lengths_of_a_sound_card() {
         (blocks - 1, 5),
         (blocks, 0),
         (blocks + 1, 0),
-        (MOST_BLOCKS - 1, 0),
-        (MOST_BLOCKS, 0),
-        (MOST_BLOCKS + 1, 4),
     ];
     for (blocks, answer) in by_blocks {
         expect_at_length(&mut lookups, &image, blocks * BLOCK_SIZE, answer);
     }
-    for blocks in [1, 2, blocks, MOST_BLOCKS, MOST_BLOCKS + 1] {
+    for blocks in [1, 2, blocks] {
         for less in [1, 2, 4, 512, 1024, BLOCK_SIZE / 2, BLOCK_SIZE - 1] {
             expect_at_length(&mut lookups, &image, blocks * BLOCK_SIZE - less, 4);
         }
     }
-    lookups.finish(4 * (10 + 5 * 7), &[0, 4, 5, 9]);
+    for (len, in_shape) in lengths() {
+        let answer = if in_shape { 0 } else { 4 };
+        expect_at_length(&mut lookups, &image, len, answer);
+    }
+    lookups.finish(4 * (7 + 3 * 7 + LENGTHS), &[0, 4, 5, 9]);
 }
 
-/// The bench sheet has the empty image, one block and 262,145.
+/// The bench sheet has the empty image, one block and, since larger cards are read, 4,194,305.
 #[test]
 fn lengths_of_zeros() {
     let mut lookups = Lookups::new("node lookup in zeros");
@@ -63,13 +63,15 @@ fn lengths_of_zeros() {
         (0, 4),
         (1, 4),
         (2, 5),
-        (MOST_BLOCKS, 5),
-        (MOST_BLOCKS + 1, 4),
+        (262_144, 5),
+        (262_145, 5),
+        (4_194_304, 5),
+        (4_194_305, 4),
     ];
     for (blocks, answer) in by_blocks {
         expect_at_length(&mut lookups, &image, blocks * BLOCK_SIZE, answer);
     }
-    lookups.finish(4 * 5, &[4, 5]);
+    lookups.finish(4 * 7, &[4, 5]);
 }
 
 /// An image with everything wrong at once, of which one fault after the other is taken away.

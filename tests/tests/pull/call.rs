@@ -13,9 +13,9 @@ use harptimber_tests::cards::layout::inode::{I_MODE, I_SIZE, S_IFDIR, S_IFREG};
 use harptimber_tests::cards::layout::journal::{MOST_ENTRIES, N_NATS};
 use harptimber_tests::cards::layout::superblock::{FEATURE, MAGIC};
 use harptimber_tests::cards::layout::{dentry, footer, nat, Field, BLOCK_SIZE};
+use harptimber_tests::cards::lengths::{lengths, LENGTHS};
 use harptimber_tests::cards::names::good_name;
 use harptimber_tests::cards::one_file::{Scene, Setting, NAME};
-use harptimber_tests::sizes::CARD_BLOCKS_MOST;
 
 const PLAIN: Setting = Setting {
     root_inline: 0,
@@ -63,13 +63,13 @@ fn largest_images() {
         ..Knobs::sound()
     };
     for (knobs, opened) in [(Knobs::sound(), 9), (nothing, 5)] {
-        let image = Image::largest(knobs);
-        let by_blocks = [(CARD_BLOCKS_MOST, opened), (CARD_BLOCKS_MOST + 1, 4)];
-        for (blocks, answer) in by_blocks {
-            expect_at_length(&mut pulls, &image, blocks as usize * BLOCK_SIZE, answer);
+        let image = Image::to_be_cut(knobs);
+        for (len, in_shape) in lengths() {
+            let answer = if in_shape { opened } else { 4 };
+            expect_at_length(&mut pulls, &image, len, answer);
         }
     }
-    pulls.finish(4, &[4, 5, 9]);
+    pulls.finish(2 * LENGTHS, &[4, 5, 9]);
 }
 
 /// The block buffer has exactly 4,096 bytes, and the lists at least 179 and 238 numbers.

@@ -11,13 +11,11 @@ use harptimber_tests::cards::image::Image;
 use harptimber_tests::cards::knobs::{Knobs, Pack};
 use harptimber_tests::cards::layout::sit::SitEntry;
 use harptimber_tests::cards::layout::{journal, BLOCK_SIZE};
+use harptimber_tests::cards::lengths::{lengths, LENGTHS};
 use harptimber_tests::cards::segments::{SegmentCard, Sit};
-use harptimber_tests::sizes::CARD_BLOCKS_MOST;
 use harptimber_tests::trial::Random;
 
 use crate::{journalled, knobs, pack, FLAGS};
-
-const MOST_BLOCKS: usize = CARD_BLOCKS_MOST as usize;
 
 /// A card of which every second segment, from 0 on, is off.
 fn half_off(main_segments: u32) -> (SegmentCard, Report) {
@@ -83,7 +81,7 @@ fn expect_at_length(reports: &mut Reports, image: &Image, len: usize, paper: &Re
 #[test]
 fn lengths_of_the_image() {
     let mut reports = Reports::new("segment report by length of the image");
-    let image = Image::largest(Knobs::sound());
+    let image = Image::to_be_cut(Knobs::sound());
     let blocks = image.areas.block_count as usize;
     let none = Report::of(&[], 0);
     let [shape, unopened] = [4, 5].map(Report::refused);
@@ -95,19 +93,20 @@ fn lengths_of_the_image() {
         (blocks - 1, &unopened),
         (blocks, &none),
         (blocks + 1, &none),
-        (MOST_BLOCKS - 1, &none),
-        (MOST_BLOCKS, &none),
-        (MOST_BLOCKS + 1, &shape),
     ];
     for (blocks, paper) in by_blocks {
         expect_at_length(&mut reports, &image, blocks * BLOCK_SIZE, paper);
     }
-    for blocks in [1, 2, blocks, MOST_BLOCKS, MOST_BLOCKS + 1] {
+    for blocks in [1, 2, blocks] {
         for less in [1, 2, 4, 512, BLOCK_SIZE / 2, BLOCK_SIZE - 1] {
             expect_at_length(&mut reports, &image, blocks * BLOCK_SIZE - less, &shape);
         }
     }
-    reports.finish(3 * (10 + 5 * 6), &[0, 4, 5]);
+    for (len, in_shape) in lengths() {
+        let paper = if in_shape { &none } else { &shape };
+        expect_at_length(&mut reports, &image, len, paper);
+    }
+    reports.finish(3 * (7 + 3 * 6 + LENGTHS), &[0, 4, 5]);
 }
 
 /// An image with everything wrong at once, of which one fault after the other is taken away. The list is

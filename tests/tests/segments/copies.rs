@@ -4,32 +4,38 @@ use std::ops::Range;
 
 use harptimber_tests::calls::segments::{Report, Reports};
 use harptimber_tests::cards::knobs::{Knobs, Pack};
-use harptimber_tests::cards::layout::sit::{SitEntry, ENTRIES_PER_BLOCK};
+use harptimber_tests::cards::layout::sit::{SitEntry, ENTRIES_PER_BLOCK, VER_BITMAP_BYTES};
 use harptimber_tests::cards::segments::SegmentCard;
 use harptimber_tests::sizes::{CARD_BLOCKS_MOST, SEGMENTS_MOST};
 
 use crate::knobs;
 
-/// A card with as many main segments as fit beside a SIT area of this length. The NAT map is the opposite
-/// of the SIT map, so that neither is taken for the other.
-fn largest(sit_segments: u32, sit_map: [u8; 2]) -> SegmentCard {
+/// A card with a SIT area of this length and a map of one byte again and again. The NAT map is its opposite, so that
+/// neither is taken for the other.
+fn card(main_segments: u32, sit_segments: u32, map_byte: u8) -> SegmentCard {
     let pack = Pack {
-        sit_map: sit_map.to_vec(),
-        nat_map: sit_map.map(|byte| !byte).to_vec(),
+        sit_map: vec![map_byte; VER_BITMAP_BYTES],
+        nat_map: vec![!map_byte; VER_BITMAP_BYTES],
         ..Pack::compact(1)
     };
     SegmentCard::new(&Knobs {
         sit_segments,
         ssa_segments: 0,
-        ..knobs(SEGMENTS_MOST + 2 - sit_segments, pack)
+        ..knobs(main_segments, pack)
     })
+}
+
+/// A card with as many main segments as fit.
+fn largest(map_byte: u8) -> SegmentCard {
+    card(SEGMENTS_MOST, 2, map_byte)
 }
 
 /// A segment more would be too much.
 #[test]
 fn most_main_segments() {
     let mut reports = Reports::new("segment report of the most segments");
-    let mut card = largest(2, [0; 2]);
+    let mut card = largest(0x00);
+    assert_eq!(card.sit.main_segments, 8_185);
     let blocks = card.image.areas.block_count;
     assert!(blocks <= CARD_BLOCKS_MOST && CARD_BLOCKS_MOST < blocks + 512);
     let all: Vec<u32> = (0..SEGMENTS_MOST).collect();
@@ -50,24 +56,31 @@ fn most_main_segments() {
     reports.finish(5, &[0]);
 }
 
-/// Segments at the borders of table blocks; 440 has the first bit of the map's second byte.
-const AT_BORDERS: [u32; 17] = [
-    0, 1, 53, 54, 55, 56, 109, 110, 164, 165, 384, 385, 438, 439, 440, 494, 495,
+/// Segments at the borders of table blocks; 440 and 7,920 have the first bits of the map's second byte and of its last,
+/// 504 was the last that a card had room for, and 8,140 starts the last table block.
+const AT_BORDERS: [u32; 25] = [
+    0, 1, 53, 54, 55, 56, 109, 110, 164, 165, 384, 385, 438, 439, 440, 494, 495, 504, 505, 7_919,
+    7_920, 8_139, 8_140, 8_183, 8_184,
 ];
 
 /// One wrong count, in the first copies and in the second ones.
 #[test]
 fn segments_at_borders() {
     let mut reports = Reports::new("segment report at borders of table blocks");
-    for map in [[0x00; 2], [0xFF; 2]] {
-        let mut card = largest(2, map);
-        for segno in AT_BORDERS.into_iter().chain([SEGMENTS_MOST - 1]) {
+    for map_byte in [0x00, 0xFF] {
+        let mut card = largest(map_byte);
+        for segno in AT_BORDERS {
             card.set_entry(segno, &SitEntry::counted(513, 512));
             reports.expect(&card.image, &Report::of(&[segno], 512));
             card.image.undo(0);
         }
+        for segno in 8_130..8_185 {
+            card.set_entry(segno, &SitEntry::counted(0, 1));
+        }
+        let last: Vec<u32> = (8_130..8_185).collect();
+        reports.expect(&card.image, &Report::of(&last, 55));
     }
-    reports.finish(2 * 18, &[0]);
+    reports.finish(2 * (25 + 1), &[0]);
 }
 
 /// The segments in a table block, of so many in all.
@@ -96,17 +109,32 @@ fn write_both_copies(card: &mut SegmentCard) -> u32 {
     table_blocks
 }
 
-/// What `write_both_copies` makes a report say under this map, whose lowest bit is that of block 0.
-fn report_under(second_copies: u32, table_blocks: u32, segments: u32) -> Report {
+/// What `write_both_copies` makes a report say under this map.
+fn report_under(map: &[u8], segments: u32) -> Report {
     let mut ones = 0;
     let mut off = Vec::new();
-    for table_block in 0..table_blocks {
+    for table_block in 0..segments.div_ceil(ENTRIES_PER_BLOCK) {
         let all = in_block(table_block, segments);
-        let second = second_copies >> table_block & 1 == 1;
+        // Block 0 has the top bit.
+        let second = map[table_block as usize / 8] << (table_block % 8) & 0x80 != 0;
         off.push(if second { all.end - 1 } else { all.start });
         ones += if second { 2 } else { 1 };
     }
     Report::of(&off, ones)
+}
+
+/// Reports under one map after the other.
+fn expect_under(
+    reports: &mut Reports,
+    card: &mut SegmentCard,
+    maps: impl Iterator<Item = Vec<u8>>,
+) {
+    for map in maps {
+        card.set_map(&map);
+        let paper = report_under(&map, card.sit.main_segments);
+        reports.expect(&card.image, &paper);
+        card.image.undo(0);
+    }
 }
 
 /// Every mix of first and second copies, in tables of several lengths: the second copies follow all of the
@@ -115,19 +143,31 @@ fn report_under(second_copies: u32, table_blocks: u32, segments: u32) -> Report 
 fn every_map() {
     let mut reports = Reports::new("segment report by SIT map");
     for sit_segments in [2, 4, 6] {
-        let mut card = largest(sit_segments, [0; 2]);
-        let table_blocks = write_both_copies(&mut card);
-        assert_eq!(table_blocks, 10);
-        for second_copies in 0..1u32 << table_blocks {
-            // Block 0 has the top bit.
-            let map = (second_copies as u16).reverse_bits().to_be_bytes();
-            card.set_map(&map);
-            let paper = report_under(second_copies, table_blocks, card.sit.main_segments);
-            reports.expect(&card.image, &paper);
-            card.image.undo(0);
-        }
+        let mut card = card(505, sit_segments, 0x00);
+        assert_eq!(write_both_copies(&mut card), 10);
+        let maps = (0..1u16 << 10).map(|bits| bits.reverse_bits().to_be_bytes().to_vec());
+        expect_under(&mut reports, &mut card, maps);
     }
     reports.finish(3 * 1024, &[0]);
+}
+
+/// Of the largest card: any mix, and its last table block alone in its second copy, or in its first.
+#[test]
+fn maps_of_the_largest_card() {
+    const ANY: usize = 24;
+    let mut reports = Reports::new("segment report by SIT map of the largest card");
+    let mut card = largest(0x00);
+    assert_eq!(write_both_copies(&mut card), 149);
+    let any: Vec<_> = (0..ANY)
+        .map(|_| reports.trial.random.bytes(VER_BITMAP_BYTES))
+        .collect();
+    let ends = [0x00, 0xFF].map(|byte| {
+        let mut map = vec![byte; VER_BITMAP_BYTES];
+        map[148 / 8] ^= 0x80 >> (148 % 8);
+        map
+    });
+    expect_under(&mut reports, &mut card, any.into_iter().chain(ends));
+    reports.finish(ANY as u64 + 2, &[0]);
 }
 
 /// Tables up to the longest whose map has room beside the NAT map's. The distance follows their length.
@@ -139,13 +179,9 @@ fn every_table_length() {
             sit_segments,
             ..knobs(64, Pack::compact(1))
         });
-        let table_blocks = write_both_copies(&mut card);
-        for second_copies in 0..4 {
-            card.set_map(&[(second_copies as u8).reverse_bits(), 0]);
-            let paper = report_under(second_copies, table_blocks, 64);
-            reports.expect(&card.image, &paper);
-            card.image.undo(0);
-        }
+        assert_eq!(write_both_copies(&mut card), 2);
+        let maps = (0..4u8).map(|bits| vec![bits.reverse_bits(), 0]);
+        expect_under(&mut reports, &mut card, maps);
     }
     reports.finish(12 * 4, &[0]);
 }

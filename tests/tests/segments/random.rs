@@ -7,12 +7,10 @@ use harptimber_tests::calls::segments::{needed, Report, Reports};
 use harptimber_tests::cards::damage::Damage;
 use harptimber_tests::cards::image::Image;
 use harptimber_tests::cards::knobs::Knobs;
-use harptimber_tests::cards::layout::sit::SitEntry;
-use harptimber_tests::cards::layout::sit_journal::SitJournalEntry;
 use harptimber_tests::cards::layout::BLOCK_SIZE;
 use harptimber_tests::cards::random::{between, pick, sound_knobs, within};
 use harptimber_tests::cards::random_segments::{
-    in_use, random_segments, sit_entry, sit_journal, RandomSegments,
+    random_segments, sit_entry, sit_journal, RandomSegments,
 };
 use harptimber_tests::cards::segments::SegmentCard;
 use harptimber_tests::cards::versions::Apart;
@@ -28,14 +26,6 @@ fn card(random: &mut Random) -> RandomSegments {
     random_segments(random, knobs)
 }
 
-/// What these entries of the table say, and a journal over them.
-fn report(table: &[SitEntry], journal: &[SitJournalEntry]) -> Report {
-    let entries = in_use(table, journal);
-    let off = (0..).zip(&entries).filter(|(_, (entry, _))| entry.is_off());
-    let off: Vec<u32> = off.map(|(segno, _)| segno).collect();
-    Report::of(&off, entries.iter().map(|(entry, _)| entry.ones()).sum())
-}
-
 #[test]
 fn sound_cards() {
     let mut reports = Reports::new("segment report of random cards");
@@ -47,7 +37,7 @@ fn sound_cards() {
             journal,
         } = card(&mut reports.trial.random);
         met.note_versions(&card.image);
-        reports.expect(&card.image, &report(&table, &journal));
+        reports.expect(&card.image, &Report::by_entries(&table, &journal));
     }
     reports.finish(150, &[0]);
     met.finish(&Apart::ALL);
@@ -89,7 +79,7 @@ fn changing_cards() {
                 table[segno as usize] = sit_entry(random);
                 card.set_entry(segno, &table[segno as usize]);
             }
-            reports.expect(&card.image, &report(&table, &journal));
+            reports.expect(&card.image, &Report::by_entries(&table, &journal));
         }
     }
     reports.finish(20 * 50, &[0]);
