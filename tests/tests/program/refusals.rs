@@ -12,6 +12,7 @@ use harptimber_tests::cards::layout::superblock::{
     BLOCK_COUNT, CP_PAYLOAD, FEATURE, LOG_BLOCKSIZE, MAGIC,
 };
 use harptimber_tests::cards::layout::{Field, BLOCK_SIZE};
+use harptimber_tests::cards::lengths::lengths;
 use harptimber_tests::cards::on_disk::{OnDisk, Shared};
 use harptimber_tests::program::json::Json;
 use harptimber_tests::program::page::{counted, expect_head, expect_name, meaning, with_commas};
@@ -260,9 +261,9 @@ fn in_words() {
     }
 }
 
-/// Lengths from the shortest card that opens to the longest: the blocks behind a volume change no answer.
+/// Each length around the bounds is in shape or isn't. The blocks that the image has behind its volume change no answer.
 #[test]
-fn lengths_in_shape() {
+fn bounds() {
     let disk = OnDisk::new(sound());
     let path = disk.path();
     let lines: [Words; 4] = [
@@ -273,13 +274,15 @@ fn lengths_in_shape() {
     ];
     let answers = || lines.map(|line| run(line).out);
     let alone = answers();
-    for blocks in [262_144, 262_145, 4_194_303, 4_194_304] {
-        let file = File::options().write(true).open(&path).unwrap();
-        file.set_len(blocks * BLOCK_SIZE as u64).unwrap();
-        let info = run(&[&"info", &"--json", &path]).expect(0).json();
-        expect_head(&info, "info", 0);
-        assert_eq!(info["bytes"].number(), blocks * BLOCK_SIZE as u64);
-        assert_eq!(answers(), alone, "with {blocks} blocks");
+    let file = File::options().write(true).open(&path).unwrap();
+    for (len, in_shape) in lengths() {
+        file.set_len(len as u64).unwrap();
+        let (answer, status) = if in_shape { (0, 0) } else { (4, 2) };
+        let info = run(&[&"info", &"--json", &path]).expect(status).json();
+        expect_head(&info, "info", answer);
+        assert_eq!(info["bytes"].number(), len as u64);
+        let same = answers() == alone;
+        assert_eq!(same, in_shape, "other answers with {len} bytes");
     }
 }
 

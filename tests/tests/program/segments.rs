@@ -8,7 +8,7 @@ use harptimber_tests::cards::damage::Damage;
 use harptimber_tests::cards::image::Image;
 use harptimber_tests::cards::knobs::{Knobs, Pack};
 use harptimber_tests::cards::layout::checkpoint::VALID_BLOCK_COUNT;
-use harptimber_tests::cards::layout::sit::SitEntry;
+use harptimber_tests::cards::layout::sit::{SitEntry, VER_BITMAP_BYTES};
 use harptimber_tests::cards::layout::sit_journal::{SitJournalEntry, IN_COMPACT_BLOCK, N_SITS};
 use harptimber_tests::cards::on_disk::OnDisk;
 use harptimber_tests::cards::random::pick;
@@ -254,7 +254,7 @@ fn no_main_segments() {
 /// 149 table blocks; and a journal that names one more.
 fn largest() -> Put {
     let pack = Pack {
-        sit_map: Random::new(9).bytes(149usize.div_ceil(8)),
+        sit_map: Random::new(9).bytes(VER_BITMAP_BYTES),
         ..Pack::compact(1)
     };
     let of = |segments| Knobs {
@@ -339,20 +339,22 @@ fn published_cards() -> [Image; 2] {
 #[test]
 fn published() {
     for image in published_cards() {
-        let card = CardFile::of(&image);
-        let json = run(&[&"segments", &"--json", &card.path()])
-            .expect(0)
-            .json();
-        expect_head(&json, "segments", 0);
-        let valid = image.get(image.first_block(0), VALID_BLOCK_COUNT);
-        let counts = dumped(&card.path());
-        assert_eq!(json["valid_blocks"].number(), valid);
-        assert_eq!(u64::from(counts.iter().sum::<u32>()), valid);
-        assert_eq!(json["segments"].number(), counts.len() as u64);
-        let empty = counts.iter().filter(|&&count| count == 0).count();
-        assert_eq!(json["empty"].number(), empty as u64);
-        assert_eq!(json["off"].list().len(), 0);
+        expect_published(&image, &CardFile::of(&image).path());
     }
+}
+
+/// A card as it came from the tools, at this path.
+pub(crate) fn expect_published(image: &Image, path: &PathBuf) {
+    let json = run(&[&"segments", &"--json", path]).expect(0).json();
+    expect_head(&json, "segments", 0);
+    let valid = image.get(image.first_block(0), VALID_BLOCK_COUNT);
+    let counts = dumped(path);
+    assert_eq!(json["valid_blocks"].number(), valid);
+    assert_eq!(u64::from(counts.iter().sum::<u32>()), valid);
+    assert_eq!(json["segments"].number(), counts.len() as u64);
+    let empty = counts.iter().filter(|&&count| count == 0).count();
+    assert_eq!(json["empty"].number(), empty as u64);
+    assert_eq!(json["off"].list().len(), 0);
 }
 
 /// Which way segments are off is told, and what the program advises helps.
