@@ -10,6 +10,7 @@ use harptimber_tests::cards::card::Card;
 use harptimber_tests::cards::directory::Dentry;
 use harptimber_tests::cards::image::Image;
 use harptimber_tests::cards::knobs::{Knobs, Pack};
+use harptimber_tests::program::card::{ProgramCard, ROAD};
 use harptimber_tests::running::ran;
 use harptimber_tests::tools::published::Scratch;
 use harptimber_tests::trial::Random;
@@ -163,6 +164,18 @@ fn example_runs() {
         assert_eq!(ran.err.lines().count(), usize::from(status != 0), "{ran:?}");
     }
     ran(&mut Command::new(&program), Stdio::piped()).expect_message(3, &["usage: "]);
+}
+
+/// On a card of 16 GiB with the file at its end.
+#[test]
+fn example_runs_on_a_large_card() {
+    let folder = Scratch::new();
+    let program = build_example(&folder);
+    let card = ProgramCard::far();
+    let road = card.file(ROAD).block(&card.card.image, 0);
+    let image = card.disk.path();
+    let ran = ran(Command::new(program).args([&image; 2]), Stdio::piped()).expect(0);
+    assert!(ran.out == road, "output of {ran:?}");
 }
 
 /// The change that the README asks to try is a must-fail edit, so that it is refused in the gate too.

@@ -16,6 +16,7 @@ use harptimber_tests::program::card::{ProgramCard, LONG, OUTSIDE, ROAD};
 use harptimber_tests::program::held::{Hold, Holder};
 use harptimber_tests::program::measured::Measurer;
 use harptimber_tests::program::page::expect_head;
+use harptimber_tests::program::special_build::{SpecialBuild, REPORTED};
 use harptimber_tests::program::{
     command, run, run_by_shell, run_on_terminal_after, Ran, Word, Words,
 };
@@ -294,6 +295,27 @@ fn small_stack() {
     each_command(&card, &[], &card.disk.path(), &mut |line, status| {
         run_by_shell(on_small, line).expect(status);
     });
+}
+
+/// The card lies between pages that nobody may touch. What is planted is seen: one that ends before its last block.
+#[test]
+fn sanitized() {
+    let card = far();
+    let (path, new) = (card.disk.path(), OnDisk::new(card.card.image.clone()));
+    let build = SpecialBuild::sanitized();
+    each_command(&card, &[], &path, &mut |line, status| {
+        build.run(line).expect(status);
+    });
+    let line: Words = &[&"compare", &path, &new.path(), &ROAD, &LONG];
+    build.run(line).expect(0);
+    for (less, seen) in [("0", false), ("4096", true)] {
+        let ran = build.run_with(&[("IN_HEAP_LESS", less)], &[&"ls", &path]);
+        assert_eq!(
+            ran.status == REPORTED,
+            seen,
+            "with {less} bytes less: {ran:?}"
+        );
+    }
 }
 
 #[test]
