@@ -1,22 +1,27 @@
--- An image joined from whole blocks has just these blocks: so the sample image is the sample card.
-use mathlib.Core.Path.{_≡_, refl, ap}
+-- An image joined from runs of whole blocks has just these blocks: so the sample image is the sample card.
+use mathlib.Core.Path.{_≡_, refl, ap, _∙_}
 use mathlib.Core.Bool.{true}
 use mathlib.Core.List.{List, [], _∷_, _++_}
-use Prim.Native.Nat.{ℕ, zero, suc, _+_, _*_, _/_}
+use mathlib.Core.Logic.{⊎-elim}
+use Prim.Native.Nat.{ℕ, zero, suc, _+_, _-_, _*_, _/_, _<_, _≤_}
 use native.Mathlib.Omega.{arith}
-use lib.ListN.{length, getD, replicate, length-append}
-use lib.Seq.{take-at, drop-append-add, drop-nil}
+use lib.Dec.{ltb}
+use borrow.Author.Tests.{leb-true, leb-false}
+use lib.ListN.{length, getD, replicate, length-append, length-replicate, getD-replicate, List·getD-append}
+use lib.Seq.{take-at, drop-append-add, drop-nil, getD-append-add}
 use Rattle.field.specs.Card.{cardOf, blockOf}
+use Rattle.field.specs.Choice.{choose}
+use Rattle.field.proofs.Choosing.{either}
 use Rattle.superblock.specs.Shape.{inShape}
 use Rattle.list.specs.Lists.{bytesOf}
 use Rattle.sample_card.specs.Image.{filled, zeros, superblock, pack, journal, sitBlock, natBlock, rootInode, fileInode, dentryBlock, dataBlock}
-use Rattle.sample_card.specs.Image.{mainArea, blocks, joined, image, card}
+use Rattle.sample_card.specs.Image.{Run, runs, laidOut, joined, image, blockIn, card}
 
 -- ---- any blocks
 
 -- each block has 4,096 bytes
 infixr 20 _then_
-pub data Whole : List (List ℕ) → Type 0 where
+data Whole : List (List ℕ) → Type 0 where
   none : Whole []
   _then_ : {b : List ℕ} {bs : List (List ℕ)} → length b ≡ 4096 → Whole bs → Whole (b ∷ bs)
 
@@ -37,32 +42,86 @@ block-joined (x ∷ bs) (e then w) (suc b) =
     let n : suc b * 4096 ≡ length x + b * 4096 = omega arith in
     rw (n, drop-append-add x (joined bs) (b * 4096)) (block-joined bs w b)
 
+-- ---- any runs
+
+-- each run's block is whole
+infixr 20 _and_
+data WholeRuns : List Run → Type 0 where
+  no-run : WholeRuns []
+  _and_ : {r : Run} {rs : List Run} → length (r .block) ≡ 4096 → WholeRuns rs → WholeRuns (r ∷ rs)
+
+blocks-whole : (rs : List Run) → WholeRuns rs → Whole (laidOut rs)
+unfolding laidOut
+blocks-whole [] no-run = none
+blocks-whole (r ∷ rs) (e and w) = whole-run (r .times) (r .block) e (blocks-whole rs w)
+
+-- how many blocks
+abbrev count : List Run → ℕ
+count [] = 0
+count (r ∷ rs) = r .times + count rs
+
+length-blocks : (rs : List Run) → length (laidOut rs) ≡ count rs
+unfolding laidOut
+length-blocks [] = refl
+length-blocks (r ∷ rs) =
+    rw (length-append (replicate (r .times) (r .block)) (laidOut rs), length-replicate (r .times) (r .block), length-blocks rs)
+
+-- a block of a run, or one behind it
+module _ (n : ℕ) (x : List ℕ) (ys : List (List ℕ)) (b : ℕ) where
+  inside-run : b < n → getD (replicate n x ++ ys) b [] ≡ x
+  inside-run h = List·getD-append (replicate n x) ys [] b (rw (length-replicate n x) h) ∙ getD-replicate n b x [] h
+
+  behind-run : n ≤ b → getD (replicate n x ++ ys) b [] ≡ getD ys (b - n) []
+  behind-run h =
+      let long = length-replicate n x in
+      let e : b ≡ length (replicate n x) + (b - n) = omega arith in
+      ap (λ (i : ℕ). getD (replicate n x ++ ys) i []) e ∙ getD-append-add (replicate n x) ys (b - n) []
+
+  run-at : getD (replicate n x ++ ys) b [] ≡ choose (ltb b n) x (getD ys (b - n) [])
+  run-at =
+      ⊎-elim (λ h. rw h (inside-run (leb-true (suc b) n h))) (λ h. let l = leb-false (suc b) n h in rw h (behind-run (omega arith)))
+      (either (ltb b n))
+
+block-of-runs : (rs : List Run) (b : ℕ) → getD (laidOut rs) b [] ≡ blockIn rs b
+unfolding laidOut blockIn
+block-of-runs [] b = refl
+block-of-runs (r ∷ rs) b = run-at (r .times) (r .block) (laidOut rs) b ∙ rw (block-of-runs rs (b - r .times))
+
 -- ---- the sample's
 zeros-length : length zeros ≡ 4096
 unfolding zeros
 zeros-length = refl
 
-main-whole : Whole mainArea
-unfolding rootInode fileInode dentryBlock dataBlock filled bytesOf
-main-whole = refl then refl then refl then refl then whole-run 508 zeros zeros-length none
+runs-whole : WholeRuns runs
+unfolding runs superblock pack journal sitBlock natBlock rootInode fileInode dentryBlock dataBlock filled bytesOf
+runs-whole =
+    refl and refl and zeros-length
+    and refl and refl and refl and zeros-length
+    and refl and zeros-length
+    and refl and zeros-length
+    and zeros-length
+    and refl and refl and refl and zeros-length and refl
+    and no-run
 
-blocks-whole : Whole blocks
-unfolding blocks superblock pack journal sitBlock natBlock filled bytesOf
-blocks-whole =
-    refl then refl then refl then refl then refl then whole-run 1021 zeros zeros-length
-    (refl then whole-run 1023 zeros zeros-length (refl then whole-run 1023 zeros zeros-length main-whole))
+sample-whole : Whole (laidOut runs)
+sample-whole = blocks-whole runs runs-whole
 
-image-length : length image ≡ 14688256
-unfolding image blocks
-image-length = length-joined blocks blocks-whole
+-- 4,194,304 blocks
+sample-count : count runs ≡ 4194304
+unfolding runs
+sample-count = refl
+
+pub image-length : length image ≡ 17179869184
+unfolding image
+image-length = rw (length-joined (laidOut runs) sample-whole, length-blocks runs, sample-count)
 
 pub image-shape : inShape (length image) ≡ true
 unfolding inShape
 image-shape = rw image-length
 
-image-blocks : (b : ℕ) → blockOf image b ≡ getD blocks b []
+image-blocks : (b : ℕ) → blockOf image b ≡ blockIn runs b
 unfolding image
-image-blocks = block-joined blocks blocks-whole
+image-blocks b = block-joined (laidOut runs) sample-whole b ∙ block-of-runs runs b
 
 pub image-card : cardOf image ≡ card
 image-card = let e = ap (λ (n : ℕ). n / 4096) image-length in λ i. record { blocks = e i; block = λ b. image-blocks b i }

@@ -13,12 +13,12 @@ use Rattle.checkpoint.specs.Checkpoint.{checkpointOf}
 use Rattle.checkpoint.specs.Journal.{journalIn, journalPlaced, journalAt}
 use Rattle.checkpoint.specs.Volume.{mapsReadable, journalReadable, openPack, opened}
 use Rattle.list.specs.Lists.{bytesOf}
-use Rattle.sample_card.specs.Image.{filled, zeros, superblock, checksum, pack, journal, blocks, card}
+use Rattle.sample_card.specs.Image.{filled, zeros, superblock, checksum, pack, journal, runs, blockIn, card}
 use Rattle.sample_card.specs.Volume.{areas, volume}
 use Rattle.sample_card.proofs.Checksum.{pack-sum}
 
 areas-found : found card ≡ At areas
-unfolding blocks superblock filled bytesOf le16 le32 le64 sameAt superblockOf logsPass unitsPass countsPass areasPass endsPass fieldsPass passes found
+unfolding runs blockIn superblock filled bytesOf le16 le32 le64 sameAt superblockOf logsPass unitsPass countsPass areasPass endsPass fieldsPass passes found
 areas-found = refl
 
 -- ---- the packs
@@ -33,21 +33,21 @@ unfolding blockPasses checkpointOf
 block-passes = rw (pack-numbers .2, pack-numbers .3, pack-sum)
 
 -- the first pack's last block is as its first; of the second pack there is none
-first-passes : packPasses card 2 ≡ true
-unfolding packPasses firstPasses lastPasses checkpointOf blocks
+first-passes : packPasses card 512 ≡ true
+unfolding packPasses firstPasses lastPasses checkpointOf runs blockIn
 first-passes = simp (pack-numbers .0, pack-numbers .1, block-passes)
 
-second-fails : packPasses card 514 ≡ false
-unfolding packPasses firstPasses blockPasses checkpointOf blocks zeros le16 le32
+second-fails : packPasses card 1024 ≡ false
+unfolding packPasses firstPasses blockPasses checkpointOf runs blockIn zeros le16 le32
 second-fails = refl
 
-first-chosen : chosen card 2 ≡ Pack 2
+first-chosen : chosen card 512 ≡ Pack 512
 unfolding chosen
 first-chosen = rw (first-passes, second-fails)
 
 -- ---- the volume
-pack-opens : openPack card areas 2 ≡ Opened volume
-unfolding blocks pack journal filled bytesOf le16 le32 checkpointOf journalIn journalPlaced journalAt mapsReadable journalReadable openPack
+pack-opens : openPack card areas 512 ≡ Opened volume
+unfolding runs blockIn pack journal filled bytesOf le16 le32 checkpointOf journalIn journalPlaced journalAt mapsReadable journalReadable openPack
 pack-opens = refl
 
 pub card-opens : opened card ≡ Opened volume

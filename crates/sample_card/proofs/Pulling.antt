@@ -20,23 +20,24 @@ use Rattle.directory.specs.Slot.{wellFormed, matches, slotAt, slotsFrom}
 use Rattle.directory.specs.Find.{fetchWalk, afterBlock, bucketWalk, levelsWalk, findWalk}
 use Rattle.pull.specs.Walk.{atFile, fileWalk, atRoot, rootWalk, pullWalk}
 use Rattle.pull.specs.Pull.{pullRun}
-use Rattle.sample_card.specs.Image.{filled, name, missing, pack, journal, natBlock, rootInode, fileInode, dentryBlock, dataBlock, blocks, card}
+use Rattle.sample_card.specs.Image.{filled, name, missing, pack, journal, natBlock, rootInode, fileInode, dentryBlock, dataBlock, runs, blockIn, card}
 use Rattle.sample_card.specs.Volume.{volume}
 
 -- the root's from the journal, the file's from the table
-pub table-entries : (tableAnswer card volume 3 ≡ Entry 3 3074) × (tableAnswer card volume 4 ≡ Entry 4 3076)
-unfolding blocks pack journal natBlock filled bytesOf le16 le32 topBit searchFrom journalFind inJournal inRange tableAddress entryIn inTable tableAnswer
+pub table-entries : (tableAnswer card volume 3 ≡ Entry 3 4193792) × (tableAnswer card volume 4 ≡ Entry 4 4193794)
+unfolding runs blockIn pack journal natBlock filled bytesOf le16 le32 topBit searchFrom journalFind inJournal inRange tableAddress entryIn inTable tableAnswer
 table-entries = (refl, refl)
 
 -- block 1 of the file; its block 0, a hole; block 2, past its end; a name that isn't there
 pub walks :
     (pullRun card volume name 1
-    ≡ ran (ok (record { count = 7; content = held dataBlock })) (record { nodes = 3 ∷ 4 ∷ []; blocks = 3074 ∷ 3075 ∷ 3076 ∷ 3077 ∷ [] }))
-    × (pullRun card volume name 0 ≡ ran (ok (record { count = 4096; content = hole })) (record { nodes = 3 ∷ 4 ∷ []; blocks = 3074 ∷ 3075 ∷ 3076 ∷ [] }))
-    × (pullRun card volume name 2 ≡ ran (stop 3) (record { nodes = 3 ∷ 4 ∷ []; blocks = 3074 ∷ 3075 ∷ 3076 ∷ [] }))
-    × (pullRun card volume missing 0 ≡ ran (stop 2) (record { nodes = 3 ∷ []; blocks = 3074 ∷ 3075 ∷ [] }))
+    ≡ ran (ok (record { count = 7; content = held dataBlock })) (record { nodes = 3 ∷ 4 ∷ []; blocks = 4193792 ∷ 4193793 ∷ 4193794 ∷ 4194303 ∷ [] }))
+    × (pullRun card volume name 0
+    ≡ ran (ok (record { count = 4096; content = hole })) (record { nodes = 3 ∷ 4 ∷ []; blocks = 4193792 ∷ 4193793 ∷ 4193794 ∷ [] }))
+    × (pullRun card volume name 2 ≡ ran (stop 3) (record { nodes = 3 ∷ 4 ∷ []; blocks = 4193792 ∷ 4193793 ∷ 4193794 ∷ [] }))
+    × (pullRun card volume missing 0 ≡ ran (stop 2) (record { nodes = 3 ∷ []; blocks = 4193792 ∷ 4193793 ∷ [] }))
 unfolding
-    blocks pack journal natBlock rootInode fileInode dentryBlock filled bytesOf
+    runs blockIn pack journal natBlock rootInode fileInode dentryBlock filled bytesOf
     le16 le32 le64 topBit lowBit sameAt
     halfRound round rounds tea pushAll keyOf absorb hashOf
     placeOf searchFrom journalFind inJournal inRange tableAddress entryIn inTable tableAnswer

@@ -1,6 +1,7 @@
--- Some card opens, and a pull on it answers 0: the definitions don't refuse everything. Each theorem is stated of the image's bytes,
--- over the definitions that the contracts cite; all numbers are computed by them, the checksum and the name's hash too.
-use Prim.Native.Nat.{ℕ, _/_, _≤_}
+-- Some card opens, and a pull on it answers 0: the definitions don't refuse everything. The card is as large as one may be, and what a
+-- pull reads of its main area lies behind byte 2^32. Each theorem is stated of the image's bytes, over the definitions that the
+-- contracts cite; all numbers are computed by them, the checksum and the name's hash too.
+use Prim.Native.Nat.{ℕ, _*_, _/_, _≤_}
 use mathlib.Core.Path.{_≡_, refl, ap, _∙_}
 use mathlib.Core.Bool.{true}
 use mathlib.Core.List.{List, [], _∷_, _++_}
@@ -21,18 +22,22 @@ use Rattle.pull.specs.Pull.{Lent, lending, Result, result, lentInShape, written
 use Rattle.pull.proofs.Results.{call-in-shape, call-opens}
 use Rattle.sample_card.specs.Image.{filled, name, missing, content, dataBlock, image, card}
 use Rattle.sample_card.specs.Volume.{volume}
-use Rattle.sample_card.proofs.Joined.{image-shape, image-card}
+use Rattle.sample_card.proofs.Joined.{image-length, image-shape, image-card}
 use Rattle.sample_card.proofs.Opening.{card-opens}
 use Rattle.sample_card.proofs.Pulling.{table-entries, walks}
 use Rattle.sample_card.proofs.Reporting.{sit-journal-readable, segments}
+
+-- K8: "4,194,304 is in shape"
+pub the-largest : length image ≡ 4096 * 4194304
+the-largest = image-length
 
 pub some-card-opens : openedImage image ≡ Opened volume
 unfolding openedImage
 some-card-opens = rw image-shape (ap opened image-card ∙ card-opens)
 
 -- ---- Node lookup: a number that the journal has, and one that only the table has
-pub a-lookup-answers-0 : (lookupOf image 3 ≡ record { answer = 0; inode = 3; address = 3074 })
-    × (lookupOf image 4 ≡ record { answer = 0; inode = 4; address = 3076 })
+pub a-lookup-answers-0 : (lookupOf image 3 ≡ record { answer = 0; inode = 3; address = 4193792 })
+    × (lookupOf image 4 ≡ record { answer = 0; inode = 4; address = 4193794 })
 unfolding lookupOf
 a-lookup-answers-0 = rw (some-card-opens, image-card) (ap tableNumbers (table-entries .0), ap tableNumbers (table-entries .1))
 
@@ -57,22 +62,22 @@ module _ (lent : Lent) (fits : lentInShape lent ≡ true) where
       ∙ ap (λ (c : Card). written (pullRun c volume n index) lent) image-card ∙ ap (λ (q : Ran (Outcome Block)). written q lent) e
 
   -- 0, "data": the seven bytes of the file's block 1, and zeros; nodes 3 and 4 were looked up, and four blocks of the main area read
-  pub a-pull-answers-0 : pulled image name 1 lent ≡ leaves 0 7 (content ++ replicate 4089 0) (3 ∷ 4 ∷ []) (3074 ∷ 3075 ∷ 3076 ∷ 3077 ∷ []) lent
+  pub a-pull-answers-0 : pulled image name 1 lent ≡ leaves 0 7 (content ++ replicate 4089 0) (3 ∷ 4 ∷ []) (4193792 ∷ 4193793 ∷ 4193794 ∷ 4194303 ∷ []) lent
   unfolding nameBytes dataBlock filled
   a-pull-answers-0 = walk-leaves name 1 _ refl (walks .0)
 
   -- 1, "hole"
-  pub a-hole-answers-1 : pulled image name 0 lent ≡ leaves 1 4096 (replicate 4096 0) (3 ∷ 4 ∷ []) (3074 ∷ 3075 ∷ 3076 ∷ []) lent
+  pub a-hole-answers-1 : pulled image name 0 lent ≡ leaves 1 4096 (replicate 4096 0) (3 ∷ 4 ∷ []) (4193792 ∷ 4193793 ∷ 4193794 ∷ []) lent
   unfolding nameBytes
   a-hole-answers-1 = walk-leaves name 0 _ refl (walks .1)
 
   -- 2, "no such name"
-  pub no-such-name-answers-2 : pulled image missing 0 lent ≡ leaves 2 0 (lent .block) (3 ∷ []) (3074 ∷ 3075 ∷ []) lent
+  pub no-such-name-answers-2 : pulled image missing 0 lent ≡ leaves 2 0 (lent .block) (3 ∷ []) (4193792 ∷ 4193793 ∷ []) lent
   unfolding nameBytes
   no-such-name-answers-2 = walk-leaves missing 0 _ refl (walks .3)
 
   -- 3, "past the end"
-  pub past-the-end-answers-3 : pulled image name 2 lent ≡ leaves 3 0 (lent .block) (3 ∷ 4 ∷ []) (3074 ∷ 3075 ∷ 3076 ∷ []) lent
+  pub past-the-end-answers-3 : pulled image name 2 lent ≡ leaves 3 0 (lent .block) (3 ∷ 4 ∷ []) (4193792 ∷ 4193793 ∷ 4193794 ∷ []) lent
   unfolding nameBytes
   past-the-end-answers-3 = walk-leaves name 2 _ refl (walks .2)
 

@@ -1,9 +1,12 @@
--- One small card, written out: 3,586 blocks, of which eleven hold something. Its root directory has one file, "brake.log", of 4,103
--- bytes: a hole, and seven bytes in its block 1. Offsets are document 01's.
+-- One card, written out: as large as a card may be, 4,194,304 blocks, of which eleven hold something. Its last segment is its main area,
+-- so that nodes and data lie behind byte 2^32. Its root directory has one file, "brake.log", of 4,103 bytes: a hole, and seven bytes in
+-- its block 1, which is the card's last. Offsets are document 01's.
 use Prim.Native.Nat.{ℕ, _+_, _-_}
 use mathlib.Core.List.{List, [], _∷_, _++_}
-use lib.ListN.{length, getD, replicate}
+use lib.ListN.{length, replicate}
+use lib.Dec.{ltb}
 use Rattle.field.specs.Card.{Card}
+use Rattle.field.specs.Choice.{choose}
 use Rattle.list.specs.Lists.{bytesOf}
 
 -- ---- a block from its parts
@@ -44,16 +47,16 @@ content = 52 ∷ 50 ∷ 32 ∷ 98 ∷ 97 ∷ 114 ∷ 10 ∷ []
 
 -- ---- the blocks
 
--- the mark; logs and units; the block count; segment counts (7: checkpoint 2, SIT 2, NAT 2, SSA 0, main 1); where segment 0 and the
--- five areas start; the three inode numbers
+-- the mark; logs and units; the block count; segment counts (8,191: checkpoint 2, SIT 2, NAT 2, SSA all that is left, main 1); where
+-- segment 0 and the five areas start; the three inode numbers
 unfoldable pub superblock : List ℕ
 superblock =
     filled 0
     (at 1024 (0x10 ∷ 0x20 ∷ 0xF5 ∷ 0xF2 ∷ [])
     ∷ numbersAt 1032 (9 ∷ 3 ∷ 12 ∷ 9 ∷ 1 ∷ 1 ∷ [])
-    ∷ numbersAt 1060 (3586 ∷ 0 ∷ [])
-    ∷ numbersAt 1072 (7 ∷ 2 ∷ 2 ∷ 2 ∷ 0 ∷ 1 ∷ [])
-    ∷ numbersAt 1096 (2 ∷ 2 ∷ 1026 ∷ 2050 ∷ 3074 ∷ 3074 ∷ [])
+    ∷ numbersAt 1060 (4194304 ∷ 0 ∷ [])
+    ∷ numbersAt 1072 (8191 ∷ 2 ∷ 2 ∷ 2 ∷ 8184 ∷ 1 ∷ [])
+    ∷ numbersAt 1096 (512 ∷ 512 ∷ 1536 ∷ 2560 ∷ 3584 ∷ 4193792 ∷ [])
     ∷ numbersAt 1120 (3 ∷ 1 ∷ 2 ∷ [])
     ∷ [])
 
@@ -72,17 +75,17 @@ pack =
     ∷ numbersAt 4092 (checksum ∷ [])
     ∷ [])
 
--- the NAT journal has one entry: the root, inode 3, is at block 3074
+-- the NAT journal has one entry: the root, inode 3, is at block 4193792
 unfoldable pub journal : List ℕ
-journal = filled 0 (at 0 (1 ∷ 0 ∷ []) ∷ numbersAt 2 (3 ∷ []) ∷ numbersAt 7 (3 ∷ 3074 ∷ []) ∷ [])
+journal = filled 0 (at 0 (1 ∷ 0 ∷ []) ∷ numbersAt 2 (3 ∷ []) ∷ numbersAt 7 (3 ∷ 4193792 ∷ []) ∷ [])
 
--- the first block of the SIT has the entry of the one main segment: its first four blocks are valid
+-- the first block of the SIT has the entry of the one main segment: its first three blocks and its last are valid
 unfoldable pub sitBlock : List ℕ
-sitBlock = filled 0 (at 0 (4 ∷ 0 ∷ 0xF0 ∷ []) ∷ [])
+sitBlock = filled 0 (at 0 (4 ∷ 0 ∷ 0xE0 ∷ []) ∷ at 65 (0x01 ∷ []) ∷ [])
 
--- the first block of the NAT has one more: the file, inode 4, is at block 3076
+-- the first block of the NAT has one more: the file, inode 4, is at block 4193794
 unfoldable pub natBlock : List ℕ
-natBlock = filled 0 (numbersAt 37 (4 ∷ 3076 ∷ []) ∷ [])
+natBlock = filled 0 (numbersAt 37 (4 ∷ 4193794 ∷ []) ∷ [])
 
 -- an inode: mode, size, depth, the addresses of its blocks, and the footer
 abbrev pub inode : List ℕ → ℕ → ℕ → List ℕ → ℕ → List ℕ
@@ -90,13 +93,13 @@ inode mode size depth addresses number =
     filled 0
     (at 0 mode ∷ numbersAt 16 (size ∷ 0 ∷ []) ∷ numbersAt 72 (depth ∷ []) ∷ numbersAt 360 addresses ∷ numbersAt 4072 (number ∷ number ∷ 0 ∷ []) ∷ [])
 
--- a directory of depth 1, with its block at 3075
+-- a directory of depth 1, with its block at 4193793
 unfoldable pub rootInode : List ℕ
-rootInode = inode (0xED ∷ 0x41 ∷ []) 4096 1 (3075 ∷ []) 3
+rootInode = inode (0xED ∷ 0x41 ∷ []) 4096 1 (4193793 ∷ []) 3
 
--- a regular file; its block 0 is a hole, its block 1 is at 3077
+-- a regular file; its block 0 is a hole, its block 1 is at 4194303
 unfoldable pub fileInode : List ℕ
-fileInode = inode (0xA4 ∷ 0x81 ∷ []) 4103 0 (0 ∷ 3077 ∷ []) 4
+fileInode = inode (0xA4 ∷ 0x81 ∷ []) 4103 0 (0 ∷ 4194303 ∷ []) 4
 
 -- a directory entry: hash, inode number, the name's length, type
 abbrev pub entry : ℕ → ℕ → ℕ → ℕ → List ℕ
@@ -119,21 +122,33 @@ dataBlock = filled 0 (at 0 content ∷ at 7 (0xFF ∷ []) ∷ [])
 
 -- ---- the card
 
--- the main area: blocks 3074 to 3585
-abbrev pub mainArea : List (List ℕ)
-mainArea = rootInode ∷ dentryBlock ∷ fileInode ∷ dataBlock ∷ replicate 508 zeros
+-- one block, so many times
+pub record Run : Type 0 where
+  pub times : ℕ
+  pub block : List ℕ
 
--- from the NAT on, block 2050
-abbrev pub fromNat : List (List ℕ)
-fromNat = natBlock ∷ (replicate 1023 zeros ++ mainArea)
+abbrev pub once : List ℕ → Run
+once block = record { times = 1; block = block }
 
--- from the SIT on, block 1026
-abbrev pub fromSit : List (List ℕ)
-fromSit = sitBlock ∷ (replicate 1023 zeros ++ fromNat)
+abbrev pub empty : ℕ → Run
+empty times = record { times = times; block = zeros }
 
--- all blocks in order: both copies of the superblock, the checkpoint pack from block 2 on, and the rest
-unfoldable pub blocks : List (List ℕ)
-blocks = superblock ∷ superblock ∷ pack ∷ journal ∷ pack ∷ (replicate 1021 zeros ++ fromSit)
+-- all blocks in order: both copies of the superblock; from block 512 on the checkpoint pack, from 1536 the SIT, from 2560 the NAT, from 3584
+-- the SSA; from 4193792 to 4194303 the main area
+unfoldable pub runs : List Run
+runs =
+    once superblock ∷ once superblock ∷ empty 510
+    ∷ once pack ∷ once journal ∷ once pack ∷ empty 1021
+    ∷ once sitBlock ∷ empty 1023
+    ∷ once natBlock ∷ empty 1023
+    ∷ empty 4190208
+    ∷ once rootInode ∷ once dentryBlock ∷ once fileInode ∷ empty 508 ∷ once dataBlock
+    ∷ []
+
+-- the blocks one by one
+unfoldable pub laidOut : List Run → List (List ℕ)
+laidOut [] = []
+laidOut (r ∷ rs) = replicate (r .times) (r .block) ++ laidOut rs
 
 -- one block behind the other
 unfoldable pub joined : List (List ℕ) → List ℕ
@@ -142,8 +157,13 @@ joined (b ∷ bs) = b ++ joined bs
 
 -- the card's bytes
 unfoldable pub image : List ℕ
-image = joined blocks
+image = joined (laidOut runs)
+
+-- block b, found by its run
+unfoldable pub blockIn : List Run → ℕ → List ℕ
+blockIn [] b = []
+blockIn (r ∷ rs) b = choose (ltb b (r .times)) (r .block) (blockIn rs (b - r .times))
 
 -- the same by its blocks
 abbrev pub card : Card
-card = record { blocks = 3586; block = λ b. getD blocks b [] }
+card = record { blocks = 4194304; block = blockIn runs }
