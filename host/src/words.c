@@ -37,6 +37,14 @@ bool length_is_in_shape(const struct card *card)
            blocks <= HARPTIMBER_CARD_BLOCKS_MOST;
 }
 
+/* A volume may be shorter than what it is in, and short enough; --offset leaves out what lies behind. */
+static void show_shorter(FILE *out, const struct card *card)
+{
+    const uint8_t *superblock = opening_superblock(card);
+    if (superblock != NULL && disk64(superblock + DISK_BLOCK_COUNT_AT) <= HARPTIMBER_CARD_BLOCKS_MOST)
+        fprintf(out, "; --offset %" PRIu64 " takes the volume, which is shorter", card_offset(card));
+}
+
 /* Says how long it is: the whole file, or what options chose of it. */
 static void show_bad_length(FILE *out, const struct card *card)
 {
@@ -57,15 +65,15 @@ static void show_bad_length(FILE *out, const struct card *card)
         fputs("; at most ", out);
         show_size(out, HARPTIMBER_CARD_BYTES_MOST);
         fputs(" is read", out);
+        show_shorter(out, card);
     }
 }
 
 /* Whether the card is a partition with an F2FS mark already: then there is no other to take. */
 static bool is_taken(const struct partitions *partitions, const struct card *card)
 {
-    uint64_t first = (uint64_t)(card->bytes - card->map);
     for (uint32_t i = 0; i < partitions->count; i++)
-        if (partitions->list[i].marked && partitions->list[i].first == first)
+        if (partitions->list[i].marked && partitions->list[i].first == card_offset(card))
             return true;
     return false;
 }

@@ -51,6 +51,7 @@ impl Images {
                 unopened: Vec::new(),
             };
             images.add_lengths();
+            images.add_volumes();
             images.add_damaged();
             images.add_without_superblock();
             images.add_published();
@@ -68,6 +69,11 @@ impl Images {
     /// The sound card cut or made longer.
     fn add_length(&mut self, len: u64, answer: u32, why: &str) {
         self.add(&format!("{len} bytes"), answer, why, &sound());
+        self.set_len(len);
+    }
+
+    /// Of the last one.
+    fn set_len(&self, len: u64) {
         let path = &self.unopened.last().unwrap().path;
         let file = File::options().write(true).open(path).unwrap();
         file.set_len(len).expect("a length");
@@ -95,7 +101,10 @@ impl Images {
             self.add_length(
                 len,
                 4,
-                &format!(": the image has {size}; at most 16 GiB is read"),
+                &format!(
+                    ": the image has {size}; at most 16 GiB is read; \
+                     --offset 0 takes the volume, which is shorter"
+                ),
             );
         }
         let [count, left] = [whole, whole - block].map(|len| len / block);
@@ -105,6 +114,18 @@ impl Images {
             counts[0], counts[1]
         );
         self.add_length(whole - block, 5, &why);
+    }
+
+    /// In an image with one block too many, a volume that could be read without it, and one that couldn't.
+    fn add_volumes(&mut self) {
+        let shorter = "; --offset 0 takes the volume, which is shorter";
+        for (count, shorter) in [(4_194_304, shorter), (4_194_305, "")] {
+            let size = "16 GiB (17,179,873,280 bytes)";
+            let why = format!(": the image has {size}; at most 16 GiB is read{shorter}");
+            let fields = [0, 1].map(|copy| (copy, BLOCK_COUNT, count));
+            self.add_changed(&format!("a volume of {count}"), 4, &why, &fields);
+            self.set_len(17_179_873_280);
+        }
     }
 
     fn add_changed(&mut self, name: &str, answer: u32, why: &str, fields: &[(u32, Field, u64)]) {
