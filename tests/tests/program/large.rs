@@ -283,7 +283,7 @@ fn memory() {
     expect(&[&"info", &long.path()], 2);
     // What is planted is seen.
     let mut dd = Command::new("dd");
-    dd.args(["if=/dev/zero", "of=/dev/null", "bs=64M", "count=1"]);
+    dd.args(["if=/dev/zero", "of=/dev/null", "bs=80M", "count=1"]);
     assert!(measurer.run(&dd).1 > MUCH_MEMORY);
 }
 
