@@ -1,10 +1,13 @@
-//! What Rust's library doesn't have: mapped memory, and where a sparse file has data. Both are Linux's on 64 bits.
+//! What Rust's library doesn't have: mapped memory, the room on a disk, and where a sparse file has data. All of it is
+//! Linux's on 64 bits.
 
-use std::ffi::{c_int, c_void};
+use std::ffi::{c_char, c_int, c_void, CString};
 use std::fs::File;
 use std::io::{Error, Result};
 use std::ops::{Deref, DerefMut, Range};
 use std::os::fd::AsRawFd;
+use std::os::unix::ffi::OsStrExt;
+use std::os::unix::fs::MetadataExt;
 use std::path::Path;
 use std::{ptr, slice};
 
@@ -18,6 +21,18 @@ const SEEK_HOLE: c_int = 4;
 /// There is no data any more.
 const ENXIO: i32 = 6;
 
+/// `struct statvfs`: among others the size in which room is counted, and how much an ordinary user can have.
+#[derive(Default)]
+#[repr(C)]
+struct Disk {
+    bsize: u64,
+    frsize: u64,
+    blocks: u64,
+    bfree: u64,
+    bavail: u64,
+    others: [u64; 9],
+}
+
 extern "C" {
     fn mmap(
         address: *mut c_void,
@@ -29,6 +44,7 @@ extern "C" {
     ) -> *mut c_void;
     fn munmap(address: *mut c_void, len: usize) -> c_int;
     fn lseek(file: c_int, offset: i64, whence: c_int) -> i64;
+    fn statvfs(path: *const c_char, disk: *mut Disk) -> c_int;
 }
 
 /// Maps so many bytes; without a file they are zeros.
@@ -108,4 +124,47 @@ pub fn next_data(file: &File, from: u64) -> Option<Range<u64>> {
         Err(error) if error.raw_os_error() == Some(ENXIO) => None,
         Err(error) => panic!("data of a file: {error}"),
     }
+}
+
+/// How many bytes can still be written where a folder is.
+fn free_room(folder: &Path) -> u64 {
+    let path = CString::new(folder.as_os_str().as_bytes()).expect("a path");
+    let mut disk = Disk::default();
+    // SAFETY: the path ends with a zero, and the struct has the length and layout that is written.
+    let status = unsafe { statvfs(path.as_ptr(), &mut disk) };
+    assert_eq!(
+        status,
+        0,
+        "{}: {}",
+        folder.display(),
+        Error::last_os_error()
+    );
+    disk.bavail * disk.frsize
+}
+
+/// There has to be so much room in a folder.
+pub fn need_room(folder: &Path, bytes: u64) {
+    let free = free_room(folder);
+    assert!(
+        free >= bytes,
+        "{} has room for {free} bytes, and {bytes} are needed",
+        folder.display()
+    );
+}
+
+/// A new file of so many bytes, that are all a hole.
+pub fn sparse_file(path: &Path, len: u64) -> File {
+    let file = File::create(path).unwrap_or_else(|error| panic!("{}: {error}", path.display()));
+    let made = file.set_len(len).and_then(|()| file.metadata());
+    let taken = match made {
+        Ok(made) => made.blocks() * 512,
+        Err(error) => panic!("{} can't have {len} bytes: {error}", path.display()),
+    };
+    let most = len / 1024 + (1 << 16);
+    assert!(
+        taken <= most,
+        "a hole of {len} bytes takes {taken} in {}",
+        path.display()
+    );
+    file
 }

@@ -2,7 +2,6 @@
 //! a patch, so the patches are undone afterwards; they also tell what was done to it.
 
 use std::fmt::{Debug, Formatter, Result};
-use std::fs::File;
 use std::ops::Range;
 use std::path::Path;
 
@@ -134,8 +133,7 @@ impl Image {
 
     /// Writes it to a file, in which blocks of zeros take no room.
     pub fn save(&self, path: &Path) {
-        let file = File::create(path).expect("an image file");
-        self.bytes.save(&file);
+        self.bytes.save(path);
     }
 
     /// The blocks that aren't zeros, each with the place of its first byte.

@@ -8,6 +8,7 @@ use crate::cards::layout::journal::{JournalEntry, MOST_ENTRIES};
 use crate::cards::layout::nat::NatEntry;
 use crate::cards::layout::SEGMENT_BLOCKS;
 use crate::cards::versions::Apart;
+use crate::sizes::CARD_BLOCKS_MOST;
 use crate::trial::Random;
 
 pub fn pick<T: Copy>(random: &mut Random, choices: &[T]) -> T {
@@ -53,6 +54,20 @@ pub fn sound_knobs(random: &mut Random) -> Knobs {
         packs,
         junk: Some(random.number()),
     }
+}
+
+/// The same on a card of more than 1 GiB, whose volume is anywhere on it and as large as it likes.
+pub fn large_knobs(random: &mut Random) -> Knobs {
+    let small = sound_knobs(random);
+    let least = small.image_blocks() - small.segment0;
+    let blocks = between(random, 262_145, CARD_BLOCKS_MOST);
+    let knobs = Knobs {
+        segment0: between(random, 2, blocks - least),
+        ..small
+    };
+    let room = (blocks - knobs.image_blocks()) / SEGMENT_BLOCKS;
+    let main_segments = knobs.main_segments + between(random, 0, room);
+    knobs.with_segments(main_segments).in_image_of(blocks)
 }
 
 /// Every other time two, whose versions lie to each other in any way.

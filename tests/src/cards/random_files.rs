@@ -7,7 +7,7 @@ use crate::cards::layout::dentry::{NAME_LEN, NR_DENTRY_IN_BLOCK, SLOT_LEN};
 use crate::cards::layout::inode::{ADDRESSES, ADDRESSES_WITH_XATTR, INLINE_XATTR};
 use crate::cards::layout::{slots, BLOCK_SIZE};
 use crate::cards::names::good_name;
-use crate::cards::random::{between, pick, shuffle, sound_knobs};
+use crate::cards::random::{between, large_knobs, pick, shuffle, sound_knobs};
 use crate::cards::tree::last_index;
 use crate::trial::Random;
 
@@ -70,6 +70,20 @@ pub fn random_files(random: &mut Random) -> RandomFiles {
         main_segments: between(random, 1, 2),
         ..sound_knobs(random)
     };
+    files_on(random, knobs)
+}
+
+/// On a card of more than 1 GiB.
+pub fn large_random_files(random: &mut Random) -> RandomFiles {
+    loop {
+        let knobs = large_knobs(random);
+        if knobs.main_segments > 0 {
+            return files_on(random, knobs);
+        }
+    }
+}
+
+fn files_on(random: &mut Random, knobs: Knobs) -> RandomFiles {
     let mut card = Card::new(knobs, Random::new(random.number()));
     let depth = between(random, 1, DEEPEST);
     card.add_root(any_inline(random), depth);

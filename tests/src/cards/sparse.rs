@@ -4,9 +4,10 @@
 use std::fs::File;
 use std::ops::{Deref, DerefMut, Index, IndexMut, Range};
 use std::os::unix::fs::FileExt;
+use std::path::Path;
 
 use crate::cards::layout::BLOCK_SIZE;
-use crate::system::{next_data, Zeros};
+use crate::system::{need_room, next_data, sparse_file, Zeros};
 
 /// So many bytes of a file are read at once.
 const AT_ONCE: usize = 256 * BLOCK_SIZE;
@@ -76,9 +77,11 @@ impl Sparse {
     }
 
     /// Writes them to a file, in which blocks of zeros take no room.
-    pub fn save(&self, file: &File) {
-        let len = self.bytes.len() as u64;
-        file.set_len(len).expect("room for an image");
+    pub fn save(&self, path: &Path) {
+        let written: u32 = self.written.iter().map(|word| word.count_ones()).sum();
+        let room = u64::from(written) * BLOCK_SIZE as u64;
+        need_room(path.parent().expect("a folder"), room);
+        let file = sparse_file(path, self.bytes.len() as u64);
         for (at, block) in self.data() {
             let written = file.write_all_at(block, at as u64);
             written.expect("an image's bytes");

@@ -9,11 +9,16 @@ use std::sync::atomic::{AtomicU32, Ordering};
 use std::time::{Duration, UNIX_EPOCH};
 
 use crate::cards::image::Image;
+use crate::cards::layout::BLOCK_SIZE;
 use crate::cards::sparse::Sparse;
 use crate::running::{Ran, Running};
+use crate::system::{need_room, sparse_file};
 use crate::trial::Random;
 
 const MEGABYTE: usize = 1 << 20;
+
+/// The megabytes of the largest card, 16 GiB.
+pub const LARGEST: usize = 16_384;
 
 /// Files up to this size stand in their inode, which is a kind that isn't read.
 pub const LONGEST_INLINE: usize = 3344;
@@ -70,11 +75,12 @@ impl Scratch {
         self.files().join(OsStr::from_bytes(name))
     }
 
-    /// Writes a sparse image.
+    /// Writes a sparse image. In it mkfs.f2fs writes half of the node table and a little more, which is some 40 MB of
+    /// 16 GiB.
     fn format(&self, megabytes: usize, options: &str) {
-        let file = fs::File::create(self.image_path()).expect("an image file");
-        let len = megabytes * MEGABYTE;
-        file.set_len(len as u64).expect("room for an image");
+        let len = (megabytes * MEGABYTE) as u64;
+        need_room(self.folder(), len / 256 + 8 * MEGABYTE as u64);
+        sparse_file(&self.image_path(), len);
         run(Command::new("mkfs.f2fs")
             .args(options.split_whitespace())
             .arg(self.image_path()));
@@ -84,6 +90,9 @@ impl Scratch {
     /// no file on the card has another one.
     fn fill(&self, date: Option<u32>, files: &[File]) {
         let folder = self.files();
+        // In a file of their own, and on the card with an inode.
+        let room = |(_, bytes): &File| 2 * (bytes.len() as u64 + 4 * BLOCK_SIZE as u64);
+        need_room(self.folder(), files.iter().map(room).sum());
         if folder.exists() {
             fs::remove_dir_all(&folder).expect("a folder to remove");
         }

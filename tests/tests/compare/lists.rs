@@ -173,6 +173,30 @@ fn blocks_outside() {
     compares.finish(10 * 4, &[(4, 0, 0), (15, 0, 0), (16, 0, 1)]);
 }
 
+/// Block numbers up to the largest card's last one, alone and all together; then each of them changed.
+#[test]
+fn blocks_of_the_largest_card() {
+    const INSIDE: [u32; 9] = [
+        4_096, 262_143, 262_144, 524_288, 1_048_575, 1_048_576, 2_097_152, 4_194_302, 4_194_303,
+    ];
+    let mut compares = Compares::new("compare with blocks of the largest card");
+    let mut cards = twins(Knobs::largest(2));
+    let outside = [4_095, 4_194_304, 4_194_305, 8_388_607, 1 << 31, u32::MAX];
+    for block in outside {
+        expect(&mut compares, &cards, [&[3], &[block]], OUT_OF_SHAPE);
+    }
+    expect(&mut compares, &cards, [&[3], &INSIDE], SAME);
+    for block in INSIDE {
+        expect(&mut compares, &cards, [&[3], &[block]], SAME);
+        cards[1].put("last byte", block, BLOCK_SIZE - 1, &[1]);
+        expect(&mut compares, &cards, [&[3], &INSIDE], changed(3, block));
+        let others: Vec<u32> = INSIDE.into_iter().filter(|&other| other != block).collect();
+        expect(&mut compares, &cards, [&[3], &others], SAME);
+        cards[1].undo(0);
+    }
+    compares.finish(6 + 1 + 9 * 3, &[(4, 0, 0), (15, 0, 0), (16, 0, 3)]);
+}
+
 /// A number out of range on one card only is a difference, also if the entry is all zeros.
 #[test]
 fn ends_of_the_table() {

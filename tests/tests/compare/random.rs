@@ -4,7 +4,9 @@ use harptimber_tests::calls::compares::{Compares, Kept};
 use harptimber_tests::cards::damage::Damage;
 use harptimber_tests::cards::image::Image;
 use harptimber_tests::cards::random::pick;
-use harptimber_tests::cards::random_files::{random_files, RandomFiles, Target};
+use harptimber_tests::cards::random_files::{
+    large_random_files, random_files, RandomFiles, Target,
+};
 use harptimber_tests::cards::walk_damage::strike_either;
 use harptimber_tests::trial::Random;
 
@@ -19,8 +21,7 @@ struct Twins {
 }
 
 impl Twins {
-    fn new(random: &mut Random) -> Twins {
-        let files = random_files(random);
+    fn new(files: RandomFiles) -> Twins {
         Twins {
             other: files.card.image.clone(),
             opening: Damage::of(&files.card.image),
@@ -59,13 +60,11 @@ impl Twins {
     }
 }
 
-#[test]
-fn damaged_cards() {
-    const CARDS: u64 = 24;
+fn expect_damaged(name: &'static str, cards: u64, files: fn(&mut Random) -> RandomFiles) {
     const DAMAGES: u64 = 400;
-    let mut compares = Compares::new("compare on random cards, damaged");
-    for _ in 0..compares.trial.times(CARDS) {
-        let mut twins = Twins::new(&mut compares.trial.random);
+    let mut compares = Compares::new(name);
+    for _ in 0..compares.trial.times(cards) {
+        let mut twins = Twins::new(files(&mut compares.trial.random));
         for _ in 0..DAMAGES {
             let random = &mut compares.trial.random;
             let struck = random.below(twins.files.targets.len() as u64) as usize;
@@ -81,5 +80,16 @@ fn damaged_cards() {
     let refused = (5..9).flat_map(|answer| [(answer, 1, 0), (answer, 2, 0)]);
     let opened = [(15, 0, 0), (16, 0, 2), (16, 0, 3)];
     let every: Vec<_> = refused.chain(opened).collect();
-    compares.finish(CARDS * DAMAGES, &every);
+    compares.finish(cards * DAMAGES, &every);
+}
+
+#[test]
+fn damaged_cards() {
+    expect_damaged("compare on random cards, damaged", 24, random_files);
+}
+
+#[test]
+fn large_damaged_cards() {
+    let name = "compare on large random cards, damaged";
+    expect_damaged(name, 8, large_random_files);
 }

@@ -2,4 +2,5 @@
 
 mod far_file;
 mod files;
+mod tools;
 mod volumes;

@@ -9,7 +9,7 @@ use harptimber_tests::cards::image::Image;
 use harptimber_tests::cards::knobs::Knobs;
 use harptimber_tests::cards::layout::nat::{NatEntry, ENTRIES_PER_BLOCK};
 use harptimber_tests::cards::layout::BLOCK_SIZE;
-use harptimber_tests::cards::random::{pick, sound_knobs, within};
+use harptimber_tests::cards::random::{large_knobs, pick, sound_knobs, within};
 use harptimber_tests::cards::versions::Apart;
 use harptimber_tests::trial::Random;
 
@@ -34,13 +34,12 @@ fn entry_in_use(knobs: &Knobs, image: &Image, number: u32) -> NatEntry {
     journalled.map_or_else(|| image.nat_entry(number, copy), |found| found.entry)
 }
 
-/// Bytes that no rule consults are junk.
-#[test]
-fn sound_cards() {
-    let mut lookups = Lookups::new("node lookup in random cards");
+/// Bytes that no rule consults are junk. Returns how the packs' versions lay to each other.
+fn expect_sound(name: &'static str, cards: u64, knobs: fn(&mut Random) -> Knobs) -> Answers<Apart> {
+    let mut lookups = Lookups::new(name);
     let mut met = Answers::default();
-    for _ in 0..lookups.trial.times(150) {
-        let knobs = sound_knobs(&mut lookups.trial.random);
+    for _ in 0..lookups.trial.times(cards) {
+        let knobs = knobs(&mut lookups.trial.random);
         let image = Image::new(&knobs);
         met.note_versions(&image);
         for _ in 0..50 {
@@ -52,18 +51,33 @@ fn sound_cards() {
             }
         }
     }
-    lookups.finish(150 * 50, &[0, 9]);
+    lookups.finish(cards * 50, &[0, 9]);
+    met
+}
+
+#[test]
+fn sound_cards() {
+    let met = expect_sound("node lookup in random cards", 150, sound_knobs);
     met.finish(&Apart::ALL);
+}
+
+#[test]
+fn large_sound_cards() {
+    expect_sound("node lookup in large random cards", 40, large_knobs);
 }
 
 /// Damages random cards, each time with so many strikes. They are undone before the next ones, so
 /// that a card serves for many.
-fn damaged_cards(name: &'static str, strikes: RangeInclusive<u64>) {
-    const CARDS: u64 = 75;
+fn damaged_cards(
+    name: &'static str,
+    cards: u64,
+    knobs: fn(&mut Random) -> Knobs,
+    strikes: RangeInclusive<u64>,
+) {
     const DAMAGES: u64 = 200;
     let mut lookups = Lookups::new(name);
-    for _ in 0..lookups.trial.times(CARDS) {
-        let knobs = sound_knobs(&mut lookups.trial.random);
+    for _ in 0..lookups.trial.times(cards) {
+        let knobs = knobs(&mut lookups.trial.random);
         let mut image = Image::new(&knobs);
         let damage = Damage::of(&image);
         for _ in 0..DAMAGES {
@@ -76,17 +90,25 @@ fn damaged_cards(name: &'static str, strikes: RangeInclusive<u64>) {
             image.undo(0);
         }
     }
-    lookups.finish(CARDS * DAMAGES, &[0, 5, 6, 7, 8, 9]);
+    lookups.finish(cards * DAMAGES, &[0, 5, 6, 7, 8, 9]);
 }
 
 #[test]
 fn cards_damaged_once() {
-    damaged_cards("node lookup in cards damaged once", 1..=1);
+    let name = "node lookup in cards damaged once";
+    damaged_cards(name, 75, sound_knobs, 1..=1);
 }
 
 #[test]
 fn cards_damaged_several_times() {
-    damaged_cards("node lookup in cards damaged several times", 2..=4);
+    let name = "node lookup in cards damaged several times";
+    damaged_cards(name, 75, sound_knobs, 2..=4);
+}
+
+#[test]
+fn large_cards_damaged() {
+    let name = "node lookup in large cards, damaged";
+    damaged_cards(name, 15, large_knobs, 1..=3);
 }
 
 /// Cuts a card anywhere: at a block's end it may be in shape, but never holds all its blocks.

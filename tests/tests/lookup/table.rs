@@ -103,11 +103,10 @@ fn expect_in_copy(lookups: &mut Lookups, image: &Image, number: u32, copy: u32) 
 }
 
 /// The longest table whose map has room, around each pair of copies and at the end.
-#[test]
-fn longest_table() {
-    let mut lookups = Lookups::new("node lookup in the longest table");
+fn expect_longest(lookups: &mut Lookups, segment0: u32) {
     for (background, copy) in [(0x00, 0), (0xFF, 1)] {
         let knobs = Knobs {
+            segment0,
             junk: None,
             ..with_map(118, vec![background; 118 * 32])
         };
@@ -125,7 +124,16 @@ fn longest_table() {
             lookups.expect(&image, number, 9);
         }
     }
-    lookups.finish(2 * (58 * 6 + 3 + 3), &[0, 9]);
+}
+
+/// Also where byte 2^32 lies inside it, and where it is the largest card's last area but for one segment.
+#[test]
+fn longest_table() {
+    let mut lookups = Lookups::new("node lookup in the longest table");
+    for segment0 in [2, (1 << 20) - 30_000, 4_194_304 - (2 + 2 + 118 + 2) * 512] {
+        expect_longest(&mut lookups, segment0);
+    }
+    lookups.finish(3 * 2 * (58 * 6 + 3 + 3), &[0, 9]);
 }
 
 /// The range follows the number of table segments.

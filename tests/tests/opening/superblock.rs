@@ -4,7 +4,7 @@ use harptimber_tests::calls::lookups::Lookups;
 use harptimber_tests::cards::image::Image;
 use harptimber_tests::cards::knobs::Knobs;
 use harptimber_tests::cards::layout::superblock::*;
-use harptimber_tests::cards::layout::{Field, SEGMENT_BLOCKS};
+use harptimber_tests::cards::layout::{Field, BLOCK_SIZE, SEGMENT_BLOCKS};
 
 /// A number in range of every table here.
 const NUMBER: u32 = 3;
@@ -258,6 +258,78 @@ fn ends() {
     let one_more = (vec![moved(&knobs, SEGMENT_COUNT, 1)], false);
     run(&mut lookups, &knobs, &[one_more]);
     lookups.finish(2 + 3 * 11, &[0, 5, 6]);
+}
+
+/// The same where the image has as many blocks as are read at most. A block count of one more is still 5: the image's
+/// own length is in shape.
+#[test]
+fn ends_of_the_largest_card() {
+    let mut lookups = Lookups::new("node lookup by ends of the largest card");
+    // With segment 0 at 512 the main area can end where the card does; 4,194,304 blocks are 8,192 segments.
+    let whole = Knobs::largest(2);
+    assert_eq!((whole.areas().main, whole.main_segments), (4096, 8184));
+    assert_eq!(whole.areas().main_end, 4_194_304);
+    let to = |field, value: u64, passes| (vec![(field, value)], passes);
+    let cases = [
+        to(BLOCK_COUNT, 4_194_304, true),
+        to(BLOCK_COUNT, 4_194_303, false),
+        to(BLOCK_COUNT, 4_194_305, false),
+        to(SEGMENT_COUNT, 8191, true),
+        to(SEGMENT_COUNT, 8190, false),
+        to(SEGMENT_COUNT, 8192, false),
+        to(SEGMENT_COUNT_MAIN, 8183, true),
+        to(SEGMENT_COUNT_MAIN, 8185, false),
+    ];
+    run(&mut lookups, &whole, &cases);
+    // One block less in the image, or one that the card doesn't have.
+    for (blocks, passes) in [(4_194_303, false), (4_194_304, true)] {
+        let mut image = Image::new(&whole.clone().with_segments(8183).in_image_of(blocks));
+        for copy in [0, 1] {
+            image.set(copy, BLOCK_COUNT, 4_194_304);
+        }
+        lookups.expect(&image, NUMBER, if passes { 0 } else { 5 });
+    }
+    lookups.finish(3 * 8 + 2, &[0, 5, 6]);
+}
+
+/// Areas anywhere up to the end: those of a volume that starts as late as it can, and of one with every segment in one
+/// of the areas that may be so long.
+#[test]
+fn areas_of_the_largest_card() {
+    let mut lookups = Lookups::new("node lookup by areas of the largest card");
+    let sound = Knobs::sound();
+    let own = sound.areas().block_count - sound.segment0;
+    let last = 4_194_304 - own;
+    for (segment0, passes) in [(last - 1, true), (last, true), (last + 1, false)] {
+        let knobs = Knobs {
+            segment0,
+            ..sound.clone()
+        };
+        let mut image = Image::new(&knobs);
+        let blocks = 4_194_304.min(knobs.image_blocks());
+        let bytes = &image.bytes()[..blocks as usize * BLOCK_SIZE];
+        let answer = if passes { 0 } else { 5 };
+        lookups.expect_in(("segment 0 at", segment0), bytes, NUMBER, answer);
+        // The block count alone doesn't help.
+        for copy in [0, 1] {
+            image.set(copy, BLOCK_COUNT, 4_194_304);
+        }
+        let bytes = &image.bytes()[..blocks as usize * BLOCK_SIZE];
+        let answer = if passes && blocks == 4_194_304 { 0 } else { 5 };
+        lookups.expect_in(
+            ("segment 0 at", segment0, "all blocks"),
+            bytes,
+            NUMBER,
+            answer,
+        );
+    }
+    let ssa = Knobs {
+        ssa_segments: Knobs::largest(2).main_segments,
+        ..Knobs::largest(2).with_segments(1)
+    };
+    assert_eq!(ssa.areas().main_end, 4_194_304);
+    run_unchanged(&mut lookups, &ssa, true);
+    lookups.finish(3 * 2 + 2, &[0, 5]);
 }
 
 /// The block count has 64 bits.

@@ -4,31 +4,32 @@
 use harptimber_tests::calls::compares::{changed, Compares, Kept, SAME};
 use harptimber_tests::cards::image::Image;
 use harptimber_tests::cards::layout::BLOCK_SIZE;
-use harptimber_tests::tools::published::{filled_on, File};
+use harptimber_tests::tools::published::{filled_on, File, LARGEST};
 
 const ROAD: &[u8] = b"road.bin";
 const TABLE: &[u8] = b"friction.tbl";
 /// The date of everything on both cards.
 const DATE: u32 = 1_700_000_000;
-/// So long that some blocks lie behind direct nodes.
-const ROAD_LEN: usize = 6_000_000;
 const TABLE_LEN: usize = 5 * BLOCK_SIZE + 1000;
 /// One byte of these blocks is changed: the first, one inside, and the very last.
 const CHANGED: [usize; 3] = [0, 3 * BLOCK_SIZE + 2222, TABLE_LEN - 1];
 
-fn card(road: &[u8], table: &[u8]) -> Image {
+fn card(megabytes: usize, road: &[u8], table: &[u8]) -> Image {
     let files: [File; 2] = [
         (ROAD.to_vec(), road.to_vec()),
         (TABLE.to_vec(), table.to_vec()),
     ];
-    filled_on(100, DATE, &files)
+    filled_on(megabytes, DATE, &files)
 }
 
 /// The main-area block in which a card has these bytes, which have to be its own.
 fn block_with(image: &Image, bytes: &[u8]) -> u32 {
-    let mut main = image.areas.main..image.areas.main_end;
-    main.find(|&block| image.block(block).starts_with(bytes))
-        .expect("a block with the bytes")
+    let numbered = image
+        .data()
+        .map(|(at, block)| ((at / BLOCK_SIZE) as u32, block));
+    let mut main = numbered.filter(|(number, _)| *number >= image.areas.main);
+    let found = main.find(|(_, block)| block.starts_with(bytes));
+    found.expect("a block with the bytes").0
 }
 
 /// A compare on each block of a file says "changed" where its bytes differ, else "same". The inode with
@@ -56,21 +57,31 @@ fn expect_file(
     differing
 }
 
-#[test]
-fn changed_table_with_its_old_date() {
-    let mut compares = Compares::new("compare after the accident");
-    let road = compares.trial.random.bytes(ROAD_LEN);
+fn expect_found(name: &'static str, megabytes: usize, road_len: usize) {
+    let mut compares = Compares::new(name);
+    let road = compares.trial.random.bytes(road_len);
     let table = compares.trial.random.bytes(TABLE_LEN);
     let mut new_table = table.clone();
     for at in CHANGED {
         new_table[at] ^= 1;
     }
-    let cards = [card(&road, &table), card(&road, &new_table)];
+    let cards = [&table, &new_table].map(|table| card(megabytes, &road, table));
     let cards = [&cards[0], &cards[1]];
     let of_table = expect_file(&mut compares, cards, TABLE, [&table, &new_table]);
     assert_eq!(of_table, CHANGED.len(), "blocks of the table that changed");
     let of_road = expect_file(&mut compares, cards, ROAD, [&road, &road]);
     assert_eq!(of_road, 0, "blocks of the road that changed");
-    let road_blocks = ROAD_LEN.div_ceil(BLOCK_SIZE) as u64;
+    let road_blocks = road_len.div_ceil(BLOCK_SIZE) as u64;
     compares.finish(3 + 2 * 3 + 2 * road_blocks, &[(15, 0, 0), (16, 0, 3)]);
+}
+
+/// The road is so long that some blocks lie behind direct nodes.
+#[test]
+fn changed_table_with_its_old_date() {
+    expect_found("compare after the accident", 100, 6_000_000);
+}
+
+#[test]
+fn changed_table_on_the_largest_card() {
+    expect_found("compare after the accident, 16 GiB", LARGEST, 4_000_000);
 }

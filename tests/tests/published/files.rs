@@ -1,6 +1,7 @@
 //! Pulls from images that the published tools write: every block of every file in the root directory
 //! against the file itself.
 
+use harptimber_tests::calls::compares::{Compares, Kept, SAME};
 use harptimber_tests::calls::pulls::{lists, Call, Pulls};
 use harptimber_tests::cards::card::ROOT;
 use harptimber_tests::cards::image::Image;
@@ -10,7 +11,9 @@ use harptimber_tests::cards::names::good_name;
 use harptimber_tests::cards::random::pick;
 use harptimber_tests::cards::walk_damage::strike_block;
 use harptimber_tests::node_lookup;
-use harptimber_tests::tools::published::{contents, filled_with, formatted, File, LONGEST_INLINE};
+use harptimber_tests::tools::published::{
+    contents, filled_with, formatted, File, LARGEST, LONGEST_INLINE,
+};
 use harptimber_tests::trial::Random;
 
 fn expect_file(pulls: &mut Pulls, image: &Image, (name, bytes): &File) {
@@ -49,9 +52,19 @@ fn expect_missing(pulls: &mut Pulls, image: &Image, files: &[File]) {
 
 /// Pulls all from an image with these files, and returns it.
 fn expect_files(name: &'static str, options: &str, files: Vec<File>, at_least: u64) -> Image {
-    let mut pulls = Pulls::new(name);
     // sload.f2fs leaves much of an image free, so this has to be a few times as long as the files.
-    let image = filled_with(200, options, &files);
+    expect_files_on(200, name, options, files, at_least)
+}
+
+fn expect_files_on(
+    megabytes: usize,
+    name: &'static str,
+    options: &str,
+    files: Vec<File>,
+    at_least: u64,
+) -> Image {
+    let mut pulls = Pulls::new(name);
+    let image = filled_with(megabytes, options, &files);
     for file in &files {
         expect_file(&mut pulls, &image, file);
     }
@@ -98,6 +111,36 @@ fn long_file() {
         (b"short".to_vec(), contents(&mut random, 10)),
     ];
     expect_files("published file behind an indirect node", "", files, 2939);
+}
+
+/// The largest card, with a file that reaches its first indirect node. With -a the nodes are at the card's end.
+#[test]
+fn largest_card() {
+    let mut compares = Compares::new("compare of 16 GiB with itself");
+    for (options, nodes_from) in [("", 29_184), ("-a 1", 4_190_000)] {
+        let mut random = Random::new(6);
+        let sizes = [
+            10,
+            LONGEST_INLINE + 1,
+            50_000,
+            (873 + 2 * 1018 + 2) * BLOCK_SIZE - 7,
+        ];
+        let file = |size| {
+            (
+                format!("{size} bytes").into_bytes(),
+                contents(&mut random, size),
+            )
+        };
+        let files = sizes.map(file).to_vec();
+        let name = files[3].0.clone();
+        let title = "published files on 16 GiB";
+        let image = expect_files_on(LARGEST, title, options, files, 2911 + 13);
+        assert!(node_lookup(image.bytes(), ROOT).address >= nodes_from);
+        for index in [0, 872, 873, 1890, 1891, 2908, 2909, 2910, 2911] {
+            compares.expect(&Kept::new(&image, &name, index), &image, SAME);
+        }
+    }
+    compares.finish(2 * 9, &[(15, 0, 0)]);
 }
 
 /// Names of every length, so many that they need several levels.

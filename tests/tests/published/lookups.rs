@@ -10,7 +10,7 @@ use harptimber_tests::cards::layout::{checkpoint, footer, superblock};
 use harptimber_tests::cards::random::pick;
 use harptimber_tests::node_lookup;
 use harptimber_tests::sizes::CARD_BLOCKS_MOST;
-use harptimber_tests::tools::published::{filled_with, formatted};
+use harptimber_tests::tools::published::{filled_with, formatted, LARGEST};
 
 /// The first number past the table.
 fn numbers_of(image: &Image) -> u32 {
@@ -18,10 +18,13 @@ fn numbers_of(image: &Image) -> u32 {
     ENTRIES_PER_BLOCK * BLOCKS_PER_SEGMENT * segments
 }
 
-/// Small numbers, those at borders of table blocks, around the end, and random ones.
+/// Small numbers, those at borders of table blocks, around the end, and random ones. In a long table some of the
+/// borders are enough.
 fn expect_opened(lookups: &mut Lookups, image: &Image) {
     let past = numbers_of(image);
-    let borders = (1..past / ENTRIES_PER_BLOCK).map(|block| block * ENTRIES_PER_BLOCK);
+    let blocks = past / ENTRIES_PER_BLOCK;
+    let some = (1..blocks).step_by(1 + blocks as usize / 1500);
+    let borders = some.map(|block| block * ENTRIES_PER_BLOCK);
     let mut numbers: Vec<u32> = borders.flat_map(|border| [border - 1, border]).collect();
     numbers.extend((0..2000).chain(past - 2..past + 2).chain([u32::MAX]));
     for _ in 0..lookups.trial.times(500) {
@@ -77,11 +80,21 @@ fn formatted_100_mb() {
     assert_eq!((image.areas.main, image.areas.main_end), (4096, 25600));
 }
 
-/// The largest image in shape.
+/// The largest image that was in shape before larger cards were read.
 #[test]
-fn formatted_1024_mb() {
-    let image = expect_fresh("mkfs 1024 MB", 1024, "");
-    assert_eq!(image.areas.block_count, CARD_BLOCKS_MOST);
+fn formatted_1_gib() {
+    let image = expect_fresh("mkfs 1 GiB", 1024, "");
+    assert_eq!(image.areas.block_count, 262_144);
+}
+
+/// The largest image in shape. With -a the root is at its end.
+#[test]
+fn formatted_16_gib() {
+    for options in ["", "-a 1"] {
+        let image = expect_fresh("mkfs 16 GiB", LARGEST, options);
+        assert_eq!(image.areas.block_count, CARD_BLOCKS_MOST);
+        assert_eq!(image.areas.main_end, 4_194_304);
+    }
 }
 
 #[test]

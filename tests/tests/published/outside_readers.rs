@@ -16,7 +16,7 @@ use harptimber_tests::cards::versions::{CHOSEN, PAIRS};
 use harptimber_tests::node_lookup;
 use harptimber_tests::tools::outside::{inode_number, CardFile, Opinions, Reader};
 use harptimber_tests::tools::published::{
-    contents, filled_in_turn, filled_with, File, LONGEST_INLINE,
+    contents, filled_in_turn, filled_with, File, LARGEST, LONGEST_INLINE,
 };
 use harptimber_tests::trial::Random;
 
@@ -112,13 +112,21 @@ fn names() {
 fn cards() {
     let mut random = Random::new(3);
     let mut opinions = Opinions::new("outside readers, several cards");
-    for (megabytes, options) in [(64, ""), (100, "-s 2"), (200, "-z 2 -s 3"), (1024, "")] {
+    let cards = [
+        (64, ""),
+        (100, "-s 2"),
+        (200, "-z 2 -s 3"),
+        (1024, ""),
+        (LARGEST, ""),
+        (LARGEST, "-a 1"),
+    ];
+    for (megabytes, options) in cards {
         let files = [3_345, 4_097, 50_000, 700_000]
             .map(|size| file(&mut random, &format!("{size} on {megabytes}"), size));
         let image = filled_with(megabytes, options, &files);
         expect_files(&mut opinions, &ALL, &image, &files);
     }
-    opinions.finish(&least(&ALL, 4 * 4));
+    opinions.finish(&least(&ALL, 6 * 4));
 }
 
 /// What isn't read, by the library and by the program.
@@ -377,6 +385,20 @@ fn write_anew(image: &mut Image, bytes: &[u8]) -> JournalEntry {
         ..entry
     };
     JournalEntry { nid, entry }
+}
+
+/// The last blocks of the largest card have the file.
+#[test]
+fn at_the_end_of_the_largest_card() {
+    let mut random = Random::new(11);
+    let [near, far] = [(); 2].map(|_| file(&mut random, "road.bin", 3_000_000));
+    let mut image = filled_with(LARGEST, "", &[near]);
+    let JournalEntry { nid, entry } = write_anew(&mut image, &far.1);
+    image.set_nat_entry(nid, 0, entry);
+    assert_eq!(entry.block_addr, 4_194_303);
+    let mut opinions = Opinions::new("outside readers, the end of 16 GiB");
+    expect_files(&mut opinions, &ALL, &image, &[far]);
+    opinions.finish(&least(&ALL, 1));
 }
 
 /// Two packs that differ in where the file is, by their maps, and in their versions, which alone decide. To

@@ -10,7 +10,9 @@ use harptimber_tests::cards::layout::sit_journal::{SitJournalEntry, MOST_ENTRIES
 use harptimber_tests::cards::layout::BLOCK_SIZE;
 use harptimber_tests::cards::segments::SegmentCard;
 use harptimber_tests::tools::fsck::fsck;
-use harptimber_tests::tools::published::{contents, filled_in_turn, filled_with, formatted, File};
+use harptimber_tests::tools::published::{
+    contents, filled_in_turn, filled_with, formatted, File, LARGEST,
+};
 use harptimber_tests::trial::Random;
 
 /// So many files of up to 50 blocks.
@@ -55,16 +57,18 @@ fn fresh() {
         (100, ""),
         (300, ""),
         (1024, ""),
+        (LARGEST, ""),
         (64, "-z 2"),
         (100, "-s 2"),
         (300, "-s 3"),
+        (LARGEST, "-s 2"),
     ];
     for (megabytes, options) in cards {
         let card = SegmentCard::read(formatted(megabytes, options));
         assert_eq!(expect_sound(&mut reports, &card.image), 2);
         assert_eq!(summaries(&card), (true, 6));
     }
-    reports.finish(7, &[0]);
+    reports.finish(9, &[0]);
 }
 
 #[test]
@@ -76,6 +80,7 @@ fn filled() {
         filled_with(100, "", &some),
         filled_with(200, "-s 2", &some),
         filled_with(1024, "", &many),
+        filled_with(LARGEST, "", &many),
         filled_in_turn(200, "", &[&some, &later]),
     ];
     for image in images {
@@ -84,7 +89,7 @@ fn filled() {
         assert!(expect_sound(&mut reports, &card.image) > 60);
         assert_eq!(summaries(&card), (false, 0));
     }
-    reports.finish(4, &[0]);
+    reports.finish(5, &[0]);
 }
 
 /// Changes a segment's count, then one bit of its map: that segment alone is named, by fsck.f2fs too.
@@ -133,6 +138,20 @@ fn changed_after_sload() {
         expect_named(&mut reports, &mut card, segno, ones);
     }
     reports.finish(1 + 2 * 9, &[0]);
+}
+
+/// Some segments of the largest card, among them the last. With -a the nodes are at its end.
+#[test]
+fn changed_on_the_largest_card() {
+    let mut reports = Reports::new("segment report of 16 GiB after a change");
+    let mut card = SegmentCard::read(filled_with(LARGEST, "-a 1", &files(6, 20)));
+    let ones = expect_sound(&mut reports, &card.image);
+    let segments = card.sit.main_segments;
+    assert!(segments > 8_000 && card.sit.main_segments.div_ceil(55) == 148);
+    for segno in [505, 4_000, segments - 4, segments - 1] {
+        expect_named(&mut reports, &mut card, segno, ones);
+    }
+    reports.finish(1 + 2 * 4, &[0]);
 }
 
 /// Table blocks that are moved to their second copies by hand, in each mix; fsck.f2fs finds them there too.

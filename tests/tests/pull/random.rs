@@ -7,21 +7,25 @@ use harptimber_tests::calls::pulls::Pulls;
 use harptimber_tests::cards::damage::Damage;
 use harptimber_tests::cards::names::good_name;
 use harptimber_tests::cards::random::within;
-use harptimber_tests::cards::random_files::{any_target, random_files, RandomFiles};
+use harptimber_tests::cards::random_files::{
+    any_target, large_random_files, random_files, RandomFiles,
+};
 use harptimber_tests::cards::versions::Apart;
 use harptimber_tests::cards::walk_damage::strike_either;
+use harptimber_tests::trial::Random;
 
 /// One in so many damages is to what a card is opened by.
 const OPENING: u64 = 6;
 
-/// Each target of each card, and names that aren't there.
-#[test]
-fn sound_cards() {
-    const CARDS: u64 = 150;
-    let mut pulls = Pulls::new("pull from random cards");
+/// Makes a card.
+type Files = fn(&mut Random) -> RandomFiles;
+
+/// Each target of each card, and names that aren't there. Returns how the packs' versions lay to each other.
+fn expect_sound(name: &'static str, cards: u64, files: Files) -> Answers<Apart> {
+    let mut pulls = Pulls::new(name);
     let mut met = Answers::default();
-    for _ in 0..pulls.trial.times(CARDS) {
-        let RandomFiles { card, targets } = random_files(&mut pulls.trial.random);
+    for _ in 0..pulls.trial.times(cards) {
+        let RandomFiles { card, targets } = files(&mut pulls.trial.random);
         met.note_versions(&card.image);
         for target in &targets {
             pulls.compare(&card.image, &target.name, target.index);
@@ -29,17 +33,27 @@ fn sound_cards() {
             pulls.expect(&card.image, &name, target.index, 2);
         }
     }
-    pulls.finish(CARDS * 32, &[0, 1, 2]);
+    pulls.finish(cards * 32, &[0, 1, 2]);
+    met
+}
+
+#[test]
+fn sound_cards() {
+    let met = expect_sound("pull from random cards", 150, random_files);
     met.finish(&Apart::ALL);
 }
 
+#[test]
+fn large_sound_cards() {
+    expect_sound("pull from large random cards", 40, large_random_files);
+}
+
 /// Damages random cards, each time with so many strikes, which are undone before the next ones.
-fn damaged_cards(name: &'static str, strikes: RangeInclusive<u64>) {
-    const CARDS: u64 = 30;
+fn damaged_cards(name: &'static str, cards: u64, files: Files, strikes: RangeInclusive<u64>) {
     const DAMAGES: u64 = 1000;
     let mut pulls = Pulls::new(name);
-    for _ in 0..pulls.trial.times(CARDS) {
-        let RandomFiles { mut card, targets } = random_files(&mut pulls.trial.random);
+    for _ in 0..pulls.trial.times(cards) {
+        let RandomFiles { mut card, targets } = files(&mut pulls.trial.random);
         let opening = Damage::of(&card.image);
         for _ in 0..DAMAGES {
             let random = &mut pulls.trial.random;
@@ -53,15 +67,22 @@ fn damaged_cards(name: &'static str, strikes: RangeInclusive<u64>) {
         }
     }
     let every_answer: Vec<u32> = (0..=14).collect();
-    pulls.finish(CARDS * DAMAGES, &every_answer);
+    pulls.finish(cards * DAMAGES, &every_answer);
 }
 
 #[test]
 fn cards_damaged_once() {
-    damaged_cards("pull from cards damaged once", 1..=1);
+    damaged_cards("pull from cards damaged once", 30, random_files, 1..=1);
 }
 
 #[test]
 fn cards_damaged_several_times() {
-    damaged_cards("pull from cards damaged several times", 2..=4);
+    let name = "pull from cards damaged several times";
+    damaged_cards(name, 30, random_files, 2..=4);
+}
+
+#[test]
+fn large_cards_damaged() {
+    let name = "pull from large cards, damaged";
+    damaged_cards(name, 5, large_random_files, 1..=3);
 }

@@ -1,7 +1,7 @@
 //! Segment report: the SIT journal's place, count and entries.
 
 use harptimber_tests::calls::segments::{Report, Reports};
-use harptimber_tests::cards::knobs::Pack;
+use harptimber_tests::cards::knobs::{Knobs, Pack};
 use harptimber_tests::cards::layout::checkpoint::{CP_COMPACT_SUM_FLAG, CP_UMOUNT_FLAG};
 use harptimber_tests::cards::layout::journal;
 use harptimber_tests::cards::layout::nat::NatEntry;
@@ -9,6 +9,7 @@ use harptimber_tests::cards::layout::sit::SitEntry;
 use harptimber_tests::cards::layout::sit_journal::{SitJournalEntry, MOST_ENTRIES};
 use harptimber_tests::cards::random::shuffle;
 use harptimber_tests::cards::segments::SegmentCard;
+use harptimber_tests::sizes::SEGMENTS_MOST;
 
 use crate::{journalled, knobs, pack, FLAGS};
 
@@ -220,6 +221,24 @@ fn segments_at_borders() {
         card.put_journal(&journal);
         let off = [54, 55, 109, 110, 439, 440];
         reports.expect(&card.image, &Report::of(&off, 6 * 511));
+    }
+    reports.finish(2, &[0]);
+}
+
+/// The last segments of the largest card; 8,185 would be one more.
+#[test]
+fn segments_of_the_largest_card() {
+    let mut reports = Reports::new("segment report of journalled segments of the largest card");
+    let journal = [8_184, 505, 8_185, 8_139, 8_140, 504];
+    let journal = journal.map(|segno| journalled(segno, SitEntry::counted(512, 511)));
+    for flags in KINDS {
+        let mut card = SegmentCard::new(&Knobs {
+            ssa_segments: 0,
+            ..knobs(SEGMENTS_MOST, pack(flags))
+        });
+        card.put_journal(&journal);
+        let off = [504, 505, 8_139, 8_140, 8_184];
+        reports.expect(&card.image, &Report::of(&off, 5 * 511));
     }
     reports.finish(2, &[0]);
 }

@@ -8,7 +8,7 @@ use harptimber_tests::cards::damage::Damage;
 use harptimber_tests::cards::image::Image;
 use harptimber_tests::cards::knobs::Knobs;
 use harptimber_tests::cards::layout::BLOCK_SIZE;
-use harptimber_tests::cards::random::{between, pick, sound_knobs, within};
+use harptimber_tests::cards::random::{between, large_knobs, pick, sound_knobs, within};
 use harptimber_tests::cards::random_segments::{
     random_segments, sit_entry, sit_journal, RandomSegments,
 };
@@ -26,21 +26,44 @@ fn card(random: &mut Random) -> RandomSegments {
     random_segments(random, knobs)
 }
 
-#[test]
-fn sound_cards() {
-    let mut reports = Reports::new("segment report of random cards");
+/// Of more than 1 GiB, with up to as many as fit.
+fn large_card(random: &mut Random) -> RandomSegments {
+    let knobs = Knobs {
+        junk: None,
+        ..large_knobs(random)
+    };
+    random_segments(random, knobs)
+}
+
+/// Makes a card.
+type Segments = fn(&mut Random) -> RandomSegments;
+
+/// Returns how the packs' versions lay to each other.
+fn expect_sound(name: &'static str, cards: u64, segments: Segments) -> Answers<Apart> {
+    let mut reports = Reports::new(name);
     let mut met = Answers::default();
-    for _ in 0..reports.trial.times(150) {
+    for _ in 0..reports.trial.times(cards) {
         let RandomSegments {
             card,
             table,
             journal,
-        } = card(&mut reports.trial.random);
+        } = segments(&mut reports.trial.random);
         met.note_versions(&card.image);
         reports.expect(&card.image, &Report::by_entries(&table, &journal));
     }
-    reports.finish(150, &[0]);
+    reports.finish(cards, &[0]);
+    met
+}
+
+#[test]
+fn sound_cards() {
+    let met = expect_sound("segment report of random cards", 150, card);
     met.finish(&Apart::ALL);
+}
+
+#[test]
+fn large_sound_cards() {
+    expect_sound("segment report of large random cards", 20, large_card);
 }
 
 /// Whatever bytes stand in the table and in the map.
@@ -92,12 +115,11 @@ fn list_len(random: &mut Random, needed: usize) -> usize {
 }
 
 /// Damages random cards, each time with so many strikes. They are undone before the next ones.
-fn damaged_cards(name: &'static str, strikes: RangeInclusive<u64>) {
-    const CARDS: u64 = 40;
+fn damaged_cards(name: &'static str, cards: u64, segments: Segments, strikes: RangeInclusive<u64>) {
     const DAMAGES: u64 = 200;
     let mut reports = Reports::new(name);
-    for _ in 0..reports.trial.times(CARDS) {
-        let SegmentCard { mut image, sit } = card(&mut reports.trial.random).card;
+    for _ in 0..reports.trial.times(cards) {
+        let SegmentCard { mut image, sit } = segments(&mut reports.trial.random).card;
         let damage = Damage::of(&image);
         for _ in 0..DAMAGES {
             let random = &mut reports.trial.random;
@@ -112,17 +134,25 @@ fn damaged_cards(name: &'static str, strikes: RangeInclusive<u64>) {
             image.undo(0);
         }
     }
-    reports.finish(CARDS * DAMAGES, &[0, 4, 5, 6, 7, 8]);
+    reports.finish(cards * DAMAGES, &[0, 4, 5, 6, 7, 8]);
 }
 
 #[test]
 fn cards_damaged_once() {
-    damaged_cards("segment report of cards damaged once", 1..=1);
+    let name = "segment report of cards damaged once";
+    damaged_cards(name, 40, card, 1..=1);
 }
 
 #[test]
 fn cards_damaged_several_times() {
-    damaged_cards("segment report of cards damaged several times", 2..=6);
+    let name = "segment report of cards damaged several times";
+    damaged_cards(name, 40, card, 2..=6);
+}
+
+#[test]
+fn large_cards_damaged() {
+    let name = "segment report of large cards, damaged";
+    damaged_cards(name, 6, large_card, 1..=4);
 }
 
 /// Bytes anywhere before the main area, many at a time; the packs' first blocks get their checksums.
