@@ -20,7 +20,7 @@ use harptimber_tests::program::special_build::{SpecialBuild, REPORTED};
 use harptimber_tests::program::{
     command, run, run_by_shell, run_on_terminal_after, Ran, Word, Words,
 };
-use harptimber_tests::tools::published::{contents, filled_on};
+use harptimber_tests::tools::published::{contents, filled_on, LARGEST};
 use harptimber_tests::trial::Random;
 
 use crate::compare::{self, Cards};
@@ -361,7 +361,7 @@ fn published() {
             (b"road".to_vec(), road.clone()),
             (b"table".to_vec(), table.clone()),
         ];
-        OnDisk::new(filled_on(16 << 10, 1_700_000_000, &files))
+        OnDisk::new(filled_on(LARGEST, 1_700_000_000, &files))
     };
     let [kept, new] = [7, 8].map(&mut card);
     let [path, new] = [kept.path(), new.path()];
