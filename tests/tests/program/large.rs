@@ -20,7 +20,7 @@ use harptimber_tests::program::special_build::{SpecialBuild, REPORTED};
 use harptimber_tests::program::{
     command, run, run_by_shell, run_on_terminal_after, Ran, Word, Words,
 };
-use harptimber_tests::tools::published::{contents, filled_on, LARGEST};
+use harptimber_tests::tools::published::{self, contents, filled_on, filled_with, LARGEST};
 use harptimber_tests::trial::Random;
 
 use crate::compare::{self, Cards};
@@ -349,33 +349,55 @@ fn cut_while_it_is_read() {
     ran.expect_message(2, &["card.img: can't be read any more: it was cut short"]);
 }
 
-/// By the published tools, beside a new card with one byte changed.
-#[test]
-fn published() {
+/// What the published tools were given, with such a byte at one place.
+fn published_files(byte: u8) -> [published::File; 2] {
     let mut random = Random::new(71);
     let road = contents(&mut random, 5_000_000);
     let mut table = contents(&mut random, 9000);
-    let mut card = |byte: u8| {
-        table[8192] = byte;
-        let files = [
-            (b"road".to_vec(), road.clone()),
-            (b"table".to_vec(), table.clone()),
-        ];
-        OnDisk::new(filled_on(LARGEST, 1_700_000_000, &files))
-    };
-    let [kept, new] = [7, 8].map(&mut card);
-    let [path, new] = [kept.path(), new.path()];
+    table[8192] = byte;
+    [(b"road".to_vec(), road), (b"table".to_vec(), table)]
+}
+
+/// A card with these files, as it came from the tools.
+fn expect_published(card: &OnDisk, files: &[published::File]) {
+    let path = card.path();
     let info = run(&[&"info", &path]).expect(0);
     let size = "\nsize: 16 GiB, 4,194,304 blocks of 4,096 bytes\nfeatures: none\n";
     assert!(info.words().contains(size), "of {info:?}");
     let ls = run(&[&"ls", &path]).expect(0);
     let names = "     5,000,000  road: data (answer 0)\n         9,000  table: data (answer 0)\n";
     assert!(ls.words().ends_with(names), "of {ls:?}");
-    assert!(run(&[&"cat", &path, &"road"]).expect(0).out == road);
-    segments::expect_published(&kept.image, &path);
-    run(&[&"compare", &path, &new, &"road"]).expect(0);
-    let ran = run(&[&"compare", &path, &new, &"table"]).expect(1);
+    for (name, bytes) in files {
+        let cat = run(&[&"cat", &path, name]).expect(0);
+        assert!(cat.out == *bytes, "bytes by {cat:?}");
+    }
+    segments::expect_published(&card.image, &path);
+}
+
+/// Beside a new card with one byte changed.
+#[test]
+fn published_cards() {
+    let [kept, new] = [7, 8].map(|byte| {
+        let files = published_files(byte);
+        let card = OnDisk::new(filled_on(LARGEST, 1_700_000_000, &files));
+        expect_published(&card, &files);
+        card
+    });
+    let cards: Words = &[&"compare", &kept.path(), &new.path()];
+    run(&[cards, &[&"road"]].concat()).expect(0);
+    let ran = run(&[cards, &[&"table"]].concat()).expect(1);
     let line =
         "table: 1 of 3 blocks differs, first at byte 8192 of the file (0x07 before, 0x08 now)";
     assert!(ran.words().starts_with(line), "of {ran:?}");
+}
+
+/// By -a 1 nodes are put at the card's end.
+#[test]
+fn published_card_with_far_nodes() {
+    let files = published_files(7);
+    let card = OnDisk::new(filled_with(LARGEST, "-a 1", &files));
+    expect_published(&card, &files);
+    let pull: Words = &[&"pull", &"--json", &card.path(), &"road", &"1000"];
+    let blocks = run(pull).expect(0).json()["blocks"].numbers();
+    assert!(blocks.last().is_some_and(|&block| block > 4_000_000));
 }
