@@ -1,6 +1,6 @@
 -- An image whose length is out of shape is answered with 4 by each call that takes one, whatever its bytes and whatever else is
--- asked: all other numbers are 0, and what was lent stays as it was. `longer-out-of-shape` (superblock/proofs/Shaped.antt) says it of every
--- image that is longer than the limit.
+-- asked: all other numbers are 0, and what was lent stays as it was. K8's "one more is 4" is this and `past-the-limit`
+-- (superblock/proofs/Shaped.antt).
 use mathlib.Core.Path.{_≡_}
 use mathlib.Core.Bool.{false, and-false}
 use mathlib.Core.List.{List}
@@ -14,8 +14,9 @@ use Rattle.pull.specs.Pull.{Lent, callInShape, refusedPull, pulled}
 use Rattle.pull.proofs.Results.{call-refused}
 use Rattle.compare.specs.Compare.{refused, compared}
 use Rattle.compare.proofs.Openings.{shape-refused}
-use Rattle.sit.specs.Opening.{openedWithSit}
+use Rattle.sit.proofs.Openings.{still-refused}
 use Rattle.segment_report.specs.Report.{refusedReport, segmentReport}
+use Rattle.segment_report.proofs.Ends.{refused-by-opening}
 
 module _ (image : List ℕ) (out : inShape (length image) ≡ false) where
   pub lookup-out-of-shape : (number : ℕ) → lookupOf image number ≡ record { answer = 4; inode = 0; address = 0 }
@@ -33,5 +34,4 @@ module _ (image : List ℕ) (out : inShape (length image) ≡ false) where
   fresh-out-of-shape kept nodes blocks = shape-refused kept image nodes blocks (rw (out, and-false))
 
   pub report-out-of-shape : (list : List ℕ) → segmentReport image list ≡ refusedReport 4 list
-  unfolding segmentReport openedWithSit
-  report-out-of-shape list = rw (shape-refuses image out)
+  report-out-of-shape list = refused-by-opening image list 4 (still-refused image 4 (shape-refuses image out))

@@ -87,9 +87,9 @@ sized blocks = yes (inShape (4096 * blocks))
 
 abbrev superblockRules : List Line
 superblockRules =
-    -- "An image has whole blocks", 2 of them or more
+    -- "An image has whole blocks, 2 to .. of them": lengths in bytes
     (List.map (λ bytes. yes (inShape bytes)) (0 ∷ 4096 ∷ 8191 ∷ 8192 ∷ 8193 ∷ 17179869183 ∷ 17179869185 ∷ []) is (0 ∷ 0 ∷ 0 ∷ 1 ∷ 0 ∷ 0 ∷ 0 ∷ []))
-    -- K8: "4,194,304 is in shape, one more is 4", and both sides of the limit before
+    -- K8: "4,194,304 is in shape, one more is 4", and both sides of the limit before, in blocks
     ∷ (List.map sized (0 ∷ 1 ∷ 262144 ∷ 262145 ∷ 4194303 ∷ 4194304 ∷ 4194305 ∷ []) is (0 ∷ 0 ∷ 1 ∷ 1 ∷ 1 ∷ 1 ∷ 0 ∷ []))
     -- "The first four bytes must be 10 20 F5 F2."
     ∷ (List.map (with 0) (0xF2F52010 ∷ 0xF3F52010 ∷ 0xF2F52011 ∷ []) is (1 ∷ 0 ∷ 0 ∷ []))

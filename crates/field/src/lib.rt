@@ -84,14 +84,14 @@ pub fn same_at(bytes: &[u8], at: usize, string: &[u8]) -> bool
     true
 }
 
-// How many blocks an image has. Its bytes may be more than 32 bits hold.
-pub fn block_count(image: &[u8]) -> u64
+// How many blocks an image has. Its length may pass 32 bits.
+pub fn image_blocks(image: &[u8]) -> u64
     ensures { λ r. ⌜ r ≡ cardOf (now (image .entry)) .blocks ⌝ }
 {
     image.len() as u64 / 4096
 }
 
-// Block b of an image, as a part of it: at any 32-bit b, for the offset has 64 bits.
+// Block b of an image, as a part of it. Its offset may pass 32 bits.
 pub fn block_at(image: &[u8], b: u32) -> &[u8]
     requires { ⌜ b < cardOf (now image) .blocks ⌝ }
     ensures { λ r. ⌜ now r ≡ cardOf (now (image .entry)) .block b ⌝ }

@@ -2,6 +2,7 @@
 use mathlib.Core.Path.{_≡_, refl, ap, _∙_}
 use mathlib.Core.Bool.{true}
 use mathlib.Core.List.{List, [], _∷_, _++_}
+use mathlib.Core.List as List
 use mathlib.Core.Logic.{⊎-elim}
 use Prim.Native.Nat.{ℕ, zero, suc, _+_, _-_, _*_, _/_, _<_, _≤_}
 use native.Mathlib.Omega.{arith}
@@ -12,7 +13,7 @@ use lib.Seq.{take-at, drop-append-add, drop-nil, getD-append-add}
 use Rattle.field.specs.Card.{cardOf, blockOf}
 use Rattle.field.specs.Choice.{choose}
 use Rattle.field.proofs.Choosing.{either}
-use Rattle.superblock.specs.Shape.{inShape}
+use Rattle.superblock.specs.Shape.{mostBlocks, inShape}
 use Rattle.list.specs.Lists.{bytesOf}
 use Rattle.sample_card.specs.Image.{filled, zeros, superblock, pack, journal, sitBlock, natBlock, rootInode, fileInode, dentryBlock, dataBlock}
 use Rattle.sample_card.specs.Image.{Run, runs, laidOut, joined, image, blockIn, card}
@@ -44,27 +45,21 @@ block-joined (x ∷ bs) (e then w) (suc b) =
 
 -- ---- any runs
 
--- each run's block is whole
-infixr 20 _and_
-data WholeRuns : List Run → Type 0 where
-  no-run : WholeRuns []
-  _and_ : {r : Run} {rs : List Run} → length (r .block) ≡ 4096 → WholeRuns rs → WholeRuns (r ∷ rs)
-
-blocks-whole : (rs : List Run) → WholeRuns rs → Whole (laidOut rs)
+laid-whole : (rs : List Run) → Whole (List.map (λ r. r .block) rs) → Whole (laidOut rs)
 unfolding laidOut
-blocks-whole [] no-run = none
-blocks-whole (r ∷ rs) (e and w) = whole-run (r .times) (r .block) e (blocks-whole rs w)
+laid-whole [] none = none
+laid-whole (r ∷ rs) (e then w) = whole-run (r .times) (r .block) e (laid-whole rs w)
 
 -- how many blocks
 abbrev count : List Run → ℕ
 count [] = 0
 count (r ∷ rs) = r .times + count rs
 
-length-blocks : (rs : List Run) → length (laidOut rs) ≡ count rs
+laid-count : (rs : List Run) → length (laidOut rs) ≡ count rs
 unfolding laidOut
-length-blocks [] = refl
-length-blocks (r ∷ rs) =
-    rw (length-append (replicate (r .times) (r .block)) (laidOut rs), length-replicate (r .times) (r .block), length-blocks rs)
+laid-count [] = refl
+laid-count (r ∷ rs) =
+    rw (length-append (replicate (r .times) (r .block)) (laidOut rs), length-replicate (r .times) (r .block), laid-count rs)
 
 -- a block of a run, or one behind it
 module _ (n : ℕ) (x : List ℕ) (ys : List (List ℕ)) (b : ℕ) where
@@ -82,38 +77,38 @@ module _ (n : ℕ) (x : List ℕ) (ys : List (List ℕ)) (b : ℕ) where
       ⊎-elim (λ h. rw h (inside-run (leb-true (suc b) n h))) (λ h. let l = leb-false (suc b) n h in rw h (behind-run (omega arith)))
       (either (ltb b n))
 
-block-of-runs : (rs : List Run) (b : ℕ) → getD (laidOut rs) b [] ≡ blockIn rs b
+laid-block : (rs : List Run) (b : ℕ) → getD (laidOut rs) b [] ≡ blockIn rs b
 unfolding laidOut blockIn
-block-of-runs [] b = refl
-block-of-runs (r ∷ rs) b = run-at (r .times) (r .block) (laidOut rs) b ∙ rw (block-of-runs rs (b - r .times))
+laid-block [] b = refl
+laid-block (r ∷ rs) b = run-at (r .times) (r .block) (laidOut rs) b ∙ rw (laid-block rs (b - r .times))
 
 -- ---- the sample's
 zeros-length : length zeros ≡ 4096
 unfolding zeros
 zeros-length = refl
 
-runs-whole : WholeRuns runs
+-- one each for the runs in their order
+runs-whole : Whole (List.map (λ r. r .block) runs)
 unfolding runs superblock pack journal sitBlock natBlock rootInode fileInode dentryBlock dataBlock filled bytesOf
 runs-whole =
-    refl and refl and zeros-length
-    and refl and refl and refl and zeros-length
-    and refl and zeros-length
-    and refl and zeros-length
-    and zeros-length
-    and refl and refl and refl and zeros-length and refl
-    and no-run
+    refl then refl then zeros-length
+    then refl then refl then refl then zeros-length
+    then refl then zeros-length
+    then refl then zeros-length
+    then zeros-length
+    then refl then refl then refl then zeros-length then refl
+    then none
 
 sample-whole : Whole (laidOut runs)
-sample-whole = blocks-whole runs runs-whole
+sample-whole = laid-whole runs runs-whole
 
--- 4,194,304 blocks
-sample-count : count runs ≡ 4194304
+sample-count : count runs ≡ mostBlocks
 unfolding runs
 sample-count = refl
 
-pub image-length : length image ≡ 17179869184
+pub image-length : length image ≡ mostBlocks * 4096
 unfolding image
-image-length = rw (length-joined (laidOut runs) sample-whole, length-blocks runs, sample-count)
+image-length = rw (length-joined (laidOut runs) sample-whole, laid-count runs, sample-count)
 
 pub image-shape : inShape (length image) ≡ true
 unfolding inShape
@@ -121,7 +116,7 @@ image-shape = rw image-length
 
 image-blocks : (b : ℕ) → blockOf image b ≡ blockIn runs b
 unfolding image
-image-blocks b = block-joined (laidOut runs) sample-whole b ∙ block-of-runs runs b
+image-blocks b = block-joined (laidOut runs) sample-whole b ∙ laid-block runs b
 
 pub image-card : cardOf image ≡ card
 image-card = let e = ap (λ (n : ℕ). n / 4096) image-length in λ i. record { blocks = e i; block = λ b. image-blocks b i }

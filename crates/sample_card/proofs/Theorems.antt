@@ -7,6 +7,7 @@ use mathlib.Core.Bool.{true}
 use mathlib.Core.List.{List, [], _∷_, _++_}
 use lib.ListN.{length, replicate}
 use Rattle.field.specs.Card.{Card}
+use Rattle.superblock.specs.Shape.{mostBlocks}
 use Rattle.checkpoint.specs.declared.Opening.the-variants.{Opened}
 use Rattle.checkpoint.specs.Volume.{opened, openedImage}
 use Rattle.name_hash.specs.Name.{nameBytes, isName}
@@ -27,8 +28,8 @@ use Rattle.sample_card.proofs.Opening.{card-opens}
 use Rattle.sample_card.proofs.Pulling.{table-entries, walks}
 use Rattle.sample_card.proofs.Reporting.{sit-journal-readable, segments}
 
--- K8: "4,194,304 is in shape"
-pub the-largest : length image ≡ 4096 * 4194304
+-- as large as an image may be
+pub the-largest : length image ≡ mostBlocks * 4096
 the-largest = image-length
 
 pub some-card-opens : openedImage image ≡ Opened volume

@@ -1,5 +1,5 @@
--- "An image has whole blocks", 2 of them or more. K8: "Raise the image limit to 4,194,304 blocks (16 GiB). 4,194,304 is in shape, one more
--- is 4."
+-- "An image has whole blocks, 2 to .. of them", the most by K8: "Raise the image limit to 4,194,304 blocks (16 GiB). 4,194,304 is in shape,
+-- one more is 4 .."
 use mathlib.Core.Bool.{Bool, _&&_}
 use Prim.Native.Nat.{ℕ, _/_, _%_, _≤_}
 use lib.Dec.{eqb, leb}

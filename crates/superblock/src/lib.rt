@@ -12,7 +12,7 @@ ghost use Rattle.superblock.specs.Superblock.{copyOf, mark, superblockOf
 ghost use Rattle.superblock.specs.Superblock.{countsPass, endOf, areasPass, endsPass, fieldsPass, passes};
 ghost use Rattle.superblock.specs.Areas.{areasOf, accepted, found};
 
-// 16 GiB.
+// The most blocks that an image may have, which are 16 GiB.
 const MOST_BLOCKS: usize = 4194304;
 
 // A copy's fields, under their names in the Linux header.
@@ -249,7 +249,7 @@ pub fn find_superblock(image: &[u8]) -> Found
     requires { ⌜ InShape (cardOf (now image)) ⌝ }
     ensures { λ r. ⌜ r ≡ found (cardOf (now (image .entry))) ⌝ }
 {
-    let blocks = field::block_count(image);
+    let blocks = field::image_blocks(image);
     let first = try_copy(field::block_at(image, 0), blocks);
     match first {
         Tried::Passed(s) => accept(s),

@@ -15,7 +15,7 @@ abbrev card-of : tie.Start → Card
 card-of s = cardOf (s .args .image .now)
 
 -- places: where the blocks were counted, the copy in block 0 was tried, and the one in block 1 was
-abbrev counted-of : tie.After-try-copy → tie.After-block-count
+abbrev counted-of : tie.After-try-copy → tie.After-image-blocks
 counted-of k = k .before .before
 
 abbrev start-of : tie.After-try-copy → tie.Start
@@ -26,16 +26,16 @@ first-of k = k .before .before
 
 first-tried : (k : tie.After-try-copy) → let card = card-of (start-of k) in
     k .try-copy .result ≡ choose (copyPasses card 0) (Passed (superblockOf (copyIn card 0))) Failed
-first-tried k = rw (k .before .block-at .ensures, counted-of k .block-count .ensures) at (k .try-copy .ensures)
+first-tried k = rw (k .before .block-at .ensures, counted-of k .image-blocks .ensures) at (k .try-copy .ensures)
 
 second-tried : (k : tie.After-try-copy2) → let card = card-of (start-of (first-of k .before .before)) in
     k .try-copy2 .result ≡ choose (copyPasses card 1) (Passed (superblockOf (copyIn card 1))) Failed
 second-tried k =
     let first = first-of k .before .before in
-    rw (k .before .block-at2 .ensures, counted-of first .block-count .ensures) at (k .try-copy2 .ensures)
+    rw (k .before .block-at2 .ensures, counted-of first .image-blocks .ensures) at (k .try-copy2 .ensures)
 
-block-count-requires : tie.Need-block-count-requires
-block-count-requires c κs = search needs
+image-blocks-requires : tie.Need-image-blocks-requires
+image-blocks-requires c κs = search needs
 
 block-at-requires : tie.Need-block-at-requires
 block-at-requires c κs = search needs
@@ -105,7 +105,7 @@ pub find-superblock-spec : {M : Type 1} → statement M
 find-superblock-spec =
     tie.close
     (tie.spec
-    block-count-requires
+    image-blocks-requires
     block-at-requires
     try-copy-requires
     enum-known-first
