@@ -20,6 +20,8 @@
  * Bytes and names are in hexadecimal behind an x. `guard_test heap SCRIPT` has each slice on the heap
  * instead, for valgrind. Without a script, images are empty or too short.
  */
+#define _GNU_SOURCE /* lending.h */
+#include <fcntl.h>
 #include <inttypes.h>
 #include <string.h>
 
@@ -30,6 +32,7 @@
 #define BLOCK_SIZE ((size_t)HARPTIMBER_BLOCK_BYTES)
 #define LEAST_NODES ((size_t)HARPTIMBER_NODES_BYTES)
 #define LEAST_BLOCKS ((size_t)HARPTIMBER_BLOCKS_BYTES)
+#define MOST_BYTES (BLOCK_SIZE * HARPTIMBER_CARD_BLOCKS_MOST)
 #define PATTERN 0xA5
 #define COUNT_OF(array) (sizeof(array) / sizeof *(array))
 
@@ -304,6 +307,25 @@ static void expect_odd_compare(const struct call *pull, struct slice fresh, uint
 
 static const struct beyond nothing;
 static struct slice sound, damaged;
+static int card = -1; /* their file */
+
+#define MOST_PATCHES 64
+
+/* The damage. */
+static struct patch {
+    size_t at, len;
+} patches[MOST_PATCHES];
+static size_t patch_count;
+
+/* A slice with the damaged image's first bytes. */
+static struct slice first_bytes(size_t len)
+{
+    struct slice s = lend_file("image", card, len);
+    for (size_t i = 0; i < patch_count; i++)
+        for (size_t at = patches[i].at; at < patches[i].at + patches[i].len && at < len; at++)
+            s.bytes[at] = damaged.bytes[at];
+    return s;
+}
 
 /* How an image compares with itself, by a pull's answer: slices that are only read may be the same one. */
 static uint32_t with_itself(uint32_t answer)
@@ -336,7 +358,8 @@ static void run_pull(struct slice name, uint32_t index, uint32_t answer, uint32_
 /* All that takes an image, with one that has only some first bytes of the damaged one. */
 static void run_cut(size_t len, struct slice name, uint32_t index, uint32_t answer)
 {
-    struct slice cut = copied("image", damaged.bytes, len);
+    struct slice cut = first_bytes(len);
+    seal(&cut);
     struct call c = {.image = cut, .name = name, .index = index};
     expect_report(cut, HARPTIMBER_SEGMENTS_BYTES, refused(answer) ? answer : ANY);
     expect_pull(&c, &least, answer);
@@ -353,7 +376,8 @@ static void run_cut(size_t len, struct slice name, uint32_t index, uint32_t answ
 /* A slice for `told` bytes that has fewer, or that starts a byte early, as the placement can notice. */
 static struct slice shorter(const struct slice *whole, size_t len)
 {
-    struct slice s = lend_copy(whole->name, whole->bytes, len);
+    int is_image = whole->bytes == damaged.bytes;
+    struct slice s = is_image ? first_bytes(len) : lend_copy(whole->name, whole->bytes, len);
     s.len = whole->len;
     if (placement == BEHIND_GUARD)
         s.bytes--;
@@ -429,27 +453,6 @@ static void run_unset(void)
     give_room_back(&c);
 }
 
-static struct slice from_file(const char *path)
-{
-    FILE *file = fopen(path, "rb");
-    if (file == NULL || fseek(file, 0, SEEK_END) != 0)
-        give_up("a card can't be read");
-    struct slice s = lend("image", (size_t)ftell(file));
-    rewind(file);
-    if (fread(s.bytes, 1, s.len, file) != s.len)
-        give_up("a card can't be read");
-    fclose(file);
-    seal(&s);
-    return s;
-}
-
-#define MOST_PATCHES 64
-
-static struct patch {
-    size_t at, len;
-} patches[MOST_PATCHES];
-static size_t patch_count;
-
 static void run_put(size_t at, const struct slice *bytes)
 {
     if (patch_count == MOST_PATCHES || at + bytes->len > damaged.len)
@@ -471,8 +474,16 @@ static void run_card(const char *path)
     patch_count = 0;
     give_back(&sound);
     give_back(&damaged);
-    sound = from_file(path);
-    damaged = from_file(path);
+    if (card >= 0)
+        close(card);
+    card = open(path, O_RDONLY);
+    off_t len = card < 0 ? -1 : lseek(card, 0, SEEK_END);
+    if (len < 0)
+        give_up("a card can't be read");
+    sound = lend_file("image", card, (size_t)len);
+    damaged = lend_file("image", card, (size_t)len);
+    seal(&sound);
+    seal(&damaged);
 }
 
 #define MOST_WORDS 6
@@ -482,11 +493,17 @@ struct line {
     char *words[MOST_WORDS + 1]; /* the last is NULL */
 };
 
-static uint32_t number(const struct line *line, size_t word)
+/* A place in an image, or its length. */
+static size_t place(const struct line *line, size_t word)
 {
     if (line->words[word] == NULL)
         give_up("a line of the script is too short");
-    return (uint32_t)strtoul(line->words[word], NULL, 10);
+    return strtoull(line->words[word], NULL, 10);
+}
+
+static uint32_t number(const struct line *line, size_t word)
+{
+    return (uint32_t)place(line, word);
 }
 
 /* The bytes of a word in hexadecimal. */
@@ -511,9 +528,9 @@ static void run_with_bytes(const struct line *line, const char *command)
     if (strcmp(command, "pull") == 0)
         run_pull(s, number(line, 2), number(line, 3), number(line, 4), number(line, 5));
     else if (strcmp(command, "put") == 0)
-        run_put(number(line, 1), &s);
+        run_put(place(line, 1), &s);
     else if (strcmp(command, "cut") == 0)
-        run_cut(number(line, 1), s, number(line, 3), number(line, 4));
+        run_cut(place(line, 1), s, number(line, 3), number(line, 4));
     else if (strcmp(command, "plant") == 0)
         run_plant(line->words[1], s, number(line, 3));
     else
@@ -628,23 +645,31 @@ static void test_names(void)
     }
 }
 
-/* Images without a superblock, or too short for one. */
+/* An image without a superblock, or that is too short for one or too long. */
+static void expect_no_image(struct slice name, size_t len)
+{
+    int shaped = len % BLOCK_SIZE == 0 && len >= 2 * BLOCK_SIZE && len <= MOST_BYTES;
+    uint32_t answer = shaped ? HARPTIMBER_NO_SUPERBLOCK : HARPTIMBER_OUT_OF_SHAPE;
+    sound = lend_zeros("image", len);
+    damaged = lend_zeros("image", len);
+    seal(&sound);
+    seal(&damaged);
+    run_pull(name, 0, answer, answer, answer);
+    expect_reports(damaged, 1, answer);
+    give_back(&sound);
+    give_back(&damaged);
+}
+
 static void test_zeros(void)
 {
     static const size_t lens[] = {0, 1, 4095, 4096, 4097, 8191, 8192, 8193, 12288};
-    static const uint8_t zeros[12288];
+    static const size_t most[] = {MOST_BYTES - BLOCK_SIZE, MOST_BYTES - 1, MOST_BYTES, MOST_BYTES + 1,
+                                  MOST_BYTES + BLOCK_SIZE};
     struct slice name = copied("name", (const uint8_t *)"road.bin", 8);
-    for (size_t i = 0; i < COUNT_OF(lens); i++) {
-        size_t len = lens[i];
-        sound = copied("image", zeros, len);
-        damaged = copied("image", zeros, len);
-        int shaped = len % BLOCK_SIZE == 0 && len >= 2 * BLOCK_SIZE;
-        uint32_t answer = shaped ? HARPTIMBER_NO_SUPERBLOCK : HARPTIMBER_OUT_OF_SHAPE;
-        run_pull(name, 0, answer, answer, answer);
-        expect_reports(damaged, 1, answer);
-        give_back(&sound);
-        give_back(&damaged);
-    }
+    for (size_t i = 0; i < COUNT_OF(lens); i++)
+        expect_no_image(name, lens[i]);
+    for (size_t i = 0; placement != ON_HEAP && i < COUNT_OF(most); i++)
+        expect_no_image(name, most[i]);
     give_back(&name);
 }
 

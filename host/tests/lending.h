@@ -7,6 +7,11 @@
 #ifndef LENDING_H
 #define LENDING_H
 
+#ifndef _GNU_SOURCE
+#error "SEEK_DATA needs _GNU_SOURCE before any header"
+#endif
+
+#include <errno.h>
 #include <setjmp.h>
 #include <signal.h>
 #include <stdint.h>
@@ -48,14 +53,52 @@ static inline struct slice lend(const char *name, size_t len)
     size_t page = (size_t)sysconf(_SC_PAGESIZE);
     size_t inside = (len + page - 1) / page * page;
     s.mapping_len = inside + 2 * page;
-    s.mapping = mmap(NULL, s.mapping_len, PROT_NONE, MAP_PRIVATE | MAP_ANONYMOUS, -1, 0);
+    /* Pages that aren't written take no memory, so that a slice may have 16 GiB. */
+    s.mapping = mmap(NULL, s.mapping_len, PROT_NONE, MAP_PRIVATE | MAP_ANONYMOUS | MAP_NORESERVE, -1, 0);
     if (s.mapping == MAP_FAILED || mprotect(s.mapping + page, inside, PROT_READ | PROT_WRITE) != 0)
         give_up("no memory between guard pages");
     s.bytes = s.mapping + page + (placement == BEFORE_GUARD ? inside - len : 0);
     return s;
 }
 
-/* The same with these bytes. */
+/* A slice of zeros, also on the heap. */
+static inline struct slice lend_zeros(const char *name, size_t len)
+{
+    struct slice s = lend(name, len);
+    if (placement == ON_HEAP)
+        memset(s.bytes, 0, len);
+    return s;
+}
+
+/* Reads the part of a file from `at` to before `end` to the same place of a slice. */
+static inline void read_part(const struct slice *s, int file, size_t at, size_t end)
+{
+    while (at < end) {
+        ssize_t got = pread(file, s->bytes + at, end - at, (off_t)at);
+        if (got <= 0)
+            give_up("a file can't be read");
+        at += (size_t)got;
+    }
+}
+
+/* A slice with a file's first bytes. What is a hole in the file isn't read, and takes no memory. */
+static inline struct slice lend_file(const char *name, int file, size_t len)
+{
+    struct slice s = lend_zeros(name, len);
+    off_t at = 0;
+    while ((at = lseek(file, at, SEEK_DATA)) >= 0 && (size_t)at < len) {
+        off_t end = lseek(file, at, SEEK_HOLE);
+        if (end < 0)
+            give_up("the end of a file's data isn't found");
+        read_part(&s, file, (size_t)at, (size_t)end < len ? (size_t)end : len);
+        at = end;
+    }
+    if (at < 0 && errno != ENXIO) /* which is: no data any more */
+        give_up("a file's data isn't found");
+    return s;
+}
+
+/* A slice with these bytes. */
 static inline struct slice lend_copy(const char *name, const uint8_t *from, size_t len)
 {
     struct slice s = lend(name, len);

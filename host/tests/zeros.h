@@ -3,7 +3,7 @@
 #define ZEROS_H
 
 #include <stdint.h>
-#include <stdlib.h>
+#include <sys/mman.h>
 
 #include "check.h"
 #include "harptimber.h"
@@ -11,25 +11,39 @@
 /* Expects the first `len` zeros to be answered so. */
 typedef void expect_zeros(const uint8_t *zeros, size_t len, uint32_t answer);
 
-/* Tries lengths on both sides of each bound. Returns the status to end with. */
+/* Lengths around each bound, in blocks. 262,144 were the most that were read before; 1,048,576 are 2^32 bytes. */
+static const struct length {
+    size_t blocks;
+    uint32_t answer;
+} lengths[] = {
+    {0, HARPTIMBER_OUT_OF_SHAPE},         {1, HARPTIMBER_OUT_OF_SHAPE},
+    {2, HARPTIMBER_NO_SUPERBLOCK},        {262144, HARPTIMBER_NO_SUPERBLOCK},
+    {262145, HARPTIMBER_NO_SUPERBLOCK},   {1048575, HARPTIMBER_NO_SUPERBLOCK},
+    {1048576, HARPTIMBER_NO_SUPERBLOCK},  {1048577, HARPTIMBER_NO_SUPERBLOCK},
+    {4194303, HARPTIMBER_NO_SUPERBLOCK},  {4194304, HARPTIMBER_NO_SUPERBLOCK},
+    {4194305, HARPTIMBER_OUT_OF_SHAPE},   {4194306, HARPTIMBER_OUT_OF_SHAPE},
+};
+
+/* Tries whole lengths on both sides of each bound, and a byte less and more. Returns the status to end with. */
 static inline int refuse_zeros(expect_zeros *expect)
 {
-    const size_t block = HARPTIMBER_BLOCK_BYTES, most = HARPTIMBER_CARD_BLOCKS_MOST;
-    /* Memory that is never touched costs nothing, so that this may be a gigabyte. */
-    uint8_t *zeros = calloc(most + 1, block);
-    if (zeros == NULL) {
+    const size_t count = sizeof lengths / sizeof *lengths, block = HARPTIMBER_BLOCK_BYTES;
+    const size_t longest = (lengths[count - 1].blocks + 1) * block;
+    /* Only addresses: pages that are read and never written take no memory. */
+    uint8_t *zeros = mmap(NULL, longest, PROT_READ, MAP_PRIVATE | MAP_ANONYMOUS | MAP_NORESERVE, -1, 0);
+    if (zeros == MAP_FAILED) {
         fails(0);
-        printf("FAILED to get memory for an image\n");
+        printf("FAILED to get addresses for an image\n");
         return finish();
     }
-    expect(zeros, 0, HARPTIMBER_OUT_OF_SHAPE);
-    expect(zeros, block, HARPTIMBER_OUT_OF_SHAPE);
-    expect(zeros, 2 * block - 1, HARPTIMBER_OUT_OF_SHAPE);
-    expect(zeros, 2 * block, HARPTIMBER_NO_SUPERBLOCK);
-    expect(zeros, 2 * block + 1, HARPTIMBER_OUT_OF_SHAPE);
-    expect(zeros, most * block, HARPTIMBER_NO_SUPERBLOCK);
-    expect(zeros, (most + 1) * block, HARPTIMBER_OUT_OF_SHAPE);
-    free(zeros);
+    for (size_t i = 0; i < count; i++) {
+        size_t len = lengths[i].blocks * block;
+        expect(zeros, len, lengths[i].answer);
+        expect(zeros, len + 1, HARPTIMBER_OUT_OF_SHAPE);
+        if (len > 0)
+            expect(zeros, len - 1, HARPTIMBER_OUT_OF_SHAPE);
+    }
+    munmap(zeros, longest);
     return finish();
 }
 

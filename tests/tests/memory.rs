@@ -14,7 +14,7 @@ use harptimber_tests::cards::knobs::{Knobs, Pack};
 use harptimber_tests::cards::layout::dentry::{NAME_LEN, NR_DENTRY_IN_BLOCK};
 use harptimber_tests::cards::layout::inode::{ADDRESSES, I_MODE};
 use harptimber_tests::cards::layout::sit::SitEntry;
-use harptimber_tests::cards::layout::BLOCK_SIZE;
+use harptimber_tests::cards::layout::{BLOCK_SIZE, SEGMENT_BLOCKS};
 use harptimber_tests::cards::random::pick;
 use harptimber_tests::cards::random_files::{any_target, random_files, RandomFiles};
 use harptimber_tests::cards::random_segments::random_segments;
@@ -86,7 +86,21 @@ enum Last {
 
 impl Tight {
     fn new() -> Tight {
-        let mut card = Card::new(Knobs::sound(), Random::new(1));
+        Tight::on(Card::new(Knobs::sound(), Random::new(1)))
+    }
+
+    /// A card of the most blocks, all of it in its last segment.
+    fn largest() -> Tight {
+        let knobs = Knobs::largest(2);
+        let end = knobs.areas().main_end;
+        let free = (end - SEGMENT_BLOCKS..end - 1).collect();
+        let tight = Tight::on(Card::within(knobs, Random::new(1), free));
+        assert_eq!(tight.last_block(), 4_194_303);
+        assert_eq!(tight.card.image.bytes().len(), 16 << 30);
+        tight
+    }
+
+    fn on(mut card: Card) -> Tight {
         card.add_root(0, 1);
         let ino = card.add_file(0, (u64::from(ADDRESSES) + 1) * BLOCK_SIZE as u64);
         card.add_block(ino, ADDRESSES);
@@ -204,8 +218,7 @@ impl Tight {
 /// The slices of a pull, each of which is once shorter than the call is told.
 const PLANTS: [&str; 5] = ["name", "block", "nodes", "blocks", "image"];
 
-fn tight_card(script: &mut Script) {
-    let mut tight = Tight::new();
+fn tight_card(script: &mut Script, mut tight: Tight) {
     tight.pulls(script);
     tight.slots(script);
     tight.no_blocks(script);
@@ -278,9 +291,11 @@ fn every_answer() -> Vec<u32> {
 fn guard_pages() {
     let mut script = Script::new();
     let mut random = Random::new(1);
-    tight_card(&mut script);
-    for slice in PLANTS {
-        script.plant(slice, NAME, ADDRESSES);
+    for tight in [Tight::largest(), Tight::new()] {
+        tight_card(&mut script, tight);
+        for slice in PLANTS {
+            script.plant(slice, NAME, ADDRESSES);
+        }
     }
     for _ in 0..6 {
         damage_files(&mut script, &mut random, 150);
@@ -298,7 +313,7 @@ fn guard_pages() {
 fn valgrind() {
     let mut script = Script::new();
     let mut random = Random::new(2);
-    tight_card(&mut script);
+    tight_card(&mut script, Tight::new());
     for _ in 0..3 {
         damage_files(&mut script, &mut random, 100);
     }

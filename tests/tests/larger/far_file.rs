@@ -1,6 +1,6 @@
 //! A card of the most blocks with a file at its very end: each node, directory block and data block is there.
 
-use std::collections::BTreeMap;
+use std::collections::{BTreeMap, BTreeSet};
 
 use harptimber_tests::cards::card::{Card, Passage, ROOT};
 use harptimber_tests::cards::directory::{in_slot, Dentry};
@@ -21,7 +21,7 @@ const NAT_SEGMENTS: u32 = 118;
 /// Blocks in the inode, behind both direct nodes, both indirect ones and the double one, of 923 addresses.
 pub const DATA: [u32; 6] = [0, 923, 2958, 2959, 1_039_283, 2_075_607];
 /// Holes in the inode and in nodes beside these blocks.
-const HOLES: [u32; 3] = [1, 924, 2960];
+pub const HOLES: [u32; 3] = [1, 924, 2960];
 /// A hole because there is no node for it. It is the file's last block, of so many bytes.
 pub const HOLE_AT_END: (u32, usize) = (3_000_000, 4000);
 pub const PAST: u32 = HOLE_AT_END.0 + 1;
@@ -105,15 +105,12 @@ impl Far {
     }
 
     /// All that the file and its directory have.
-    pub fn used(&mut self) -> Vec<u32> {
+    pub fn used(&mut self) -> BTreeSet<u32> {
         let passages = self.ways().into_values().flatten();
         let nodes = passages.map(|passage| passage.node.block);
         let directory = [self.scene.root_block(), self.scene.linked.block];
-        let mut used: Vec<u32> = nodes.chain(directory).collect();
-        used.extend(self.data.values());
-        used.sort();
-        used.dedup();
-        used
+        let data = self.data.values().copied();
+        nodes.chain(directory).chain(data).collect()
     }
 }
 

@@ -13,7 +13,7 @@ use harptimber_tests::cards::layout::BLOCK_SIZE;
 use harptimber_tests::cards::one_file::NAME;
 use harptimber_tests::trial::Random;
 
-use crate::far_file::{Far, DATA, HOLE_AT_END, LAST_BLOCK, MISSING, PAST, USED};
+use crate::far_file::{Far, DATA, HOLES, HOLE_AT_END, LAST_BLOCK, MISSING, PAST, USED};
 
 /// A card with decoys, and where they are.
 fn with_decoys(far: &mut Far) -> BTreeSet<u32> {
@@ -68,7 +68,7 @@ fn pulls_up_to_the_last_block() {
 
 /// What pulls of each kind give.
 fn results(image: &Image) -> Vec<Outcome> {
-    let of_file = DATA.into_iter().chain([1, 924, 2960, PAST]);
+    let of_file = DATA.into_iter().chain(HOLES).chain([PAST]);
     let calls = of_file.map(|index| (NAME, index)).chain([(MISSING, 0)]);
     let result = |(name, index)| {
         let call = Call::new(image, name, index);

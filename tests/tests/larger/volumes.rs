@@ -1,5 +1,5 @@
-//! Volumes that start far out on a card: also packs, tables and journals are beyond byte 2^32. Where a reader would look
-//! that counts bytes in fewer bits there is a whole other volume.
+//! Volumes that start far out on a card: packs, tables and journals too are beyond byte 2^32. Where a reader looks that
+//! counts bytes in fewer bits there is a whole other volume.
 
 use harptimber_tests::calls::compares::{changed, Compares, Kept, SAME};
 use harptimber_tests::calls::lookups::{found, Lookups};

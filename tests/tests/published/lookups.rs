@@ -137,16 +137,15 @@ fn formatted_with_large_nat_map() {
 }
 
 /// sload.f2fs leaves two packs with the same version: the first, with plain summaries, is right.
-#[test]
-fn filled() {
+fn expect_filled(name: &'static str, megabytes: usize, options: &str) -> Image {
     const FILES: usize = 600;
-    let mut lookups = Lookups::new("sload");
+    let mut lookups = Lookups::new(name);
     let file = |n: usize| {
         let name = format!("file {n}").into_bytes();
         (name, vec![n as u8; 1 + n * 20])
     };
     let files: Vec<_> = (0..FILES).map(file).collect();
-    let image = filled_with(100, "", &files);
+    let image = filled_with(megabytes, options, &files);
     expect_opened(&mut lookups, &image);
     let nodes = expect_nodes(&mut lookups, &image);
     lookups.finish(2 * 511 + 2000 + 5 + 1000 + 601, &[0, 9]);
@@ -154,6 +153,19 @@ fn filled() {
     assert_eq!(nodes, FILES + 1, "nodes of {image:?}");
     let packs = [0, 1].map(|which| image.get(image.first_block(which), checkpoint::CHECKPOINT_VER));
     assert_eq!(packs[0], packs[1], "versions that sload.f2fs writes");
+    image
+}
+
+#[test]
+fn filled() {
+    expect_filled("sload", 100, "");
+}
+
+/// With -a the nodes are at the card's end.
+#[test]
+fn filled_16_gib() {
+    let image = expect_filled("sload, 16 GiB", LARGEST, "-a 1");
+    assert!(node_lookup(image.bytes(), 600).address > 4_190_000);
 }
 
 #[test]

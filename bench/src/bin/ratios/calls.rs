@@ -96,7 +96,7 @@ fn lookup(cards: &[Card], agreed: &mut Agreed) -> Grid {
     by_card(OFTEN, cards, |card| {
         let [nodes, _] = rested_on(card);
         let inode = *nodes.last().expect("an inode");
-        let what = format!("a lookup on {} MB", card.megabytes);
+        let what = format!("a lookup on {}", card.size());
         lookups(card.image, inode, &what, agreed)
     })
 }
@@ -148,7 +148,7 @@ fn compare(cards: &[Card], agreed: &mut Agreed) -> Grid {
         };
         let memcmp = move || memcmp(kept, fresh, &listed);
         let same = (archive(), reference(), memcmp()) == (15, 15, true);
-        agreed.see(same, &format!("a compare on {} MB", card.megabytes));
+        agreed.see(same, &format!("a compare on {}", card.size()));
         vec![contender(archive), contender(reference), contender(memcmp)]
     })
 }
@@ -156,7 +156,7 @@ fn compare(cards: &[Card], agreed: &mut Agreed) -> Grid {
 /// A report of all main segments.
 fn report(cards: &[Card], agreed: &mut Agreed) -> Grid {
     by_card(LONGER, cards, |card| {
-        let what = format!("a segment report on {} MB", card.megabytes);
+        let what = format!("a segment report on {}", card.size());
         segments::sides(card.image, &what, agreed)
     })
 }

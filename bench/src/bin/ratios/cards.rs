@@ -2,14 +2,16 @@
 
 use harptimber_bench::agreed::Agreed;
 use harptimber_bench::pulls::{self, Lent, Pull, Pulled, BLOCK_SIZE};
+use harptimber_tests::cards::sparse::Sparse;
 use harptimber_tests::system::mapped;
-use harptimber_tests::tools::published::{file_with, File, Scratch};
+use harptimber_tests::tools::published::{file_with, File, Scratch, LARGEST};
 use harptimber_tests::trial::Random;
-use std::process::Command;
+use std::fs;
 
 /// By itself mkfs.f2fs holds back so much of 64 MB that sload.f2fs gets no file of some MB onto it.
 pub const OPTIONS: &str = "-o 70";
-const MEGABYTES: [usize; 3] = [64, 300, 1024];
+/// 64 MB, 1 GiB and, as large as a card may be, 16 GiB.
+const MEGABYTES: [usize; 3] = [64, 1024, LARGEST];
 
 /// A file that every card has: blocks in its inode and behind both of its direct nodes.
 pub const ROAD: &str = "road.bin";
@@ -39,7 +41,7 @@ fn archive(image: &[u8], name: &[u8], index: u32, lent: &mut Lent) -> Pulled {
 }
 
 pub struct Card {
-    pub megabytes: usize,
+    megabytes: usize,
     /// The image file, and the files that it was filled with.
     pub scratch: Scratch,
     pub image: &'static [u8],
@@ -52,9 +54,8 @@ impl Card {
         let scratch = file_with(megabytes, OPTIONS, files);
         let path = scratch.image_path();
         let copy = path.with_file_name("copy");
-        let mut command = Command::new("cp");
-        command.arg("--sparse=always").args([&path, &copy]);
-        assert!(command.status().is_ok_and(|status| status.success()));
+        let file = fs::File::open(&path).expect("a card");
+        Sparse::read(&file).save(&copy);
         Card {
             megabytes,
             scratch,
@@ -63,12 +64,19 @@ impl Card {
         }
     }
 
+    pub fn size(&self) -> String {
+        match (self.megabytes / 1024, self.megabytes % 1024) {
+            (gigabytes @ 1.., 0) => format!("{gigabytes} GiB"),
+            _ => format!("{} MB", self.megabytes),
+        }
+    }
+
     /// Both sides have to give a file's very bytes.
     fn check(&self, (name, bytes): &File, agreed: &mut Agreed) {
         for (side, pull) in SIDES.into_iter().zip(PULLS) {
             let mut pulled: Vec<u8> = Vec::with_capacity(bytes.len());
             let ended = pulls::whole(pull, self.image, name, |part| pulled.extend(part));
-            let what = format!("a whole file by {side} on {} MB", self.megabytes);
+            let what = format!("a whole file by {side} on {}", self.size());
             agreed.see(ended == 3 && pulled == *bytes, &what);
         }
     }

@@ -11,6 +11,7 @@ use calls::{Calls, MEMCMP, SAME_BLOCK};
 use cards::{Card, ARCHIVE, OPTIONS, REFERENCE, WITHOUT_SURVEY};
 use harptimber_bench::agreed::Agreed;
 use harptimber_bench::table::Table;
+use harptimber_tests::sizes::SEGMENTS_MOST;
 use std::process::{Command, ExitCode};
 use whole::Whole;
 
@@ -60,7 +61,7 @@ Before it is timed, every side has given the same bytes and answers.",
 }
 
 fn card_table(cards: &[Card]) -> Table {
-    Table::new(cards.iter().map(|card| format!("{} MB", card.megabytes)))
+    Table::new(cards.iter().map(Card::size))
 }
 
 fn beside_reference(cards: &[Card], calls: &Calls) {
@@ -130,12 +131,12 @@ fn growth_with_segments(agreed: &mut Agreed) {
         let steepness = grid.steepness(side, &segments::SEGMENTS);
         table.late_row(&format!("{label}, a segment more"), 1, &steepness);
     }
-    table.print(
+    table.print(&format!(
         "5. Growth of a segment report, by main segments
    time as a part of reference/'s, then as a multiple of the same side's for the fewest segments, then
    for each segment more than those, as a multiple of the last column's: 1 throughout is a straight
-   line. 505 is the most that a card has room for",
-    );
+   line. {SEGMENTS_MOST} is the most that a card has room for"
+    ));
 }
 
 fn whole_files(columns: &[Whole], agreed: &mut Agreed) {
@@ -151,7 +152,7 @@ fn whole_files(columns: &[Whole], agreed: &mut Agreed) {
         table.row(label, &grid.parts(side, whole::GRUB));
     }
     table.print(
-        "6. Whole files beside GRUB's reader, by MB of the file/MB of the card
+        "6. Whole files beside GRUB's reader, by size of the file/size of the card
    time as a part of `grub-fstest CARD cat '(loop0)/NAME'`; lower is better, below 1 is faster.
    GRUB's time is a process from start to end with output to /dev/null, and so is each but the third",
     );

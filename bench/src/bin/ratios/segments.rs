@@ -7,16 +7,17 @@ use harptimber_tests::calls::segments::{reference_report, SegmentReport};
 use harptimber_tests::cards::knobs::Knobs;
 use harptimber_tests::cards::layout::sit::SitEntry;
 use harptimber_tests::cards::segments::SegmentCard;
+use harptimber_tests::sizes::SEGMENTS_MOST;
 use std::hint::black_box;
 
 /// Up to as many as a card has room for.
-pub const SEGMENTS: [u32; 7] = [8, 16, 32, 64, 128, 256, 505];
+pub const SEGMENTS: [u32; 7] = [8, 32, 128, 512, 2048, 4096, SEGMENTS_MOST];
 
 /// Both sides, in the order of the table.
 const REPORTS: [SegmentReport; 2] = [harptimber_tests::segment_report, reference_report];
 
-/// More than any card needs.
-const LIST_BYTES: usize = 4 * 512;
+/// Enough for any card.
+const LIST_BYTES: usize = 4 * SEGMENTS_MOST as usize;
 
 pub fn sides<'a>(image: &'a [u8], what: &str, agreed: &mut Agreed) -> Vec<Contender<'a>> {
     let [archive, reference] = REPORTS.map(|report| {

@@ -39,7 +39,7 @@ pub fn columns<'a>(cards: &'a [Card], files: &'a [File; 2]) -> Vec<Whole<'a>> {
 impl Whole<'_> {
     pub fn head(&self) -> String {
         let megabytes = self.file.1.len() as f64 / f64::from(1 << 20);
-        format!("{megabytes}/{}", self.card.megabytes)
+        format!("{megabytes} MB/{}", self.card.size())
     }
 
     fn name(&self) -> &str {
