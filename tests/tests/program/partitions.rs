@@ -530,7 +530,7 @@ fn cut_disks() {
     let json = run(info).expect(2).json();
     expect_head(&json, "info", 5);
     let counts = format!("each copy: a volume of {blocks} blocks, but the image has only 100");
-    assert!(json["reason"].text().starts_with(&counts), "in {json:?}");
+    assert_eq!(json["reason"].text(), counts, "in {json:?}");
     disk.set_len(start());
     let message = format!(
         "partition 2 starts at byte {}, behind the end of the file\n",
