@@ -90,7 +90,7 @@ fn paths() {
 /// How large a card may be, wherever people look for it.
 #[test]
 fn limit() {
-    let gib = u64::from(CARD_BLOCKS_MOST) * BLOCK_SIZE as u64 >> 30;
+    let gib = (u64::from(CARD_BLOCKS_MOST) * BLOCK_SIZE as u64) >> 30;
     let blocks = with_commas(CARD_BLOCKS_MOST as usize);
     for (page, words) in [
         ("README.md", format!("volumes of up to {gib} GiB")),

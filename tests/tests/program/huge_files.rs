@@ -126,8 +126,7 @@ fn progress() {
     for line in [cat, compare] {
         let ran = run_on_terminal(line, None).expect(2);
         let parts: Vec<&str> = ran.words().split('\r').collect();
-        let shown = parts.iter().any(|part| *part == "cut: 0 of 5,121 MiB");
-        assert!(shown, "of {ran:?}");
+        assert!(parts.contains(&"cut: 0 of 5,121 MiB"), "of {ran:?}");
         assert!(ran.words().contains("block 3000: "), "of {ran:?}");
     }
     let json: Json = run(&[&"compare", &"--json", &disk.path(), &new.path(), &"cut"])

@@ -1,7 +1,7 @@
 //! Cards of 16 GiB: what each command says of files at their very end, on a disk too, and what that takes.
 
 use std::fs::File;
-use std::path::PathBuf;
+use std::path::{Path, PathBuf};
 use std::process::Command;
 use std::sync::Arc;
 use std::thread;
@@ -176,7 +176,7 @@ fn each_command(
 }
 
 /// Without the image's path, and without where in it the card starts.
-fn without_place(ran: &Ran, path: &PathBuf, first: u64) -> Vec<u8> {
+fn without_place(ran: &Ran, path: &Path, first: u64) -> Vec<u8> {
     match std::str::from_utf8(&ran.out) {
         Ok(text) => text
             .replace(path.to_str().unwrap(), "PATH")
