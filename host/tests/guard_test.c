@@ -18,7 +18,7 @@
  *     unset                                  a compare with lists that were never written, for valgrind
  *
  * Bytes and names are in hexadecimal behind an x. `guard_test heap SCRIPT` has each slice on the heap
- * instead, for valgrind. Without a script, images are empty or too short.
+ * instead, for valgrind. Without a script, images are empty, too short or too long.
  */
 #define _GNU_SOURCE /* lending.h */
 #include <fcntl.h>

@@ -16,6 +16,7 @@ const PROT_WRITE: c_int = 2;
 const MAP_PRIVATE: c_int = 0x2;
 const MAP_ANONYMOUS: c_int = 0x20;
 const MAP_NORESERVE: c_int = 0x4000;
+const MADV_NOHUGEPAGE: c_int = 15;
 const SEEK_DATA: c_int = 3;
 const SEEK_HOLE: c_int = 4;
 /// There is no data any more.
@@ -43,6 +44,7 @@ extern "C" {
         offset: i64,
     ) -> *mut c_void;
     fn munmap(address: *mut c_void, len: usize) -> c_int;
+    fn madvise(address: *mut c_void, len: usize, advice: c_int) -> c_int;
     fn lseek(file: c_int, offset: i64, whence: c_int) -> i64;
     fn statvfs(path: *const c_char, disk: *mut Disk) -> c_int;
 }
@@ -70,6 +72,9 @@ impl Zeros {
         let flags = MAP_PRIVATE | MAP_ANONYMOUS | MAP_NORESERVE;
         let start = map(len, PROT_READ | PROT_WRITE, flags, None);
         let start = start.unwrap_or_else(|error| panic!("{len} bytes of zeros: {error}"));
+        // A byte is to cost a page and not the 2 MB around it. A system without such pages refuses this, which is fine.
+        // SAFETY: it changes no byte.
+        unsafe { madvise(start.cast(), len, MADV_NOHUGEPAGE) };
         Zeros { start, len }
     }
 }

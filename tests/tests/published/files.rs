@@ -113,11 +113,11 @@ fn long_file() {
     expect_files("published file behind an indirect node", "", files, 2939);
 }
 
-/// The largest card, with a file that reaches its first indirect node. With -a the nodes are at the card's end.
+/// The largest card, with a file that reaches its first indirect node. With -a the root directory is at the card's end.
 #[test]
 fn largest_card() {
     let mut compares = Compares::new("compare of 16 GiB with itself");
-    for (options, nodes_from) in [("", 29_184), ("-a 1", 4_190_000)] {
+    for (options, root_from) in [("", 29_184), ("-a 1", 4_190_000)] {
         let mut random = Random::new(6);
         let sizes = [
             10,
@@ -135,7 +135,7 @@ fn largest_card() {
         let name = files[3].0.clone();
         let title = "published files on 16 GiB";
         let image = expect_files_on(LARGEST, title, options, files, 2911 + 13);
-        assert!(node_lookup(image.bytes(), ROOT).address >= nodes_from);
+        assert!(node_lookup(image.bytes(), ROOT).address >= root_from);
         for index in [0, 872, 873, 1890, 1891, 2908, 2909, 2910, 2911] {
             compares.expect(&Kept::new(&image, &name, index), &image, SAME);
         }

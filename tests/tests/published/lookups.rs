@@ -87,7 +87,7 @@ fn formatted_1_gib() {
     assert_eq!(image.areas.block_count, 262_144);
 }
 
-/// The largest image in shape. With -a the root is at its end.
+/// The largest image in shape. With -a the root directory is at its end.
 #[test]
 fn formatted_16_gib() {
     for options in ["", "-a 1"] {
@@ -161,11 +161,11 @@ fn filled() {
     expect_filled("sload", 100, "");
 }
 
-/// With -a the nodes are at the card's end.
+/// With -a the root directory is at the card's end.
 #[test]
 fn filled_16_gib() {
     let image = expect_filled("sload, 16 GiB", LARGEST, "-a 1");
-    assert!(node_lookup(image.bytes(), 600).address > 4_190_000);
+    assert!(node_lookup(image.bytes(), ROOT).address > 4_190_000);
 }
 
 #[test]

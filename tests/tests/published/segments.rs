@@ -140,14 +140,14 @@ fn changed_after_sload() {
     reports.finish(1 + 2 * 9, &[0]);
 }
 
-/// Some segments of the largest card, among them the last. With -a the nodes are at its end.
+/// Some segments of the largest card, among them the last. With -a the root directory is at its end.
 #[test]
 fn changed_on_the_largest_card() {
     let mut reports = Reports::new("segment report of 16 GiB after a change");
     let mut card = SegmentCard::read(filled_with(LARGEST, "-a 1", &files(6, 20)));
     let ones = expect_sound(&mut reports, &card.image);
     let segments = card.sit.main_segments;
-    assert!(segments > 8_000 && card.sit.main_segments.div_ceil(55) == 148);
+    assert_eq!(segments.div_ceil(55), 148);
     for segno in [505, 4_000, segments - 4, segments - 1] {
         expect_named(&mut reports, &mut card, segno, ones);
     }
