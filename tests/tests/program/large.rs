@@ -388,9 +388,9 @@ fn published_cards() {
     assert!(ran.words().starts_with(line), "of {ran:?}");
 }
 
-/// By -a 1 nodes are put at the card's end.
+/// By -a 1 the root directory is put at the card's end.
 #[test]
-fn published_card_with_far_nodes() {
+fn published_card_with_a_far_directory() {
     let files = published_files(7);
     let card = OnDisk::new(filled_with(LARGEST, "-a 1", &files));
     expect_published(&card, &files);
