@@ -59,9 +59,9 @@ enum {
     HARPTIMBER_BLOCKS_BYTES = 4 * HARPTIMBER_BLOCKS_MOST,
     HARPTIMBER_SEGMENT_BLOCKS = 512,
     /*
-     * The most main segments that a card has, 8,185, and the bytes to lend for a list of all of them. Before
-     * the main area lie at least the two copies of the superblock, a block each, and two segments each of
-     * checkpoint, SIT and NAT.
+     * The most main segments that a card has, 8,185, and the bytes to lend for a list of all of them, 32,740:
+     * on a small stack that is much. Before the main area lie at least the two copies of the superblock, a
+     * block each, and two segments each of checkpoint, SIT and NAT.
      */
     HARPTIMBER_SEGMENTS_MOST = (HARPTIMBER_CARD_BLOCKS_MOST - 2) / HARPTIMBER_SEGMENT_BLOCKS - 6,
     HARPTIMBER_SEGMENTS_BYTES = 4 * HARPTIMBER_SEGMENTS_MOST

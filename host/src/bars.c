@@ -42,7 +42,7 @@ static void show_bar(FILE *out, int height, bool utf8)
         fputc(" .:-=+*%#"[height], out);
 }
 
-/* How high the bar of segments `first` to `end` - 1 is. */
+/* How high the bar of segments `first` to `end` - 1 is. A card's blocks, even eight times as many, are a number of 32 bits. */
 static int height_of(const struct sit *sit, uint32_t first, uint32_t end)
 {
     uint32_t valid = 0, all = (end - first) * DISK_SEGMENT_BLOCKS;

@@ -141,6 +141,11 @@ void card_close(struct card *card)
     free(card->lost);
 }
 
+uint64_t card_offset(const struct card *card)
+{
+    return (uint64_t)(card->bytes - card->map);
+}
+
 static bool same_time(struct timespec one, struct timespec other)
 {
     return one.tv_sec == other.tv_sec && one.tv_nsec == other.tv_nsec;

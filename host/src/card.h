@@ -38,6 +38,9 @@ enum status card_open(struct card *card, const struct request *request, const ch
 
 void card_close(struct card *card);
 
+/* How many bytes of the file lie before the card. */
+uint64_t card_offset(const struct card *card);
+
 /*
  * Whether an answer still stands: the library's promises hold for bytes that nobody writes meanwhile.
  * Says so if the image was changed since it was mapped, by its length and times: a writer can put the

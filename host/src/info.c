@@ -240,7 +240,7 @@ static void info_json(const struct info *info)
     if (info->reason != NULL)
         json_string(&json, "reason", info->reason);
     json_string(&json, "image", info->card->path);
-    json_number(&json, "offset", (uint64_t)(info->card->bytes - info->card->map));
+    json_number(&json, "offset", card_offset(info->card));
     json_number(&json, "bytes", info->card->len);
     if (info->superblock != NULL)
         json_volume(&json, info);

@@ -19,7 +19,9 @@ struct listing {
     char *problems[MOST_PROBLEMS]; /* why names may be missing, in plain text */
     size_t problem_count;
     bool stopped;
-    uint8_t *seen; /* a bit for each of the card's blocks that was read as one of entries */
+    /* A bit for each of the card's blocks: those that were read as blocks of entries. Of its 512 KiB on the largest card, only
+     * what has such a bit is ever touched. */
+    uint8_t *seen;
 };
 
 /* Reads the root directory of a card that opens. Returns false, with a message, if there is no memory for it. */

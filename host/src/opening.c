@@ -87,11 +87,14 @@ static bool ends_pass(const uint8_t *copy, uint64_t image_blocks, char *why)
     if (segments_end > blocks)
         return because(why, "block_count is %" PRIu64 ", but the segments of segment_count end at %" PRIu64, blocks,
                        segments_end);
-    char counted[NUMBER_ROOM], there[NUMBER_ROOM];
-    if (blocks > image_blocks)
-        return because(why, "a volume of %s blocks, but the image has only %s", number_text(counted, blocks),
-                       number_text(there, image_blocks));
-    return true;
+    char counted[NUMBER_ROOM], room[NUMBER_ROOM];
+    if (blocks <= image_blocks)
+        return true;
+    if (blocks > HARPTIMBER_CARD_BLOCKS_MOST)
+        return because(why, "a volume of %s blocks; at most %s are read", number_text(counted, blocks),
+                       number_text(room, HARPTIMBER_CARD_BLOCKS_MOST));
+    return because(why, "a volume of %s blocks, but the image has only %s", number_text(counted, blocks),
+                   number_text(room, image_blocks));
 }
 
 static void read_copy(struct opening_copy *copy, const struct card *card, uint32_t number)

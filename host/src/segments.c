@@ -14,7 +14,7 @@
 
 /* All that is said, read before any of it is. */
 struct report {
-    const struct card *card;
+    struct card card;
     struct harptimber_segments told; /* by the library, with its list */
     uint8_t list[HARPTIMBER_SEGMENTS_BYTES];
     char *reason; /* why it was refused, or null */
@@ -51,7 +51,7 @@ static char *why_refused(uint32_t answer, const struct card *card, const struct 
 
 static void read_report(struct report *report)
 {
-    const struct card *card = report->card;
+    const struct card *card = &report->card;
     struct opening opening;
     report->told = harptimber_segment_report(card->bytes, card->len, report->list, sizeof report->list);
     opening_read(&opening, card);
@@ -142,7 +142,7 @@ static void words_valid(const struct report *report)
 static void show_words(const struct report *report)
 {
     uint32_t answer = report->told.answer, count = report->told.count;
-    show(stdout, report->card->path);
+    show(stdout, report->card.path);
     printf(": ");
     show_with_reason(stdout, answer, card_meaning_of(answer), report->reason);
     if (answer != HARPTIMBER_DATA) {
@@ -186,7 +186,7 @@ static void show_json(const struct report *report)
     struct json json = json_begin(stdout, "segments", answer, card_meaning_of(answer));
     if (report->reason != NULL)
         json_string(&json, "reason", report->reason);
-    json_string(&json, "image", report->card->path);
+    json_string(&json, "image", report->card.path);
     json_number(&json, "count", report->told.count);
     json_number(&json, "valid_blocks", report->told.valid_blocks);
     if (report->has_sit) {
@@ -206,18 +206,17 @@ static enum status status_of(const struct harptimber_segments *told)
 
 enum status run_segments(const struct request *request)
 {
-    struct card card;
-    struct report report = {.card = &card};
-    enum status status = card_open(&card, request, request->words[0]);
+    static struct report report; /* large, so not on the stack */
+    enum status status = card_open(&report.card, request, request->words[0]);
     if (status != DONE)
         return status;
     read_report(&report);
     status = REFUSED;
-    if (card_is_settled(&card)) {
+    if (card_is_settled(&report.card)) {
         (request->json ? show_json : show_words)(&report);
         status = status_of(&report.told);
     }
     free(report.reason);
-    card_close(&card);
+    card_close(&report.card);
     return status;
 }

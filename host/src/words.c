@@ -37,9 +37,18 @@ bool length_is_in_shape(const struct card *card)
            blocks <= HARPTIMBER_CARD_BLOCKS_MOST;
 }
 
+/* A volume may be shorter than what it is in, and short enough; --offset leaves out what lies behind. */
+static void show_shorter(FILE *out, const struct card *card)
+{
+    const uint8_t *superblock = opening_superblock(card);
+    if (superblock != NULL && disk64(superblock + DISK_BLOCK_COUNT_AT) <= HARPTIMBER_CARD_BLOCKS_MOST)
+        fprintf(out, "; --offset %" PRIu64 " takes the volume, which is shorter", card_offset(card));
+}
+
+/* Says how long it is: the whole file, or what options chose of it. */
 static void show_bad_length(FILE *out, const struct card *card)
 {
-    fputs("the image has ", out);
+    fputs(card->len == card->file_len ? "the image has " : "the chosen part has ", out);
     if (card->len % BLOCK_SIZE != 0) {
         show_count(out, card->len, "byte");
         fputs(", which isn't a whole number of 4,096-byte blocks", out);
@@ -53,8 +62,20 @@ static void show_bad_length(FILE *out, const struct card *card)
             show_count(out, card->len, "byte");
             fputs(")", out);
         }
-        fputs("; at most 16 GiB is read", out);
+        fputs("; at most ", out);
+        show_size(out, HARPTIMBER_CARD_BYTES_MOST);
+        fputs(" is read", out);
+        show_shorter(out, card);
     }
+}
+
+/* Whether the card is a partition with an F2FS mark already: then there is no other to take. */
+static bool is_taken(const struct partitions *partitions, const struct card *card)
+{
+    for (uint32_t i = 0; i < partitions->count; i++)
+        if (partitions->list[i].marked && partitions->list[i].first == card_offset(card))
+            return true;
+    return false;
 }
 
 /* What the file is if it is a disk, and what to do then. Returns whether that was said. */
@@ -62,7 +83,7 @@ static bool show_disk(FILE *out, const struct card *card)
 {
     struct partitions partitions;
     partitions_read(&partitions, card->map, card->file_len);
-    if (partitions.table == NULL)
+    if (partitions.table == NULL || is_taken(&partitions, card))
         return false;
     fputs("; ", out);
     show_partitions(out, &partitions);

@@ -2,6 +2,8 @@
 #include "harptimber.h"
 #include "harptimber.h"
 
+static_assert(HARPTIMBER_CARD_BYTES_MOST == 17179869184, "16 GiB, which no int holds");
+
 uint32_t every_call_with_nothing()
 {
     uint8_t list[HARPTIMBER_NODES_BYTES] = {0}, segments[HARPTIMBER_SEGMENTS_BYTES] = {0};

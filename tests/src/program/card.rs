@@ -2,6 +2,7 @@
 //! pull after opening.
 
 use std::collections::BTreeMap;
+use std::ops::Range;
 use std::sync::Arc;
 
 use reference::hash::raw_hash;
@@ -11,12 +12,14 @@ use crate::calls::pulls::{reference_pull, Call, Outcome};
 use crate::cards::card::Card;
 use crate::cards::directory::Dentry;
 use crate::cards::image::Image;
-use crate::cards::knobs::Pack;
+use crate::cards::knobs::{Knobs, Pack};
 use crate::cards::layout::inode::{ADDRESSES, INLINE_DATA, I_MODE, S_IFDIR};
+use crate::cards::layout::nat::MAP_BYTES_PER_SEGMENT;
 use crate::cards::layout::sit::SitEntry;
-use crate::cards::layout::{footer, BLOCK_SIZE};
+use crate::cards::layout::{footer, BLOCK_SIZE, SEGMENT_BLOCKS};
 use crate::cards::on_disk::{OnDisk, Shared};
 use crate::cards::one_file::small_knobs;
+use crate::cards::random::shuffle;
 use crate::trial::Random;
 
 pub const ROAD: &[u8] = b"road.bin";
@@ -41,6 +44,9 @@ pub const NAMES: [&[u8]; 9] = [
     b"12",
     b"' ; exit 9 '",
 ];
+
+/// As many as mkfs.f2fs gives a card of 16 GiB.
+const FAR_NAT_SEGMENTS: u32 = 36;
 
 /// A file as it was put on a card.
 #[derive(Clone, Debug)]
@@ -89,11 +95,31 @@ pub struct ProgramCard {
 impl ProgramCard {
     pub fn build() -> ProgramCard {
         let mut random = Random::new(11);
-        let mut knobs = small_knobs(&mut random);
-        // What its segments are judged by isn't junk.
-        knobs.packs = knobs.packs.map(|pack| pack.map(Pack::with_sit));
+        let knobs = with_sit(small_knobs(&mut random));
         let segments = 0..knobs.main_segments;
-        let mut card = Card::new(knobs, random);
+        ProgramCard::on(Card::new(knobs, random), segments)
+    }
+
+    /// The same on a card of the most blocks: all that its files have is in its last two segments, with the root's inode in
+    /// the very last block.
+    pub fn far() -> ProgramCard {
+        let mut random = Random::new(12);
+        let pack = Pack {
+            nat_map: random.bytes((FAR_NAT_SEGMENTS * MAP_BYTES_PER_SEGMENT) as usize),
+            ..Pack::compact(1)
+        };
+        let knobs = with_sit(Knobs::largest(FAR_NAT_SEGMENTS).with_pack(0, pack));
+        let end = knobs.areas().main_end;
+        let mut blocks: Vec<u32> = (end - 2 * SEGMENT_BLOCKS..end - 1).collect();
+        shuffle(&mut random, &mut blocks);
+        // The last of the list is used first.
+        blocks.push(end - 1);
+        let segments = knobs.main_segments - 2..knobs.main_segments;
+        ProgramCard::on(Card::within(knobs, random, blocks), segments)
+    }
+
+    /// These segments have valid blocks.
+    fn on(mut card: Card, segments: Range<u32>) -> ProgramCard {
         card.add_root(0, 2);
         let files = readable(&mut card);
         let (outside, refused) = unreadable(&mut card);
@@ -141,6 +167,12 @@ impl ProgramCard {
     }
 }
 
+/// What its segments are judged by isn't junk.
+fn with_sit(knobs: Knobs) -> Knobs {
+    let packs = knobs.packs.map(|pack| pack.map(Pack::with_sit));
+    Knobs { packs, ..knobs }
+}
+
 /// The card that the tests of a file share.
 pub fn shared_card() -> Arc<ProgramCard> {
     static CARD: Shared<ProgramCard> = Shared::empty();
@@ -154,7 +186,7 @@ pub fn pulled(image: &Image, name: &[u8], index: u32) -> Outcome {
 }
 
 /// Adds a file with data at these indexes.
-fn put(card: &mut Card, name: &[u8], size: u64, data: &[u32]) -> Put {
+pub fn put(card: &mut Card, name: &[u8], size: u64, data: &[u32]) -> Put {
     let ino = card.add_file(0, size);
     let blocks = data
         .iter()

@@ -5,6 +5,7 @@ pub mod compare_words;
 pub mod compares;
 pub mod held;
 pub mod json;
+pub mod measured;
 pub mod page;
 pub mod segments;
 pub mod special_build;
@@ -127,11 +128,15 @@ pub fn run_on_terminal(words: Words, output: Option<&Path>) -> Ran {
 
 /// The same behind something for the shell, that sets the terminal's columns or a variable.
 pub fn run_on_terminal_after(setting: &str, words: Words, output: Option<&Path>) -> Ran {
+    on_terminal(setting, &command(words), output)
+}
+
+/// The same of any command.
+pub fn on_terminal(setting: &str, command: &Command, output: Option<&Path>) -> Ran {
     let quoted = |word: &OsStr| {
         let text = word.to_str().expect("words for the shell");
         format!("'{}'", text.replace('\'', "'\\''"))
     };
-    let command = command(words);
     let mut line = format!("{setting} {}", quoted(command.get_program()));
     for word in command.get_args() {
         line = format!("{line} {}", quoted(word));
@@ -143,6 +148,9 @@ pub fn run_on_terminal_after(setting: &str, words: Words, output: Option<&Path>)
     script
         .args(["-qec", &line, "/dev/null"])
         .env("SHELL", "/bin/sh");
+    for (variable, value) in command.get_envs() {
+        script.env(variable, value.expect("a variable that is set"));
+    }
     let mut ran = ran(&mut script, Stdio::piped());
     ran.out = without_returns(&ran.out);
     ran

@@ -12,15 +12,33 @@ use harptimber_tests::program::{host, ran};
 use harptimber_tests::sizes::{BLOCKS_MOST, CARD_BLOCKS_MOST, NODES_MOST, SEGMENTS_MOST};
 use harptimber_tests::tools::published::Scratch;
 
+/// The oldest forms of the languages that the header is written for, by what builds them.
+const C99: [&str; 2] = ["cc", "-std=c99"];
+const CPP11: [&str; 2] = ["g++", "-std=c++11"];
+
+const WARNINGS: [&str; 6] = [
+    "-Wall",
+    "-Wextra",
+    "-Werror",
+    "-Wpedantic",
+    "-Wconversion",
+    "-Wsign-conversion",
+];
+
 /// What a C program prints that has these statements.
 fn printed(statements: &str) -> String {
+    printed_by(C99, statements)
+}
+
+fn printed_by([compiler, language]: [&str; 2], statements: &str) -> String {
     let scratch = Scratch::new();
     let [source, program] = ["header.c", "header"].map(|name| scratch.path(name));
     let headers = "#include <stdio.h>\n#include \"harptimber.h\"\n";
     let text = format!("{headers}int main(void)\n{{\n{statements}\nreturn 0;\n}}\n");
     std::fs::write(&source, text).unwrap();
-    let mut compiler = Command::new("cc");
-    compiler.args(["-std=c99", "-Wall", "-Wextra", "-Werror", "-Wpedantic"]);
+    let kind = if language == CPP11[1] { "c++" } else { "c" };
+    let mut compiler = Command::new(compiler);
+    compiler.args(["-x", kind, language]).args(WARNINGS);
     compiler.arg("-I").arg(host().join("include"));
     ran(compiler.arg("-o").arg(&program).arg(source), Stdio::piped()).expect(0);
     let ran = ran(&mut Command::new(program), Stdio::piped()).expect(0);
@@ -42,6 +60,7 @@ fn sizes() {
         ("NODES_MOST", NODES_MOST as usize),
         ("BLOCKS_MOST", BLOCKS_MOST as usize),
         ("SEGMENTS_MOST", SEGMENTS_MOST as usize),
+        ("SEGMENTS_MOST", 8185),
         ("SEGMENTS_BYTES", 4 * SEGMENTS_MOST as usize),
         ("SEGMENT_BLOCKS", SEGMENT_BLOCKS as usize),
         ("CARD_BLOCKS_LEAST", 2),
@@ -50,6 +69,25 @@ fn sizes() {
     ] {
         let statement = format!("printf(\"%d\", HARPTIMBER_{name});");
         assert_eq!(printed(&statement), size.to_string(), "{name}");
+    }
+}
+
+/// The bytes of the largest card, which an int can't have: a constant of 64 bits without a sign, in C and in C++. It can be
+/// counted with like any other number, and initialises a number of its type, or a length, without a warning.
+#[test]
+fn card_bytes() {
+    let uses = "static const uint64_t most = HARPTIMBER_CARD_BYTES_MOST;
+        __typeof__(HARPTIMBER_CARD_BYTES_MOST) number = 3 * HARPTIMBER_CARD_BYTES_MOST / HARPTIMBER_CARD_BYTES_MOST;
+        const uint64_t *const same_type = &number;
+        size_t len = HARPTIMBER_CARD_BYTES_MOST;
+        len -= HARPTIMBER_CARD_BYTES_MOST - HARPTIMBER_BLOCK_BYTES;
+        switch (most) {
+        case HARPTIMBER_CARD_BYTES_MOST:
+            printf(\"%llu %lu %lu\", (unsigned long long)most, (unsigned long)*same_type, (unsigned long)len);
+        }";
+    for language in [C99, CPP11] {
+        let told = printed_by(language, uses);
+        assert_eq!(told, "17179869184 3 4096", "by {language:?}");
     }
 }
 

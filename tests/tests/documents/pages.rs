@@ -10,7 +10,11 @@ use harptimber_tests::cards::card::Card;
 use harptimber_tests::cards::directory::Dentry;
 use harptimber_tests::cards::image::Image;
 use harptimber_tests::cards::knobs::{Knobs, Pack};
+use harptimber_tests::cards::layout::BLOCK_SIZE;
+use harptimber_tests::program::card::{ProgramCard, ROAD};
+use harptimber_tests::program::page::with_commas;
 use harptimber_tests::running::ran;
+use harptimber_tests::sizes::CARD_BLOCKS_MOST;
 use harptimber_tests::tools::published::Scratch;
 use harptimber_tests::trial::Random;
 
@@ -81,6 +85,29 @@ fn paths() {
     }
     assert!(missing.is_empty(), "not there: {missing:#?}");
     assert!(found > 100, "{found} paths");
+}
+
+/// How large a card may be, wherever people look for it.
+#[test]
+fn limit() {
+    let gib = (u64::from(CARD_BLOCKS_MOST) * BLOCK_SIZE as u64) >> 30;
+    let blocks = with_commas(CARD_BLOCKS_MOST as usize);
+    for (page, words) in [
+        ("README.md", format!("volumes of up to {gib} GiB")),
+        ("docs/C-API.md", format!("at most {gib} GiB")),
+        ("docs/C-API.md", format!("{blocks} blocks at most")),
+        ("host/include/harptimber.h", format!("2 to {blocks} blocks")),
+        (
+            "host/include/harptimber.h",
+            format!("largest card, {gib} GiB"),
+        ),
+        ("host/harptimber.1", format!("volumes of up to {gib} GiB")),
+        ("host/harptimber.1", format!("but for at most {gib} GiB")),
+    ] {
+        // Lines may break anywhere.
+        let text = read(page).replace("\n * ", " ").replace('\n', " ");
+        assert!(text.contains(&words), "no '{words}' in {page}");
+    }
 }
 
 /// The indented lines of the README's part on C.
@@ -163,6 +190,18 @@ fn example_runs() {
         assert_eq!(ran.err.lines().count(), usize::from(status != 0), "{ran:?}");
     }
     ran(&mut Command::new(&program), Stdio::piped()).expect_message(3, &["usage: "]);
+}
+
+/// On a card of 16 GiB with the file at its end.
+#[test]
+fn example_runs_on_a_large_card() {
+    let folder = Scratch::new();
+    let program = build_example(&folder);
+    let card = ProgramCard::far();
+    let road = card.file(ROAD).block(&card.card.image, 0);
+    let image = card.disk.path();
+    let ran = ran(Command::new(program).args([&image; 2]), Stdio::piped()).expect(0);
+    assert!(ran.out == road, "output of {ran:?}");
 }
 
 /// The change that the README asks to try is a must-fail edit, so that it is refused in the gate too.

@@ -1,11 +1,12 @@
 //! `harptimber cat`: whole files, against the bytes that were put on the card.
 
 use std::fs;
+use std::path::PathBuf;
 use std::sync::Arc;
 
 use harptimber_tests::cards::layout::BLOCK_SIZE;
 use harptimber_tests::cards::on_disk::{OnDisk, Shared};
-use harptimber_tests::program::card::{shared_card, Put, OUTSIDE};
+use harptimber_tests::program::card::{shared_card, ProgramCard, Put, OUTSIDE};
 use harptimber_tests::program::json::Json;
 use harptimber_tests::program::page::{expect_head, expect_name, meaning, shown};
 use harptimber_tests::program::run;
@@ -68,12 +69,21 @@ fn published_files() {
 /// Holes, odd names and an empty file.
 #[test]
 fn built_files() {
-    let card = shared_card();
+    expect_built_files(&shared_card());
+}
+
+pub(crate) fn expect_built_files(card: &ProgramCard) {
     for file in &card.files {
-        let ran = run(&[&"cat", &"--", &card.disk.path(), &file.name]).expect(0);
-        assert_eq!(ran.err, "", "of {ran:?}");
-        expect_bytes(&file.name, &ran.out, &file.bytes(&card.card.image));
+        expect_built_file(card, &card.disk.path(), &file.name);
     }
+}
+
+/// A file of the card, which is at this path.
+pub(crate) fn expect_built_file(card: &ProgramCard, path: &PathBuf, name: &[u8]) {
+    let ran = run(&[&"cat", &"--", path, &name]).expect(0);
+    assert_eq!(ran.err, "", "of {ran:?}");
+    let bytes = card.file(name).bytes(&card.card.image);
+    expect_bytes(name, &ran.out, &bytes);
 }
 
 fn holes(file: &Put) -> u64 {

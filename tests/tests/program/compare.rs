@@ -1,6 +1,8 @@
 //! `harptimber compare` on images that open: one change at a time to the new one, against compares by the
 //! reference of every block.
 
+use std::collections::BTreeSet;
+
 use harptimber_tests::cards::directory::Dentry;
 use harptimber_tests::cards::image::Image;
 use harptimber_tests::cards::layout::inode::I_SIZE;
@@ -18,7 +20,7 @@ use harptimber_tests::tools::published::{filled_on, File};
 use harptimber_tests::trial::Random;
 
 /// A kept card and a new one, which are the same but for what a test changes.
-struct Cards {
+pub(crate) struct Cards {
     kept: ProgramCard,
     fresh: OnDisk,
     run: Box<dyn Fn(Words) -> Ran>,
@@ -26,7 +28,10 @@ struct Cards {
 
 impl Cards {
     fn new() -> Cards {
-        let kept = ProgramCard::build();
+        Cards::of(ProgramCard::build())
+    }
+
+    pub(crate) fn of(kept: ProgramCard) -> Cards {
         let fresh = OnDisk::new(kept.disk.image.clone());
         let run = Box::new(run);
         Cards { kept, fresh, run }
@@ -39,20 +44,20 @@ impl Cards {
     }
 
     fn undo(&mut self) {
-        let changed = self.differing();
+        let changed = self.changed_blocks();
         self.fresh.image.undo(0);
         self.fresh.write_blocks(&changed);
     }
 
     fn write(&self) {
-        self.fresh.write_blocks(&self.differing());
+        self.fresh.write_blocks(&self.changed_blocks());
     }
 
-    fn differing(&self) -> Vec<u32> {
-        let [kept, fresh] = [&self.kept.disk.image, &self.fresh.image];
-        let blocks = 0..(kept.bytes().len() / BLOCK_SIZE) as u32;
-        let differing = blocks.filter(|&block| kept.block(block) != fresh.block(block));
-        differing.collect()
+    fn changed_blocks(&self) -> Vec<u32> {
+        let changes = self.fresh.image.written();
+        let blocks = changes.map(|(place, _)| (place / BLOCK_SIZE) as u32);
+        let blocks: BTreeSet<u32> = blocks.collect();
+        blocks.into_iter().collect()
     }
 
     fn byte(&mut self, block: u32, at: usize) {
@@ -99,7 +104,10 @@ impl Cards {
 
 #[test]
 fn same() {
-    let cards = Cards::new();
+    expect_same(&Cards::new());
+}
+
+pub(crate) fn expect_same(cards: &Cards) {
     for name in [ROAD, LONG, b"4096", b"a hole", NAMES[0], NAMES[2], NAMES[5]] {
         assert_eq!(cards.expect(name), 0, "of {}", shown(name));
     }
@@ -133,7 +141,10 @@ fn published_cards() {
 /// One byte in each of some blocks; in the last one behind the file's end, which a pull reads too.
 #[test]
 fn data() {
-    let mut cards = Cards::new();
+    expect_data(&mut Cards::new());
+}
+
+pub(crate) fn expect_data(cards: &mut Cards) {
     let blocks = cards.kept.file(ROAD).blocks.clone();
     let sets: [&[u32]; 7] = [&[0], &[1], &[3], &[5], &[0, 1], &[0, 3], &[0, 1, 3, 5]];
     for set in sets {
@@ -165,7 +176,10 @@ fn behind_a_missing_block() {
 /// Data and a node behind the inode.
 #[test]
 fn behind_a_node() {
-    let mut cards = Cards::new();
+    expect_behind_a_node(&mut Cards::new());
+}
+
+pub(crate) fn expect_behind_a_node(cards: &mut Cards) {
     let long = cards.kept.file(LONG).clone();
     let node = cards.kept.card.node(long.ino, 1).block;
     for block in [long.blocks[&923], node] {
@@ -178,7 +192,10 @@ fn behind_a_node() {
 /// The inode moved to another block: kind 2, for each block of the file.
 #[test]
 fn table() {
-    let mut cards = Cards::new();
+    expect_table(&mut Cards::new());
+}
+
+pub(crate) fn expect_table(cards: &mut Cards) {
     let ino = cards.kept.file(ROAD).ino;
     let inode = cards.kept.card.inode_block(ino);
     let moved = cards.kept.card.free_block();
@@ -242,7 +259,10 @@ fn main_area() {
 /// the question's fault.
 #[test]
 fn refused_by_kept() {
-    let mut cards = Cards::new();
+    expect_refused_by_kept(&mut Cards::new());
+}
+
+pub(crate) fn expect_refused_by_kept(cards: &mut Cards) {
     let refused = cards.kept.refused.clone();
     for (name, index, answer) in &refused {
         let status = if *answer == 2 { 4 } else { 2 };
@@ -264,7 +284,10 @@ fn refused_by_kept() {
 /// A name that wasn't there and is, and the other way round.
 #[test]
 fn names() {
-    let mut cards = Cards::new();
+    expect_names(&mut Cards::new());
+}
+
+pub(crate) fn expect_names(cards: &mut Cards) {
     let (missing, ..) = cards.kept.refused[0].clone();
     let ino = cards.kept.file(ROAD).ino;
     let directory = cards.kept.card.directory[&0];

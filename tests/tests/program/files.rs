@@ -90,14 +90,32 @@ fn no_permission() {
     run_without_privilege(words).expect_message(2, &[&message]);
 }
 
-/// With less memory to be had than the image has bytes.
+/// With less address space to be had than the image has bytes, though it is no more than a card may have.
 #[test]
 fn too_big() {
     let scratch = Scratch::new();
     let image = scratch.path("too big.img");
-    File::create(&image).unwrap().set_len(1 << 30).unwrap();
-    let with_little = |words: Words| run_by_shell("ulimit -v 500000; exec \"$@\"", words);
+    File::create(&image).unwrap().set_len(16 << 30).unwrap();
+    let with_little = |words: Words| run_by_shell("ulimit -v 16000000; exec \"$@\"", words);
     expect_unreadable(&image, "is too big to map", with_little);
+}
+
+/// There is room for one of two large cards: it is the second that is named.
+#[test]
+fn too_big_together() {
+    let card = shared_card();
+    let [kept, new] = ["kept.img", "new.img"].map(|name| {
+        let path = card.disk.scratch.path(name);
+        card.card.image.save(&path);
+        let file = File::options().write(true).open(&path).unwrap();
+        file.set_len(16 << 30).unwrap();
+        path
+    });
+    let line: Words = &[&"compare", &kept, &new, &ROAD];
+    let [one, both] = [20_000_000, 40_000_000]
+        .map(|kib| run_by_shell(&format!("ulimit -v {kib}; exec \"$@\""), line));
+    one.expect_message(2, &["new.img: is too big to map\n"]);
+    both.expect(0);
 }
 
 /// Paths that JSON can't have as they are.

@@ -847,7 +847,7 @@ fn library_against_words() {
 fn long_card() {
     let disk = OnDisk::new(Image::new(&Knobs::sound()));
     let file = std::fs::File::options().write(true).open(disk.path());
-    file.unwrap().set_len((1 << 30) + 4096).unwrap();
+    file.unwrap().set_len((16 << 30) + 4096).unwrap();
     let json = run(&[&"info", &"--json", &disk.path()]).expect(2).json();
     expect_head(&json, "info", 4);
     expect_areas(&json, &Knobs::sound());

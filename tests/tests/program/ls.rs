@@ -249,10 +249,13 @@ fn names_and_sizes(card: &ProgramCard) -> Vec<(Vec<u8>, Option<u64>)> {
 /// Every answer that a pull of block 0 has, names of any bytes, and a malformed entry in a block of the second level.
 #[test]
 fn every_answer() {
-    let card = shared_card();
+    expect_every_answer(&shared_card());
+}
+
+pub(crate) fn expect_every_answer(card: &ProgramCard) {
     let path = card.disk.path();
     let json = listed(&run(&[&"ls", &"--json", &path]).expect(2), &path);
-    let expected = names_and_sizes(&card);
+    let expected = names_and_sizes(card);
     let names = json["names"].list();
     assert_eq!(names.len(), expected.len(), "names in {json:?}");
     let mut answers = Vec::new();

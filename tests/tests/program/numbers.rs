@@ -97,9 +97,12 @@ fn node_numbers(card: &ProgramCard) -> Vec<u32> {
 
 #[test]
 fn nodes() {
-    let card = shared_card();
+    expect_nodes(&shared_card());
+}
+
+pub(crate) fn expect_nodes(card: &ProgramCard) {
     let path = card.disk.path();
-    for number in node_numbers(&card) {
+    for number in node_numbers(card) {
         let entry = node_lookup(card.card.image.bytes(), number);
         let answer = entry.err().unwrap_or(0);
         let json = json_of("node", &[&path, &number], answer);

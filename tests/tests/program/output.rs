@@ -219,14 +219,14 @@ fn full_standard_output() {
 }
 
 /// A file as a block device. It is detached as soon as nobody has it open, however the test ends.
-struct Loop {
-    path: PathBuf,
+pub(crate) struct Loop {
+    pub(crate) path: PathBuf,
     _open: File,
 }
 
 impl Loop {
     /// None, with a word why, where nobody may attach one.
-    fn attach(file: &Path) -> Option<Loop> {
+    pub(crate) fn attach(file: &Path) -> Option<Loop> {
         let losetup = |options: &str, path: &Path| {
             let mut shell = Command::new("sh");
             shell.args(["-c", &format!("losetup {options} \"$1\""), "sh"]);

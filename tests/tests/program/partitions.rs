@@ -121,7 +121,7 @@ fn expect_hint(disk: &Disk, answer: u32, hint: &str) {
 }
 
 /// What a partition is must be what the card file is, by each command.
-fn expect_card(disk: &Disk, part: &[&str]) {
+fn expect_card(disk: &Disk, part: &[&str], first: u64) {
     let card = shared_card();
     let (alone, path) = (card.disk.path(), disk.path());
     let words: Vec<&dyn Word> = part.iter().map(|word| word as &dyn Word).collect();
@@ -138,6 +138,14 @@ fn expect_card(disk: &Disk, part: &[&str]) {
         assert_eq!(without_image(&here), without_image(&there));
         assert_eq!(here.status, there.status, "of {here:?}");
     }
+    expect_card_at(disk, part, first);
+}
+
+/// The same by commands that need one run each.
+fn expect_card_at(disk: &Disk, part: &[&str], first: u64) {
+    let card = shared_card();
+    let (alone, path) = (card.disk.path(), disk.path());
+    let words: Vec<&dyn Word> = part.iter().map(|word| word as &dyn Word).collect();
     let bytes = card.file(LONG).bytes(&card.card.image);
     let cat = run(&[&words[..], &[&"cat", &path, &LONG]].concat()).expect(0);
     assert!(cat.out == bytes, "bytes of {part:?}");
@@ -151,7 +159,7 @@ fn expect_card(disk: &Disk, part: &[&str]) {
     let info = run(&[&words[..], &[&"info", &"--json", &path]].concat())
         .expect(0)
         .json();
-    assert_eq!(info["offset"].number(), start());
+    assert_eq!(info["offset"].number(), first);
 }
 
 /// One with partitions of each place: primary, logical, and none that is the first.
@@ -199,19 +207,120 @@ fn mbr() {
 #[test]
 fn cards_of_an_mbr() {
     let (disk, _) = disk_with(EXTENDED[0]);
-    expect_card(&disk, &["--partition", "2"]);
+    expect_card(&disk, &["--partition", "2"], start());
     let offset = start().to_string();
-    expect_card(&disk, &["--offset", &offset]);
+    expect_card(&disk, &["--offset", &offset], start());
     // A logical one.
     let chain = START - 63;
     disk.put_mbr(0, &[entry(EXTENDED[1], chain, 90_000), EMPTY, EMPTY, EMPTY]);
     disk.put_mbr(chain.into(), &[entry(LINUX, 63, sectors()), EMPTY]);
-    expect_card(&disk, &["--partition=5"]);
+    expect_card(&disk, &["--partition=5"], start());
     for number in ["1", "2", "4", "6"] {
         let part = ["--partition", number];
         let hint =
             format!("no partition {number}; the file is a disk with partitions (MBR): 5 at byte ");
         refuse(&disk, &part, &hint);
+    }
+}
+
+/// Where a card lies on a disk of 40 GiB: just before and just behind 4 GiB, and further behind.
+const FAR_SECTORS: [u64; 3] = [(1 << 23) - 1, (1 << 23) + 1, (5 << 23) + 2051];
+
+/// Bytes of which a number of 32 bits doesn't tell the place.
+#[test]
+fn far_cards_of_an_mbr() {
+    for sector in FAR_SECTORS {
+        let (disk, first) = (Disk::new(40 << 30), sector * SECTOR);
+        disk.put_card(first, &card());
+        disk.put_mbr(0, &[EMPTY, EMPTY, entry(LINUX, sector as u32, sectors())]);
+        expect_table(
+            &disk,
+            "MBR",
+            4,
+            &[(3, first, u64::from(sectors()) * SECTOR, true)],
+        );
+        expect_card_at(&disk, &["--partition=3"], first);
+        expect_card_at(&disk, &["--offset", &first.to_string()], first);
+        // A logical one, by the second step of a chain.
+        let chain = sector as u32 - 100;
+        disk.put_mbr(0, &[EMPTY, EMPTY, entry(EXTENDED[1], chain, u32::MAX)]);
+        disk.put_mbr(chain.into(), &[EMPTY, entry(EXTENDED[0], 37, 9)]);
+        disk.put_mbr(u64::from(chain) + 37, &[entry(LINUX, 63, sectors())]);
+        expect_card_at(&disk, &["--partition=5"], first);
+    }
+}
+
+#[test]
+fn far_cards_of_a_gpt() {
+    for sector in FAR_SECTORS {
+        let (disk, first) = (Disk::new(40 << 30), sector * SECTOR);
+        disk.put_card(first, &card());
+        let whole = gpt_entry(128, sector, sectors().into());
+        disk.put_gpt(GptForm::USUAL, &[whole]);
+        expect_card_at(&disk, &["--partition=128"], first);
+        disk.spoil(SECTOR);
+        let put = (128, first, u64::from(sectors()) * SECTOR, true);
+        expect_table(&disk, "GPT, by its copy at the end", 4, &[put]);
+        expect_card_at(&disk, &["--partition=128"], first);
+    }
+}
+
+/// Why a part of a disk is refused, in JSON and in words.
+fn expect_reason(disk: &Disk, part: &str, answer: u32, reason: &str) {
+    let path = disk.path();
+    let lines: [Words; 5] = [
+        &[&"info", &path],
+        &[&"ls", &path],
+        &[&"segments", &path],
+        &[&"pull", &path, &ROAD, &"0"],
+        &[&"node", &path, &"3"],
+    ];
+    for line in lines {
+        let json = run(&[&[&part as &dyn Word, &"--json"], line].concat());
+        let json = json.expect(2).json();
+        assert_eq!(json["answer"].number(), u64::from(answer), "in {json:?}");
+        assert_eq!(json["reason"].text(), reason, "in {json:?}");
+        let ran = run(&[&[&part as &dyn Word], line].concat()).expect(2);
+        let end = format!(" (answer {answer}): {reason}\n");
+        assert!(ran.words().contains(&end), "no '{reason}' in {ran:?}");
+    }
+}
+
+/// Longer than a card may be. Nobody is told to take the partition that they took, or another where that has the mark.
+#[test]
+fn long_partitions() {
+    let most = (16 << 30) / SECTOR;
+    for sectors in [most, most + 7, most + 8, most + 16, (20 << 30) / SECTOR] {
+        let disk = Disk::new(48 << 30);
+        let card_at = entry(LINUX, START, sectors as u32);
+        let other = entry(LINUX, START + sectors as u32, sectors as u32);
+        disk.put_mbr(0, &[card_at, other]);
+        disk.put_card(start(), &card());
+        if sectors < most + 8 {
+            expect_card_at(&disk, &["--partition=1"], start());
+            continue;
+        }
+        let size = match sectors - most {
+            8 => "16 GiB (17,179,873,280 bytes)",
+            16 => "16 GiB (17,179,877,376 bytes)",
+            _ => "20 GiB",
+        };
+        let reason = format!("the chosen part has {size}; at most 16 GiB is read");
+        let shorter = "; --offset 1050112 takes the volume, which is shorter";
+        expect_reason(&disk, "--partition=1", 4, &format!("{reason}{shorter}"));
+        let behind = start() + sectors * SECTOR;
+        let hint = format!(
+            "; the file is a disk with partitions (MBR): 1 at byte {} with an F2FS mark, \
+             2 at byte {behind}; --partition 1 takes that one",
+            start()
+        );
+        expect_reason(&disk, "--partition=2", 4, &format!("{reason}{hint}"));
+        expect_card_at(&disk, &["--offset=1050112"], start());
+        // As a logical one.
+        let chain = START - 63;
+        disk.put_mbr(0, &[entry(EXTENDED[0], chain, u32::MAX), EMPTY]);
+        disk.put_mbr(chain.into(), &[entry(LINUX, 63, sectors as u32)]);
+        expect_reason(&disk, "--partition=5", 4, &format!("{reason}{shorter}"));
     }
 }
 
@@ -421,7 +530,7 @@ fn cut_disks() {
     let json = run(info).expect(2).json();
     expect_head(&json, "info", 5);
     let counts = format!("each copy: a volume of {blocks} blocks, but the image has only 100");
-    assert!(json["reason"].text().starts_with(&counts), "in {json:?}");
+    assert_eq!(json["reason"].text(), counts, "in {json:?}");
     disk.set_len(start());
     let message = format!(
         "partition 2 starts at byte {}, behind the end of the file\n",
@@ -441,15 +550,16 @@ fn cut_disks() {
 fn offsets() {
     let card = shared_card();
     let road = card.file(ROAD).bytes(&card.card.image);
-    for more in [1, 4095, 1 << 31] {
+    for more in [1, 4095, 17 << 30] {
         let disk = Disk::new(7 + card.card.image.bytes().len() as u64 + more);
         disk.put_card(7, &card.card.image);
         let cat = run(&[&"cat", &"--offset", &"7", &disk.path(), &ROAD]).expect(0);
         assert!(cat.out == road, "with {more} bytes more");
         let info: Words = &[&"info", &"--json", &"--offset=7", &disk.path()];
         let json = run(info).expect(0).json();
-        assert!(json["bytes"].number() <= 1 << 30);
-        assert_eq!(json["bytes"].number() % BLOCK_SIZE as u64, 0);
+        let rest = disk.len - 7;
+        let whole = rest - rest % BLOCK_SIZE as u64;
+        assert_eq!(json["bytes"].number(), whole.min(17_179_869_184));
     }
     let disk = Disk::new(3 * BLOCK_SIZE as u64);
     for (offset, blocks) in [(1, "2 blocks"), (4097, "1 block"), (12287, "0 blocks")] {
@@ -457,7 +567,7 @@ fn offsets() {
         let ran = run(info).expect(2);
         let said = match blocks {
             "2 blocks" => "no F2FS mark".to_string(),
-            _ => format!("the image has {blocks} of 4,096 bytes; a card has at least 2"),
+            _ => format!("the chosen part has {blocks} of 4,096 bytes; a card has at least 2"),
         };
         assert!(ran.words().contains(&said), "no '{said}' in {ran:?}");
     }
@@ -490,7 +600,7 @@ fn several_marks() {
 #[test]
 fn long_disk() {
     let (disk, puts) = disk_with(EXTENDED[0]);
-    disk.set_len(3 << 30);
+    disk.set_len(17 << 30);
     expect_table(&disk, "MBR", 4, &puts);
     disk.set_len(96 * MIB + 1);
     expect_table(&disk, "MBR", 4, &puts);

@@ -47,7 +47,10 @@ fn expect_json(disk: &OnDisk, image: &Image, name: &[u8], index: u32) -> u32 {
 /// Each answer from 0 to 3 and from 9 to 14, and names that JSON can't have as they are.
 #[test]
 fn every_answer() {
-    let card = ProgramCard::build();
+    expect_every_answer(&ProgramCard::build());
+}
+
+pub(crate) fn expect_every_answer(card: &ProgramCard) {
     let calls = card.calls().into_iter();
     let answers: BTreeSet<u32> = calls
         .map(|(name, index)| expect_json(&card.disk, &card.card.image, &name, index))

@@ -12,6 +12,7 @@ use harptimber_tests::cards::layout::superblock::{
     BLOCK_COUNT, CP_PAYLOAD, FEATURE, LOG_BLOCKSIZE, MAGIC,
 };
 use harptimber_tests::cards::layout::{Field, BLOCK_SIZE};
+use harptimber_tests::cards::lengths::lengths;
 use harptimber_tests::cards::on_disk::{OnDisk, Shared};
 use harptimber_tests::program::json::Json;
 use harptimber_tests::program::page::{counted, expect_head, expect_name, meaning, with_commas};
@@ -50,6 +51,7 @@ impl Images {
                 unopened: Vec::new(),
             };
             images.add_lengths();
+            images.add_volumes();
             images.add_damaged();
             images.add_without_superblock();
             images.add_published();
@@ -67,6 +69,11 @@ impl Images {
     /// The sound card cut or made longer.
     fn add_length(&mut self, len: u64, answer: u32, why: &str) {
         self.add(&format!("{len} bytes"), answer, why, &sound());
+        self.set_len(len);
+    }
+
+    /// Of the last one.
+    fn set_len(&self, len: u64) {
         let path = &self.unopened.last().unwrap().path;
         let file = File::options().write(true).open(path).unwrap();
         file.set_len(len).expect("a length");
@@ -84,15 +91,20 @@ impl Images {
         let few = ": the image has 1 block of 4,096 bytes; a card has at least 2";
         self.add_length(block, 4, few);
         let larger = [
-            (most + block, "1 GiB (1,073,745,920 bytes)"),
-            (2 * most, "2 GiB"),
-            (5 * most / 2, "2.5 GiB (2,684,354,560 bytes)"),
+            (most + block, "16 GiB (17,179,873,280 bytes)"),
+            (33 << 29, "16.5 GiB (17,716,740,096 bytes)"),
+            ((17 << 30) - block, "16.9 GiB (18,253,606,912 bytes)"),
+            (2 * most, "32 GiB"),
+            (5 * most / 2, "40 GiB"),
         ];
         for (len, size) in larger {
             self.add_length(
                 len,
                 4,
-                &format!(": the image has {size}; at most 1 GiB is read"),
+                &format!(
+                    ": the image has {size}; at most 16 GiB is read; \
+                     --offset 0 takes the volume, which is shorter"
+                ),
             );
         }
         let [count, left] = [whole, whole - block].map(|len| len / block);
@@ -102,6 +114,18 @@ impl Images {
             counts[0], counts[1]
         );
         self.add_length(whole - block, 5, &why);
+    }
+
+    /// In an image with one block too many, a volume that could be read without it, and one that couldn't.
+    fn add_volumes(&mut self) {
+        let shorter = "; --offset 0 takes the volume, which is shorter";
+        for (count, shorter) in [(4_194_304, shorter), (4_194_305, "")] {
+            let size = "16 GiB (17,179,873,280 bytes)";
+            let why = format!(": the image has {size}; at most 16 GiB is read{shorter}");
+            let fields = [0, 1].map(|copy| (copy, BLOCK_COUNT, count));
+            self.add_changed(&format!("a volume of {count}"), 4, &why, &fields);
+            self.set_len(17_179_873_280);
+        }
     }
 
     fn add_changed(&mut self, name: &str, answer: u32, why: &str, fields: &[(u32, Field, u64)]) {
@@ -141,19 +165,26 @@ impl Images {
         let fields = [(0, LOG_BLOCKSIZE, 13), (1, LOG_BLOCKSIZE, 13)];
         let why = ": each copy: log_blocksize is 13, not 12";
         self.add_changed("larger blocks", 5, why, &fields);
-        let blocks = sound().bytes().len() / BLOCK_SIZE;
-        let count = (1 << 33) + 9;
-        for (copy, other) in [(0, 1), (1, 0)] {
-            let counts = [count, blocks as u64].map(|blocks| with_commas(blocks as usize));
-            let counts = format!(
-                "a volume of {} blocks, but the image has only {}",
-                counts[0], counts[1]
-            );
+        let blocks = with_commas(sound().bytes().len() / BLOCK_SIZE);
+        let few = format!("but the image has only {blocks}");
+        let more = "at most 4,194,304 are read";
+        let counts = [
+            (4_194_304, format!("a volume of 4,194,304 blocks, {few}")),
+            (4_194_305, format!("a volume of 4,194,305 blocks; {more}")),
+            (
+                (1 << 33) + 9,
+                format!("a volume of 8,589,934,601 blocks; {more}"),
+            ),
+        ];
+        for ((count, words), (copy, other)) in counts
+            .iter()
+            .flat_map(|count| [(count, (0, 1)), (count, (1, 0))])
+        {
             let mut whys = ["no F2FS mark"; 2];
-            whys[copy as usize] = &counts;
+            whys[copy as usize] = words;
             let why = format!(": copy 1: {}; copy 2: {}", whys[0], whys[1]);
-            let name = format!("many blocks by copy {copy}");
-            let fields = [(copy, BLOCK_COUNT, count), (other, MAGIC, 0)];
+            let name = format!("{count} blocks by copy {copy}");
+            let fields = [(copy, BLOCK_COUNT, *count), (other, MAGIC, 0)];
             self.add_changed(&name, 5, &why, &fields);
         }
     }
@@ -248,6 +279,31 @@ fn in_words() {
             let ends = ["", "; nothing was written"].map(Some);
             assert!(ends.contains(&behind), "no '{part}' in {ran:?}");
         }
+    }
+}
+
+/// Each length around the bounds is in shape or isn't. The blocks that the image has behind its volume change no answer.
+#[test]
+fn bounds() {
+    let disk = OnDisk::new(sound());
+    let path = disk.path();
+    let lines: [Words; 4] = [
+        &[&"pull", &"--json", &path, &NAME, &"0"],
+        &[&"node", &"--json", &path, &"3"],
+        &[&"segments", &"--json", &path],
+        &[&"ls", &"--json", &path],
+    ];
+    let answers = || lines.map(|line| run(line).out);
+    let alone = answers();
+    let file = File::options().write(true).open(&path).unwrap();
+    for (len, in_shape) in lengths() {
+        file.set_len(len as u64).unwrap();
+        let (answer, status) = if in_shape { (0, 0) } else { (4, 2) };
+        let info = run(&[&"info", &"--json", &path]).expect(status).json();
+        expect_head(&info, "info", answer);
+        assert_eq!(info["bytes"].number(), len as u64);
+        let same = answers() == alone;
+        assert_eq!(same, in_shape, "other answers with {len} bytes");
     }
 }
 

@@ -8,7 +8,7 @@ use harptimber_tests::cards::damage::Damage;
 use harptimber_tests::cards::image::Image;
 use harptimber_tests::cards::knobs::{Knobs, Pack};
 use harptimber_tests::cards::layout::checkpoint::VALID_BLOCK_COUNT;
-use harptimber_tests::cards::layout::sit::SitEntry;
+use harptimber_tests::cards::layout::sit::{SitEntry, VER_BITMAP_BYTES};
 use harptimber_tests::cards::layout::sit_journal::{SitJournalEntry, IN_COMPACT_BLOCK, N_SITS};
 use harptimber_tests::cards::on_disk::OnDisk;
 use harptimber_tests::cards::random::pick;
@@ -19,7 +19,9 @@ use harptimber_tests::program::json::Json;
 use harptimber_tests::program::page::{expect_head, meaning, status_of};
 use harptimber_tests::program::segments::{hint, Segment, Segments};
 use harptimber_tests::program::special_build::SpecialBuild;
-use harptimber_tests::program::{run, run_on_terminal, run_on_terminal_after, Ran, Words};
+use harptimber_tests::program::{
+    self, on_terminal, run, run_on_terminal, run_on_terminal_after, Ran, Words,
+};
 use harptimber_tests::sizes::{CARD_BLOCKS_MOST, SEGMENTS_MOST};
 use harptimber_tests::tools::outside::CardFile;
 use harptimber_tests::tools::published::{self, contents, filled_with, formatted, Scratch};
@@ -41,7 +43,7 @@ impl Put {
     fn new(knobs: &Knobs) -> Put {
         let image = Image::new(knobs);
         let sit = Sit::of(&image);
-        let place = |segno| image.sit_place(segno, 0);
+        let place = |segno| image.sit_place(segno, sit.copy_of(segno));
         let empty = |segno| Segment::of(&SitEntry::filled(0), false, place(segno).0);
         let segments = Segments((0..knobs.main_segments).map(empty).collect());
         let disk = OnDisk::new(image);
@@ -74,11 +76,12 @@ impl Put {
         }
     }
 
-    /// Puts the entry of a segment, which is told from the first copy.
+    /// Puts the entry of a segment, in the copy that is in use.
     fn put(&mut self, segno: u32, entry: &SitEntry) {
         let image = &mut self.disk.image;
-        image.set_sit_entry(segno, 0, entry);
-        let (block, _) = image.sit_place(segno, 0);
+        let copy = self.sit.copy_of(segno);
+        image.set_sit_entry(segno, copy, entry);
+        let (block, _) = image.sit_place(segno, copy);
         self.segments.0[segno as usize] = Segment::of(entry, false, block);
     }
 
@@ -247,17 +250,22 @@ fn no_main_segments() {
     assert_eq!(on_terminal.words(), ran.words());
 }
 
-/// As many main segments as there can be, each of them off, and a journal that names one more.
-#[test]
-fn largest_card() {
+/// The largest card: as many main segments as there can be, fuller and fuller and each of them off, in either copy of
+/// 149 table blocks; and a journal that names one more.
+fn largest() -> Put {
+    let pack = Pack {
+        sit_map: Random::new(9).bytes(VER_BITMAP_BYTES),
+        ..Pack::compact(1)
+    };
     let of = |segments| Knobs {
         ssa_segments: 0,
-        ..card_of(segments)
+        ..card_of(segments).with_pack(0, pack.clone())
     };
     assert!(of(SEGMENTS_MOST + 1).image_blocks() > CARD_BLOCKS_MOST);
     let mut card = Put::new(&of(SEGMENTS_MOST));
     for segment in 0..SEGMENTS_MOST {
-        card.put(segment, &SitEntry::counted(segment as u16 + 1, segment));
+        let ones = 512 * segment / (SEGMENTS_MOST - 1);
+        card.put(segment, &SitEntry::counted(ones as u16 + 1, ones));
     }
     let behind = SitJournalEntry {
         segno: SEGMENTS_MOST,
@@ -265,10 +273,46 @@ fn largest_card() {
     };
     let (block, at) = card.sit.journal;
     card.disk.image.put_sit_journal(block, at, &[behind; 6]);
-    card.expect();
-    let words: Words = &[&"segments", &"--json", &card.disk.path()];
-    let json = SpecialBuild::sanitized().run(words).expect(1).json();
-    assert_eq!(json["count"].number(), 505);
+    card
+}
+
+#[test]
+fn largest_card() {
+    let card = largest();
+    let words = card.expect();
+    let lines: Vec<&str> = words.words().lines().collect();
+    assert!(lines[0].ends_with(": can be read (answer 0): 8,185 segments are off"));
+    assert_eq!(lines[11], "  8,175 more segments; --json has all");
+    let last = "2,091,272 of 4,190,720 blocks valid in 8,185 segments (49.9 %), 16 of them empty";
+    assert_eq!(lines.last(), Some(&last), "of {words:?}");
+    let build = SpecialBuild::sanitized();
+    let path = card.disk.path();
+    let json = build.run(&[&"segments", &"--json", &path]).expect(1).json();
+    card.segments.expect_json(&json);
+    let sanitized = build.run(&[&"segments", &path]).expect(1);
+    assert_eq!(sanitized.words(), words.words());
+    expect_bars(&card, words.words());
+}
+
+/// As many segments a column as it takes; also under the compiler's sanitizers.
+fn expect_bars(card: &Put, words: &str) {
+    let line: Words = &[&"segments", &card.disk.path()];
+    let commands = [
+        program::command(line),
+        SpecialBuild::sanitized().command(line),
+    ];
+    let in_80_columns = "a column is 105 segments, blank if empty, # if full\n\
+        [...........:::::::::::-----------============+++++++++++***********%%%%%%%%%%%]\n";
+    assert_eq!(card.segments.bars(80, PLAIN), in_80_columns);
+    for (columns, bars) in [(3, PLAIN), (80, PLAIN), (81, BLOCKS), (9000, BLOCKS)] {
+        let locale = if bars == PLAIN { "C" } else { "C.UTF-8" };
+        let setting = format!("stty cols {columns}; LC_ALL={locale}");
+        for command in &commands {
+            let ran = on_terminal(&setting, command, None).expect(1);
+            let lines = card.segments.bars(columns, bars);
+            assert_eq!(ran.words(), format!("{words}{lines}"));
+        }
+    }
 }
 
 /// What dump.f2fs says of each segment: how many valid blocks it counts.
@@ -295,20 +339,22 @@ fn published_cards() -> [Image; 2] {
 #[test]
 fn published() {
     for image in published_cards() {
-        let card = CardFile::of(&image);
-        let json = run(&[&"segments", &"--json", &card.path()])
-            .expect(0)
-            .json();
-        expect_head(&json, "segments", 0);
-        let valid = image.get(image.first_block(0), VALID_BLOCK_COUNT);
-        let counts = dumped(&card.path());
-        assert_eq!(json["valid_blocks"].number(), valid);
-        assert_eq!(u64::from(counts.iter().sum::<u32>()), valid);
-        assert_eq!(json["segments"].number(), counts.len() as u64);
-        let empty = counts.iter().filter(|&&count| count == 0).count();
-        assert_eq!(json["empty"].number(), empty as u64);
-        assert_eq!(json["off"].list().len(), 0);
+        expect_published(&image, &CardFile::of(&image).path());
     }
+}
+
+/// A card as it came from the tools, at this path.
+pub(crate) fn expect_published(image: &Image, path: &PathBuf) {
+    let json = run(&[&"segments", &"--json", path]).expect(0).json();
+    expect_head(&json, "segments", 0);
+    let valid = image.get(image.first_block(0), VALID_BLOCK_COUNT);
+    let counts = dumped(path);
+    assert_eq!(json["valid_blocks"].number(), valid);
+    assert_eq!(u64::from(counts.iter().sum::<u32>()), valid);
+    assert_eq!(json["segments"].number(), counts.len() as u64);
+    let empty = counts.iter().filter(|&&count| count == 0).count();
+    assert_eq!(json["empty"].number(), empty as u64);
+    assert_eq!(json["off"].list().len(), 0);
 }
 
 /// Which way segments are off is told, and what the program advises helps.

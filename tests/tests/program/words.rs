@@ -7,7 +7,7 @@ use reference::lookup::node_lookup;
 use reference::place::file_place;
 
 use harptimber_tests::cards::on_disk::OnDisk;
-use harptimber_tests::program::card::{shared_card, NAMES, REPEATING, ROAD};
+use harptimber_tests::program::card::{shared_card, ProgramCard, NAMES, REPEATING, ROAD};
 use harptimber_tests::program::page::{counted, meaning, status_of};
 use harptimber_tests::program::{run, run_on_terminal, Ran, Words};
 
@@ -33,7 +33,10 @@ fn numbers_of(ran: &Ran, start: &str) -> Option<Vec<u32>> {
 
 #[test]
 fn pulls() {
-    let card = shared_card();
+    expect_pulls(&shared_card());
+}
+
+pub(crate) fn expect_pulls(card: &ProgramCard) {
     let path = card.disk.path();
     for (name, index) in card.calls() {
         let outcome = card.pulled(&name, index);
