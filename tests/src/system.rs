@@ -160,19 +160,23 @@ pub fn need_room(folder: &Path, bytes: u64) {
     );
 }
 
-/// A new file of so many bytes, that are all a hole.
-pub fn sparse_file(path: &Path, len: u64) -> File {
-    let file = File::create(path).unwrap_or_else(|error| panic!("{}: {error}", path.display()));
+/// Files have to be allowed so many bytes: past the limit a signal would end the program.
+fn need_length(len: u64) {
     let mut limits = [0; 2];
     // SAFETY: two numbers are written.
     let status = unsafe { getrlimit(RLIMIT_FSIZE, &mut limits) };
-    // Past this limit a signal would end the program.
+    assert_eq!(status, 0, "{}", Error::last_os_error());
     let limit = limits[0];
     assert!(
-        status == 0 && len <= limit,
-        "{}: files may have {limit} bytes, and {len} are needed",
-        path.display()
+        len <= limit,
+        "a file may have {limit} bytes, and {len} are needed"
     );
+}
+
+/// A new file of so many bytes, that are all a hole.
+pub fn sparse_file(path: &Path, len: u64) -> File {
+    let file = File::create(path).unwrap_or_else(|error| panic!("{}: {error}", path.display()));
+    need_length(len);
     let made = file.set_len(len).and_then(|()| file.metadata());
     let taken = match made {
         Ok(made) => made.blocks() * 512,
