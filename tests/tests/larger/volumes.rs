@@ -8,7 +8,7 @@ use harptimber_tests::calls::segments::{Report, Reports};
 use harptimber_tests::cards::card::{Card, ROOT};
 use harptimber_tests::cards::image::Image;
 use harptimber_tests::cards::knobs::{Knobs, Pack};
-use harptimber_tests::cards::layout::nat::NatEntry;
+use harptimber_tests::cards::layout::nat::{self, NatEntry};
 use harptimber_tests::cards::layout::sit::VER_BITMAP_BYTES;
 use harptimber_tests::cards::layout::{BLOCK_SIZE, SEGMENT_BLOCKS};
 use harptimber_tests::cards::one_file::{Scene, Setting, NAME};
@@ -81,6 +81,16 @@ struct Volume {
 impl Volume {
     /// With random maps, and in both journals some of what the tables would say otherwise.
     fn new(form: &Form, random: &mut Random) -> Volume {
+        Volume::within(0, form, random)
+    }
+
+    /// Another one of that form: no node is where the first has one.
+    fn other(form: &Form, random: &mut Random) -> Volume {
+        Volume::within(1, form, random)
+    }
+
+    /// With all of its file in this main segment.
+    fn within(segment: u32, form: &Form, random: &mut Random) -> Volume {
         let journal = sit_journal(random, MAIN_SEGMENTS);
         let pack = Pack {
             nat_map: random.bytes(64),
@@ -88,7 +98,8 @@ impl Volume {
             sit_journal: Some(journal.clone()),
             ..form.pack.clone()
         };
-        let mut scene = Scene::on(card(form, pack, random), SETTING);
+        let card = card(form, pack, segment, random);
+        let mut scene = Scene::on(card, SETTING);
         let data = scene.card.add_block(scene.ino, INDEX);
         let node = scene.card.way(scene.ino, INDEX)[1].node.nid;
         scene.card.journal(&[ROOT, node]);
@@ -112,14 +123,14 @@ impl Volume {
     }
 }
 
-fn card(form: &Form, pack: Pack, random: &mut Random) -> Card {
+fn card(form: &Form, pack: Pack, segment: u32, random: &mut Random) -> Card {
     let knobs = Knobs {
         segment0: form.segment0,
         copies: form.copies,
         ..Knobs::sound().with_segments(MAIN_SEGMENTS)
     };
-    let areas = knobs.areas();
-    let mut blocks: Vec<u32> = (areas.main..areas.main_end).collect();
+    let first = knobs.areas().main + segment * SEGMENT_BLOCKS;
+    let mut blocks: Vec<u32> = (first..first + SEGMENT_BLOCKS).collect();
     shuffle(random, &mut blocks);
     let knobs = knobs.with_pack(form.which, pack);
     Card::within(knobs, Random::new(random.number()), blocks)
@@ -128,7 +139,7 @@ fn card(form: &Form, pack: Pack, random: &mut Random) -> Card {
 /// The volume, with decoys of another one that is as sound.
 fn with_decoys(form: &Form, random: &mut Random) -> Volume {
     let mut volume = Volume::new(form, random);
-    let other = Volume::new(form, random);
+    let other = Volume::other(form, random);
     let decoys = volume.scene.card.image.put_decoys(other.image());
     assert!(decoys.len() >= 12, "too few decoys: {decoys:?}, {form:?}");
     volume.scene.card.image.settle("decoys");
@@ -183,14 +194,15 @@ fn segment_reports() {
     reports.finish(5 * 4 * 6, &[0]);
 }
 
-/// With itself but for all decoys; with the other volume, in the same place; and with the same volume elsewhere.
+/// With itself but for all decoys, and but for an entry of the table; with the other volume, in the same place; and with
+/// one that starts at block 2.
 #[test]
 fn compares() {
     let mut compares = Compares::new("compare with a volume far out");
     for form in Form::all() {
         let random = &mut compares.trial.random;
         let volume = Volume::new(&form, random);
-        let other = Volume::new(&form, random);
+        let other = Volume::other(&form, random);
         let near = Form {
             segment0: 2,
             ..form.clone()
@@ -200,11 +212,16 @@ fn compares() {
         fresh.put_decoys(other.image());
         let [kept, kept_near] = [&volume, &near].map(|v| Kept::new(v.image(), NAME, INDEX));
         compares.expect(&kept, &fresh, SAME);
+        let (table, at) = volume.scene.card.entry_place(volume.scene.ino);
+        let mark = fresh.mark();
+        fresh.set(table, nat::BLOCK_ADDR.moved(at), 0);
+        compares.expect(&kept, &fresh, changed(2, volume.scene.ino));
+        fresh.undo(mark);
         compares.expect(&kept, other.image(), changed(2, ROOT));
         compares.expect(&kept, near.image(), changed(1, 0));
         compares.expect(&kept_near, &fresh, changed(1, 0));
     }
-    compares.finish(5 * 4 * 6 * 4, &[(15, 0, 0), (16, 0, 1), (16, 0, 2)]);
+    compares.finish(5 * 4 * 6 * 5, &[(15, 0, 0), (16, 0, 1), (16, 0, 2)]);
 }
 
 /// What is put in the places of decoys is a sound volume with another answer to everything.
@@ -212,7 +229,7 @@ fn compares() {
 fn decoys_are_good() {
     let random = &mut Random::new(1);
     for form in Form::all() {
-        let [volume, other] = [(); 2].map(|_| Volume::new(&form, random));
+        let [volume, other] = [Volume::new, Volume::other].map(|make| make(&form, random));
         let [kept, astray] = [&volume, &other].map(|v| Kept::new(v.image(), NAME, INDEX));
         assert_eq!(astray.outcome.pulled.answer, 0, "{form:?}");
         assert!(kept.outcome.result() != astray.outcome.result(), "{form:?}");
