@@ -32,7 +32,7 @@
 #define BLOCK_SIZE ((size_t)HARPTIMBER_BLOCK_BYTES)
 #define LEAST_NODES ((size_t)HARPTIMBER_NODES_BYTES)
 #define LEAST_BLOCKS ((size_t)HARPTIMBER_BLOCKS_BYTES)
-#define MOST_BYTES (BLOCK_SIZE * HARPTIMBER_CARD_BLOCKS_MOST)
+#define MOST_BYTES ((size_t)HARPTIMBER_CARD_BYTES_MOST)
 #define PATTERN 0xA5
 #define COUNT_OF(array) (sizeof(array) / sizeof *(array))
 

@@ -21,6 +21,8 @@ const SEEK_DATA: c_int = 3;
 const SEEK_HOLE: c_int = 4;
 /// There is no data any more.
 const ENXIO: i32 = 6;
+/// The greatest length of files, which is two numbers: the limit now, and the most that it can be.
+const RLIMIT_FSIZE: c_int = 1;
 
 /// `struct statvfs`: among others the size in which room is counted, and how much an ordinary user can have.
 #[derive(Default)]
@@ -47,6 +49,7 @@ extern "C" {
     fn madvise(address: *mut c_void, len: usize, advice: c_int) -> c_int;
     fn lseek(file: c_int, offset: i64, whence: c_int) -> i64;
     fn statvfs(path: *const c_char, disk: *mut Disk) -> c_int;
+    fn getrlimit(resource: c_int, limits: *mut [u64; 2]) -> c_int;
 }
 
 /// Maps so many bytes; without a file they are zeros.
@@ -157,9 +160,23 @@ pub fn need_room(folder: &Path, bytes: u64) {
     );
 }
 
+/// Files have to be allowed so many bytes: past the limit a signal would end the program.
+fn need_length(len: u64) {
+    let mut limits = [0; 2];
+    // SAFETY: two numbers are written.
+    let status = unsafe { getrlimit(RLIMIT_FSIZE, &mut limits) };
+    assert_eq!(status, 0, "{}", Error::last_os_error());
+    let limit = limits[0];
+    assert!(
+        len <= limit,
+        "a file may have {limit} bytes, and {len} are needed"
+    );
+}
+
 /// A new file of so many bytes, that are all a hole.
 pub fn sparse_file(path: &Path, len: u64) -> File {
     let file = File::create(path).unwrap_or_else(|error| panic!("{}: {error}", path.display()));
+    need_length(len);
     let made = file.set_len(len).and_then(|()| file.metadata());
     let taken = match made {
         Ok(made) => made.blocks() * 512,
