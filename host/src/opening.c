@@ -79,7 +79,7 @@ static bool areas_pass(const uint8_t *copy, char *why)
 
 static bool ends_pass(const uint8_t *copy, uint64_t image_blocks, char *why)
 {
-    uint64_t main_end = disk_area_end(copy, DISK_MAIN), blocks = disk64(copy + 36);
+    uint64_t main_end = disk_area_end(copy, DISK_MAIN), blocks = disk64(copy + DISK_BLOCK_COUNT_AT);
     uint64_t segments_end = disk32(copy + 72) + (uint64_t)DISK_SEGMENT_BLOCKS * disk32(copy + 48);
     if (main_end > segments_end)
         return because(why, "the main area ends at %" PRIu64 ", the segments of segment_count at %" PRIu64, main_end,

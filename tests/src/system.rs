@@ -1,5 +1,5 @@
-//! What Rust's library doesn't have: mapped memory, the room on a disk, and where a sparse file has data. All of it is
-//! Linux's on 64 bits.
+//! What Rust's library doesn't have: mapped memory, the room on a disk, the greatest length of files, and where a sparse
+//! file has data. All of it is Linux's on 64 bits.
 
 use std::ffi::{c_char, c_int, c_void, CString};
 use std::fs::File;
@@ -173,15 +173,23 @@ fn need_length(len: u64) {
     );
 }
 
+/// Cuts a file, or puts a hole behind it.
+pub fn resize(path: &Path, len: u64) -> File {
+    need_length(len);
+    let mut options = File::options();
+    let file = options.read(true).write(true).create(true).truncate(false);
+    let sized = file.open(path).and_then(|file| {
+        file.set_len(len)?;
+        Ok(file)
+    });
+    sized.unwrap_or_else(|error| panic!("{} can't have {len} bytes: {error}", path.display()))
+}
+
 /// A new file of so many bytes, that are all a hole.
 pub fn sparse_file(path: &Path, len: u64) -> File {
-    let file = File::create(path).unwrap_or_else(|error| panic!("{}: {error}", path.display()));
-    need_length(len);
-    let made = file.set_len(len).and_then(|()| file.metadata());
-    let taken = match made {
-        Ok(made) => made.blocks() * 512,
-        Err(error) => panic!("{} can't have {len} bytes: {error}", path.display()),
-    };
+    resize(path, 0);
+    let file = resize(path, len);
+    let taken = file.metadata().expect("a file's room").blocks() * 512;
     let most = len / 1024 + (1 << 16);
     assert!(
         taken <= most,

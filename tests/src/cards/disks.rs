@@ -5,6 +5,7 @@ use std::os::unix::fs::FileExt;
 use std::path::PathBuf;
 
 use crate::cards::image::Image;
+use crate::system::{need_room, resize, sparse_file};
 use crate::tools::published::Scratch;
 
 /// An MBR counts in these.
@@ -82,11 +83,7 @@ pub struct Disk {
 impl Disk {
     pub fn new(len: u64) -> Disk {
         let scratch = Scratch::new();
-        let mut options = File::options();
-        options.read(true).write(true).create_new(true);
-        let file = options.open(scratch.path("disk.img"));
-        let file = file.expect("a disk's file");
-        file.set_len(len).expect("a disk's length");
+        let file = sparse_file(&scratch.path("disk.img"), len);
         Disk { scratch, file, len }
     }
 
@@ -95,7 +92,7 @@ impl Disk {
     }
 
     pub fn set_len(&self, len: u64) {
-        self.file.set_len(len).expect("a disk's length");
+        resize(&self.path(), len);
     }
 
     pub fn put(&self, at: u64, bytes: &[u8]) {
@@ -110,6 +107,8 @@ impl Disk {
     }
 
     pub fn put_card(&self, at: u64, image: &Image) {
+        let room = image.data().map(|(_, block)| block.len() as u64).sum();
+        need_room(self.scratch.folder(), room);
         for (place, block) in image.data() {
             self.put(at + place as u64, block);
         }

@@ -60,7 +60,12 @@ pub fn sound_knobs(random: &mut Random) -> Knobs {
 pub fn large_knobs(random: &mut Random) -> Knobs {
     let small = sound_knobs(random);
     let least = small.image_blocks() - small.segment0;
-    let blocks = between(random, 262_145, CARD_BLOCKS_MOST);
+    // Most of them pass 2^32 bytes.
+    let blocks = match random.below(4) {
+        0 => 262_145,
+        1 => CARD_BLOCKS_MOST,
+        _ => 1_048_577 + random.below(u64::from(CARD_BLOCKS_MOST - 1_048_577)) as u32,
+    };
     let knobs = Knobs {
         segment0: between(random, 2, blocks - least),
         ..small

@@ -9,6 +9,7 @@ use harptimber_tests::program::card::{shared_card, ROAD};
 use harptimber_tests::program::held::make_fifo;
 use harptimber_tests::program::page::shown;
 use harptimber_tests::program::*;
+use harptimber_tests::system::{resize, sparse_file};
 use harptimber_tests::tools::published::Scratch;
 
 const NO_IMAGE: &str = "is neither a file nor a block device";
@@ -95,7 +96,7 @@ fn no_permission() {
 fn too_big() {
     let scratch = Scratch::new();
     let image = scratch.path("too big.img");
-    File::create(&image).unwrap().set_len(16 << 30).unwrap();
+    sparse_file(&image, 16 << 30);
     let with_little = |words: Words| run_by_shell("ulimit -v 16000000; exec \"$@\"", words);
     expect_unreadable(&image, "is too big to map", with_little);
 }
@@ -103,12 +104,11 @@ fn too_big() {
 /// There is room for one of two large cards: it is the second that is named.
 #[test]
 fn too_big_together() {
-    let card = shared_card();
+    let scratch = Scratch::new();
     let [kept, new] = ["kept.img", "new.img"].map(|name| {
-        let path = card.disk.scratch.path(name);
-        card.card.image.save(&path);
-        let file = File::options().write(true).open(&path).unwrap();
-        file.set_len(16 << 30).unwrap();
+        let path = scratch.path(name);
+        shared_card().card.image.save(&path);
+        resize(&path, 16 << 30);
         path
     });
     let line: Words = &[&"compare", &kept, &new, &ROAD];

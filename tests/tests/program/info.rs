@@ -18,6 +18,7 @@ use harptimber_tests::program::page::{expect_head, meaning, shown, status_of};
 use harptimber_tests::program::special_build::SpecialBuild;
 use harptimber_tests::program::versions::words_on_choice;
 use harptimber_tests::program::{run, Ran, Words};
+use harptimber_tests::system::resize;
 use harptimber_tests::tools::outside::CardFile;
 use harptimber_tests::tools::published::{self, formatted};
 use harptimber_tests::trial::Random;
@@ -846,8 +847,7 @@ fn library_against_words() {
 #[test]
 fn long_card() {
     let disk = OnDisk::new(Image::new(&Knobs::sound()));
-    let file = std::fs::File::options().write(true).open(disk.path());
-    file.unwrap().set_len((16 << 30) + 4096).unwrap();
+    resize(&disk.path(), (16 << 30) + 4096);
     let json = run(&[&"info", &"--json", &disk.path()]).expect(2).json();
     expect_head(&json, "info", 4);
     expect_areas(&json, &Knobs::sound());

@@ -1,11 +1,8 @@
 //! Cards of 16 GiB: what each command says of files at their very end, on a disk too, and what that takes.
 
-use std::fs::File;
 use std::path::{Path, PathBuf};
 use std::process::Command;
 use std::sync::Arc;
-use std::thread;
-use std::time::Duration;
 
 use harptimber_tests::cards::card::ROOT;
 use harptimber_tests::cards::disks::{entry, Disk, GptEntry, GptForm, EXTENDED, LINUX, SECTOR};
@@ -20,6 +17,7 @@ use harptimber_tests::program::special_build::{SpecialBuild, REPORTED};
 use harptimber_tests::program::{
     command, run, run_by_shell, run_on_terminal_after, Ran, Word, Words,
 };
+use harptimber_tests::system::resize;
 use harptimber_tests::tools::published::{self, contents, filled_on, filled_with, LARGEST};
 use harptimber_tests::trial::Random;
 
@@ -275,8 +273,7 @@ fn memory() {
     each_command(&card, &[], &path, &mut |line, status| expect(line, status));
     expect(&[&"compare", &path, &new.path(), &ROAD, &LONG], 0);
     // One block too many.
-    let file = File::options().write(true).open(new.path()).unwrap();
-    file.set_len((16 << 30) + 4096).unwrap();
+    resize(&new.path(), (16 << 30) + 4096);
     expect(&[&"info", &new.path()], 2);
     // What is planted is seen.
     let mut dd = Command::new("dd");
@@ -337,11 +334,9 @@ fn cut_while_it_is_read() {
     let disk = OnDisk::new(card.card.image.clone());
     let block = card.file(ROAD).blocks[&5];
     let hold = Hold { image: 0, block };
-    thread::sleep(Duration::from_millis(20));
     let line: Words = &[&"pull", &disk.path(), &ROAD, &"5"];
     let ran = Holder::shared().run(line, hold, || {
-        let file = File::options().write(true).open(disk.path()).unwrap();
-        file.set_len(8 << 30).unwrap();
+        resize(&disk.path(), 8 << 30);
     });
     ran.expect_message(2, &["card.img: can't be read any more: it was cut short"]);
 }

@@ -1,6 +1,6 @@
 //! Images that don't open, for every command that takes one: answers 4 to 8.
 
-use std::fs::{self, File};
+use std::fs;
 use std::path::PathBuf;
 use std::sync::Arc;
 
@@ -18,6 +18,7 @@ use harptimber_tests::program::json::Json;
 use harptimber_tests::program::page::{counted, expect_head, expect_name, meaning, with_commas};
 use harptimber_tests::program::{run, Words};
 use harptimber_tests::sizes::CARD_BLOCKS_MOST;
+use harptimber_tests::system::resize;
 use harptimber_tests::tools::published::{formatted, Scratch};
 
 const NAME: &[u8] = b"road.bin";
@@ -74,9 +75,7 @@ impl Images {
 
     /// Of the last one.
     fn set_len(&self, len: u64) {
-        let path = &self.unopened.last().unwrap().path;
-        let file = File::options().write(true).open(path).unwrap();
-        file.set_len(len).expect("a length");
+        resize(&self.unopened.last().unwrap().path, len);
     }
 
     fn add_lengths(&mut self) {
@@ -295,15 +294,15 @@ fn bounds() {
     ];
     let answers = || lines.map(|line| run(line).out);
     let alone = answers();
-    let file = File::options().write(true).open(&path).unwrap();
     for (len, in_shape) in lengths() {
-        file.set_len(len as u64).unwrap();
+        resize(&path, len as u64);
         let (answer, status) = if in_shape { (0, 0) } else { (4, 2) };
         let info = run(&[&"info", &"--json", &path]).expect(status).json();
         expect_head(&info, "info", answer);
         assert_eq!(info["bytes"].number(), len as u64);
-        let same = answers() == alone;
-        assert_eq!(same, in_shape, "other answers with {len} bytes");
+        for (now, alone) in answers().iter().zip(&alone) {
+            assert_eq!(now == alone, in_shape, "an answer with {len} bytes");
+        }
     }
 }
 

@@ -19,7 +19,10 @@ use crate::{journalled, knobs, pack, FLAGS};
 
 /// A card of which every second segment, from 0 on, is off.
 fn half_off(main_segments: u32) -> (SegmentCard, Report) {
-    let mut card = SegmentCard::new(&knobs(main_segments, Pack::compact(1)));
+    let mut card = SegmentCard::new(&Knobs {
+        ssa_segments: 0,
+        ..knobs(main_segments, Pack::compact(1))
+    });
     let off: Vec<u32> = (0..main_segments).step_by(2).collect();
     for &segno in &off {
         card.set_entry(segno, &SitEntry::counted(0, 7));
@@ -42,6 +45,23 @@ fn lengths_of_the_list() {
         }
     }
     reports.finish(5 * 14 + 4 * 71, &[0, 4]);
+}
+
+/// With more segments than 505, which 2,020 bytes have room for.
+#[test]
+fn long_lists() {
+    let mut reports = Reports::new("segment report into long lists");
+    for main_segments in [506, 8_185] {
+        let (card, report) = half_off(main_segments);
+        let least = 4 * main_segments as usize;
+        for len in [0, 2_020, 2_023, least - 4, least - 1] {
+            reports.expect_in(&card.image, card.image.bytes(), len, &Report::refused(4));
+        }
+        for len in [least, least + 1, least + 4] {
+            reports.expect_in(&card.image, card.image.bytes(), len, &report);
+        }
+    }
+    reports.finish(2 * 8, &[0, 4]);
 }
 
 /// With no main segment any list will do, and nothing is named, whatever the journal says.
