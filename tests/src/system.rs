@@ -176,9 +176,8 @@ fn need_length(len: u64) {
 /// Cuts a file, or puts a hole behind it.
 pub fn resize(path: &Path, len: u64) -> File {
     need_length(len);
-    let mut options = File::options();
-    let file = options.read(true).write(true).create(true).truncate(false);
-    let sized = file.open(path).and_then(|file| {
+    let file = File::options().read(true).write(true).open(path);
+    let sized = file.and_then(|file| {
         file.set_len(len)?;
         Ok(file)
     });
@@ -187,7 +186,7 @@ pub fn resize(path: &Path, len: u64) -> File {
 
 /// A new file of so many bytes, that are all a hole.
 pub fn sparse_file(path: &Path, len: u64) -> File {
-    resize(path, 0);
+    File::create(path).unwrap_or_else(|error| panic!("{}: {error}", path.display()));
     let file = resize(path, len);
     let taken = file.metadata().expect("a file's room").blocks() * 512;
     let most = len / 1024 + (1 << 16);

@@ -32,17 +32,25 @@ fn half_off(main_segments: u32) -> (SegmentCard, Report) {
 }
 
 /// One number for each main segment, however few are off; a remainder of one to three bytes is no number.
+fn expect_lists(reports: &mut Reports, main_segments: u32, lens: impl Iterator<Item = usize>) {
+    let (card, report) = half_off(main_segments);
+    let refused = Report::refused(4);
+    for len in lens {
+        let short = len < 4 * main_segments as usize;
+        let paper = if short { &refused } else { &report };
+        reports.expect_in(&card.image, card.image.bytes(), len, paper);
+    }
+}
+
 #[test]
 fn lengths_of_the_list() {
     let mut reports = Reports::new("segment report by length of the list");
     for main_segments in [1, 2, 3, 8, 57] {
-        let (card, report) = half_off(main_segments);
-        let least = 4 * main_segments as usize;
-        for len in 0..least + 14 {
-            let refused = Report::refused(4);
-            let paper = if len < least { &refused } else { &report };
-            reports.expect_in(&card.image, card.image.bytes(), len, paper);
-        }
+        expect_lists(
+            &mut reports,
+            main_segments,
+            0..4 * main_segments as usize + 14,
+        );
     }
     reports.finish(5 * 14 + 4 * 71, &[0, 4]);
 }
@@ -51,15 +59,18 @@ fn lengths_of_the_list() {
 #[test]
 fn long_lists() {
     let mut reports = Reports::new("segment report into long lists");
-    for main_segments in [506, 8_185] {
-        let (card, report) = half_off(main_segments);
-        let least = 4 * main_segments as usize;
-        for len in [0, 2_020, 2_023, least - 4, least - 1] {
-            reports.expect_in(&card.image, card.image.bytes(), len, &Report::refused(4));
-        }
-        for len in [least, least + 1, least + 4] {
-            reports.expect_in(&card.image, card.image.bytes(), len, &report);
-        }
+    for (main_segments, least) in [(506, 2_024), (8_185, 32_740)] {
+        let lens = [
+            0,
+            2_020,
+            2_023,
+            least - 4,
+            least - 1,
+            least,
+            least + 1,
+            least + 4,
+        ];
+        expect_lists(&mut reports, main_segments, lens.into_iter());
     }
     reports.finish(2 * 8, &[0, 4]);
 }
