@@ -100,7 +100,7 @@ fn first_difference(
 #[cfg(test)]
 mod tests {
     use super::*;
-    use crate::sample::Sample;
+    use crate::sample::{Sample, DAMAGE, FIRST_PACK};
 
     fn list(numbers: &[u32]) -> Vec<u8> {
         numbers.iter().flat_map(|number| number.to_le_bytes()).collect()
@@ -150,6 +150,26 @@ mod tests {
         assert_eq!(compared(&bad, &good, &[], &[]), refused(1));
         assert_eq!(compared(&good, &bad, &[], &[]), refused(2));
         assert_eq!(compare(&bad.bytes, &[], &[], 0, &[], 0), OUT_OF_SHAPE);
+    }
+
+    #[test]
+    fn sides_of_damaged_volumes() {
+        let (good, mut unformatted) = (Sample::new(), Sample::new());
+        unformatted.put32(0, 1024, 0);
+        let refused = |answer, side| Compared { answer, side, kind: 0, number: 0 };
+        for damage in DAMAGE {
+            let mut damaged = Sample::new();
+            damage(&mut damaged, FIRST_PACK);
+            // With lists in shape and, later than 8, out of shape.
+            for nodes in [&[3][..], &[]] {
+                assert_eq!(compared(&damaged, &good, nodes, &[]), refused(8, 1));
+                assert_eq!(compared(&good, &damaged, nodes, &[]), refused(8, 2));
+                assert_eq!(compared(&damaged, &damaged, nodes, &[]), refused(8, 1));
+                assert_eq!(compared(&damaged, &unformatted, nodes, &[]), refused(8, 1));
+                assert_eq!(compared(&unformatted, &damaged, nodes, &[]), refused(5, 1));
+            }
+            assert_eq!(compare(&damaged.bytes, &[], &[], 0, &[], 0), OUT_OF_SHAPE);
+        }
     }
 
     #[test]

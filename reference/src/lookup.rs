@@ -19,7 +19,7 @@ pub fn lookup_in(volume: &Volume, number: u32) -> Result<(u32, u32), u32> {
     if number == 0 || u64::from(number) >= numbers {
         return Err(9);
     }
-    // "The first journal entry with the number decides."
+    // The journal comes before the table. That of an opened volume names no number twice.
     let journalled = volume
         .journal
         .chunks_exact(JOURNAL_ENTRY_SIZE)
@@ -61,7 +61,7 @@ fn inode_and_address(entry: &[u8]) -> (u32, u32) {
 #[cfg(test)]
 mod tests {
     use super::*;
-    use crate::sample::{Sample, FIRST_PACK};
+    use crate::sample::{Sample, DAMAGE, FIRST_PACK};
 
     #[test]
     fn table_blocks_of_a_nat_at_2560() {
@@ -107,11 +107,37 @@ mod tests {
     }
 
     #[test]
-    fn first_journal_entry_decides_over_the_table() {
+    fn the_journal_decides_over_the_table() {
         let mut sample = Sample::new();
         sample.put_nat(2560, 5, 5, 4100);
-        sample.put_journal(&[(9, 9, 1), (5, 6, 2), (5, 7, 3), (0, 1, 1)]);
+        sample.put_nat(2560, 6, 6, 4101);
+        sample.put_journal(&[(9, 9, 1), (5, 6, 2), (0, 1, 1), (u32::MAX, 1, 1)]);
         assert_eq!(node_lookup(&sample.bytes, 5), Ok((6, 2)));
+        assert_eq!(node_lookup(&sample.bytes, 6), Ok((6, 4101)));
+        assert_eq!(node_lookup(&sample.bytes, 9), Ok((9, 1)));
         assert_eq!(node_lookup(&sample.bytes, 0), Err(9));
+        assert_eq!(node_lookup(&sample.bytes, u32::MAX), Err(9));
+    }
+
+    #[test]
+    fn a_second_entry_with_the_number() {
+        let mut sample = Sample::new();
+        sample.put_journal(&[(9, 9, 1), (5, 6, 2), (5, 7, 3)]);
+        assert_eq!(node_lookup(&sample.bytes, 5), Err(8));
+        assert_eq!(node_lookup(&sample.bytes, 9), Err(8));
+        // What stands behind the count is no entry.
+        sample.put16(FIRST_PACK + 1, 3584, 2);
+        assert_eq!(node_lookup(&sample.bytes, 5), Ok((6, 2)));
+    }
+
+    #[test]
+    fn damage_is_8_for_every_number() {
+        for damage in DAMAGE {
+            let mut sample = Sample::new();
+            damage(&mut sample, FIRST_PACK);
+            for number in [0, 5, 20, u32::MAX] {
+                assert_eq!(node_lookup(&sample.bytes, number), Err(8), "number {number}");
+            }
+        }
     }
 }

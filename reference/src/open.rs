@@ -5,6 +5,8 @@ use crate::checksum::checksum;
 
 const UNMOUNT: u32 = 0x1;
 const COMPACT: u32 = 0x4;
+const ERROR: u32 = 0x8;
+const NEEDS_CHECK: u32 = 0x10;
 const FASTBOOT: u32 = 0x20;
 const LARGE_NAT_MAP: u32 = 0x400;
 
@@ -38,7 +40,8 @@ pub struct Volume<'a> {
     pub nat_address: u32,
     pub nat_segments: u32,
     pub nat_map: &'a [u8],
-    /// The NAT journal's entries, 13 bytes each, without the count before them.
+    /// The NAT journal's entries, 13 bytes each, without the count before them. No two of them
+    /// have the same number.
     pub journal: &'a [u8],
 }
 
@@ -65,6 +68,9 @@ pub fn open(image: &[u8]) -> Result<Volume<'_>, u32> {
         return Err(6);
     }
     let pack = chosen_pack(image, &superblock).ok_or(7u32)?;
+    if is_marked_damaged(image, &pack) {
+        return Err(8);
+    }
     let (sit_map, nat_map) = maps(image, &superblock, &pack).ok_or(8u32)?;
     let (nat_place, sit_place) = journal_places(image, &pack).ok_or(8u32)?;
     let journal = nat_journal(nat_place).ok_or(8u32)?;
@@ -279,6 +285,11 @@ fn checkpoint_block_passes(block: &[u8]) -> bool {
     le32(block, 164) as usize == CHECKSUM_AT && le32(block, CHECKSUM_AT) == checksum(covered)
 }
 
+/// "Answer 8 also if the chosen pack's flags hold error (8) or needs-check (10 hex)"
+fn is_marked_damaged(image: &[u8], pack: &Pack) -> bool {
+    le32(block(image, pack.start), 132) & (ERROR | NEEDS_CHECK) != 0
+}
+
 /// The SIT and NAT maps of the chosen pack; `None` if they make the pack unreadable.
 fn maps<'a>(image: &'a [u8], superblock: &Superblock, pack: &Pack) -> Option<(&'a [u8], &'a [u8])> {
     let first = block(image, pack.start);
@@ -315,14 +326,25 @@ fn journal_places<'a>(image: &'a [u8], pack: &Pack) -> Option<(&'a [u8], &'a [u8
     Some((nat, sit))
 }
 
-/// The NAT journal's entries; `None` if it counts too many.
+/// The NAT journal's entries; `None` if it counts too many or names a number twice.
 fn nat_journal(journal: &[u8]) -> Option<&[u8]> {
     // "A journal is a 16-bit count, at most 38 (else 8), then 13-byte entries"
     let count = usize::from(le16(journal, 0));
     if count > JOURNAL_MOST {
         return None;
     }
-    journal.get(2..2 + count * JOURNAL_ENTRY_SIZE)
+    let entries = journal.get(2..2 + count * JOURNAL_ENTRY_SIZE)?;
+    // "Answer 8 also if [...] the NAT journal names one number twice."
+    (!names_one_twice(entries)).then_some(entries)
+}
+
+/// Whether two of the entries have the same number, valid or not. What else they say is not
+/// consulted.
+fn names_one_twice(entries: &[u8]) -> bool {
+    let numbers = || entries.chunks_exact(JOURNAL_ENTRY_SIZE).map(|entry| le32(entry, 0));
+    numbers()
+        .enumerate()
+        .any(|(position, number)| numbers().skip(position + 1).any(|later| later == number))
 }
 
 /// The NAT journal's block within the pack and its first byte there.
@@ -355,7 +377,7 @@ fn sit_journal_place(first: &[u8], journal_block: u64) -> (u64, usize) {
 #[cfg(test)]
 mod tests {
     use super::*;
-    use crate::sample::{Sample, FIRST_PACK, SECOND_PACK};
+    use crate::sample::{Sample, DAMAGE, FIRST_PACK, SECOND_PACK};
 
     fn answer(sample: &Sample) -> u32 {
         open(&sample.bytes).err().unwrap_or(0)
@@ -537,8 +559,8 @@ mod tests {
     #[test]
     fn the_chosen_pack_is_read() {
         let mut sample = Sample::new();
-        sample.put16(FIRST_PACK + 1, 3584, 1);
-        sample.put16(SECOND_PACK + 1, 3584, 2);
+        sample.put_journal_at(FIRST_PACK + 1, 3584, &[(5, 5, 4100)]);
+        sample.put_journal_at(SECOND_PACK + 1, 3584, &[(5, 5, 4100), (6, 6, 4101)]);
         for (first, second, entries) in [(u64::MAX, 0, 2), (0, u64::MAX, 1)] {
             sample.put_pack(FIRST_PACK, first, 8);
             sample.put_pack(SECOND_PACK, second, 8);
@@ -550,9 +572,10 @@ mod tests {
     #[test]
     fn journal_count_38_is_read_39_is_8() {
         let mut sample = Sample::new();
-        sample.put16(FIRST_PACK + 1, 3584, 38);
+        let entries: Vec<_> = (0..39).map(|number| (number, number, 4100)).collect();
+        sample.put_journal(&entries[..38]);
         assert_eq!(open(&sample.bytes).unwrap().journal.len(), 38 * 13);
-        sample.put16(FIRST_PACK + 1, 3584, 39);
+        sample.put_journal(&entries);
         assert_eq!(answer(&sample), 8);
     }
 
@@ -600,6 +623,174 @@ mod tests {
             sample.put32(FIRST_PACK, at, value);
             sample.seal(FIRST_PACK);
             assert_eq!(answer(&sample), 8, "offset {at}");
+        }
+    }
+
+    #[test]
+    fn error_and_needs_check_are_8_with_any_others() {
+        let mut sample = Sample::new();
+        // The start of summaries, which only compact packs consult.
+        sample.put32(FIRST_PACK, 140, 1);
+        // The last are all but these two and the large map.
+        for others in [0x00, 0x01, 0x04, 0x05, 0x20, 0x21, 0x24, 0x25, 0xFFFF_FBE7] {
+            sample.put_flags(others);
+            assert_eq!(answer(&sample), 0, "flags {others:x}");
+            for marks in [0x08, 0x10, 0x18, 0x408, 0x410] {
+                sample.put_flags(others | marks);
+                assert_eq!(answer(&sample), 8, "flags {others:x} and {marks:x}");
+            }
+        }
+    }
+
+    #[test]
+    fn each_flag_alone() {
+        let mut sample = Sample::new();
+        sample.put32(FIRST_PACK, 140, 1);
+        for bit in 0..32 {
+            let flag = 1 << bit;
+            sample.put_flags(flag);
+            let expected = if [0x08, 0x10, 0x400].contains(&flag) { 8 } else { 0 };
+            assert_eq!(answer(&sample), expected, "flag {flag:x}");
+        }
+    }
+
+    #[test]
+    fn flags_of_the_last_block_are_not_consulted() {
+        let mut sample = Sample::new();
+        sample.put32(FIRST_PACK + 7, 132, 0x19);
+        sample.seal(FIRST_PACK + 7);
+        assert_eq!(answer(&sample), 0);
+    }
+
+    #[test]
+    fn a_damaged_pack_is_8_if_chosen_and_chosen_as_before() {
+        for (first, second) in [(5, 5), (5, 6), (6, 5), (u64::MAX, 0), (0, 1 << 63)] {
+            for damage in DAMAGE {
+                let mut sample = Sample::new();
+                sample.put_pack(FIRST_PACK, first, 8);
+                sample.put_pack(SECOND_PACK, second, 8);
+                let read = chosen(&sample).unwrap();
+                let other = FIRST_PACK + SECOND_PACK - read;
+                damage(&mut sample, other);
+                assert_eq!(chosen(&sample), Some(read), "{first:x} {second:x}");
+                assert_eq!(answer(&sample), 0, "{first:x} {second:x}");
+                damage(&mut sample, read);
+                assert_eq!(chosen(&sample), Some(read), "{first:x} {second:x}");
+                assert_eq!(answer(&sample), 8, "{first:x} {second:x}");
+                // An undamaged other pack doesn't help.
+                sample.put16(other + 1, 3584, 0);
+                sample.put_pack(other, if other == FIRST_PACK { first } else { second }, 8);
+                assert_eq!(chosen(&sample), Some(read), "{first:x} {second:x}");
+                assert_eq!(answer(&sample), 8, "{first:x} {second:x}");
+                // Unless the damaged one doesn't even pass.
+                sample.put32(read, 4092, 0);
+                assert_eq!(answer(&sample), 0, "{first:x} {second:x}");
+            }
+        }
+    }
+
+    #[test]
+    fn damage_comes_after_4_to_7() {
+        for damage in DAMAGE {
+            let mut sample = Sample::new();
+            damage(&mut sample, FIRST_PACK);
+            assert_eq!(answer(&sample), 8);
+            sample.put32(FIRST_PACK + 7, 4092, 0);
+            assert_eq!(answer(&sample), 7);
+            sample.put32(0, 1024 + 2180, 1);
+            assert_eq!(answer(&sample), 6);
+            sample.put32(0, 1024, 0);
+            assert_eq!(answer(&sample), 5);
+            sample.bytes.pop();
+            assert_eq!(answer(&sample), 4);
+        }
+    }
+
+    /// The bytes of a NAT journal with these numbers, no two of their NAT entries equal.
+    fn journal(numbers: &[u32]) -> Vec<u8> {
+        let mut journal = (numbers.len() as u16).to_le_bytes().to_vec();
+        for (position, number) in numbers.iter().enumerate() {
+            journal.extend(number.to_le_bytes());
+            journal.extend([position as u8; 9]);
+        }
+        journal
+    }
+
+    #[test]
+    fn a_number_twice_at_any_two_places() {
+        let distinct: Vec<u32> = (100..138).collect();
+        assert!(nat_journal(&journal(&distinct)).is_some());
+        for second in 1..38 {
+            for first in 0..second {
+                let mut numbers = distinct.clone();
+                numbers[second] = numbers[first];
+                let mut journal = journal(&numbers);
+                assert_eq!(nat_journal(&journal), None, "places {first} and {second}");
+                // The second is the last that is counted, then the first that isn't.
+                journal[0] = second as u8 + 1;
+                assert_eq!(nat_journal(&journal), None, "places {first} and {second}");
+                journal[0] = second as u8;
+                assert!(nat_journal(&journal).is_some(), "places {first} and {second}");
+            }
+        }
+    }
+
+    #[test]
+    fn any_number_twice() {
+        // 0, valid numbers from the first to the last, and numbers out of range.
+        let numbers = [0, 1, 3, 0x100, 455 * 512 - 1, 455 * 512, 0x100_0000, 1 << 31, u32::MAX];
+        assert!(nat_journal(&journal(&numbers)).is_some());
+        for number in numbers {
+            assert!(nat_journal(&journal(&[number])).is_some(), "number {number}");
+            assert_eq!(nat_journal(&journal(&[number; 2])), None, "number {number}");
+            assert_eq!(nat_journal(&journal(&[number; 38])), None, "number {number}");
+            assert_eq!(nat_journal(&journal(&[7, number, 8, number])), None, "number {number}");
+        }
+        assert_eq!(nat_journal(&journal(&[])), Some(&[][..]));
+    }
+
+    #[test]
+    fn equal_and_unequal_entries() {
+        let mut equal = journal(&[5, 5]);
+        equal[15 + 4..].fill(0);
+        assert_eq!(nat_journal(&equal), None);
+        for at in 4..13 {
+            let mut unequal = equal.clone();
+            unequal[15 + at] = 1;
+            assert_eq!(nat_journal(&unequal), None, "byte {at}");
+        }
+        // The number alone tells them apart, each of its bytes.
+        for at in 0..4 {
+            let mut other = equal.clone();
+            other[15 + at] = 1;
+            assert!(nat_journal(&other).is_some(), "byte {at}");
+        }
+    }
+
+    #[test]
+    fn a_number_twice_in_plain_and_compact_packs() {
+        let places = [
+            (0x00, 0, 4, 3584), (0x01, 0, 1, 3584), (0x20, 0, 1, 3584), (0x21, 0, 1, 3584),
+            (0x04, 1, 1, 0), (0x05, 6, 6, 0), (0x24, 2, 2, 0), (0x25, 4, 4, 0),
+        ];
+        for (flags, summaries, block, at) in places {
+            let mut sample = Sample::new();
+            // In every place that holds a journal in some pack; only this pack's own counts.
+            for block in 1..7 {
+                for at in [0, 507, 3584] {
+                    sample.put_journal_at(FIRST_PACK + block, at, &[(5, 5, 4100), (5, 5, 4100)]);
+                }
+            }
+            sample.put32(FIRST_PACK, 140, summaries);
+            sample.put_flags(flags);
+            assert_eq!(answer(&sample), 8, "flags {flags:x}");
+            sample.put16(FIRST_PACK + block, at, 1);
+            assert_eq!(answer(&sample), 0, "flags {flags:x}");
+            let entries = [(5, 5, 4100), (6, 6, 4101), (5, 7, 4102)];
+            sample.put_journal_at(FIRST_PACK + block, at, &entries[..2]);
+            assert_eq!(answer(&sample), 0, "flags {flags:x}");
+            sample.put_journal_at(FIRST_PACK + block, at, &entries);
+            assert_eq!(answer(&sample), 8, "flags {flags:x}");
         }
     }
 }

@@ -351,7 +351,7 @@ fn slot_is_used(map: &[u8], slot: usize) -> bool {
 #[cfg(test)]
 mod tests {
     use super::*;
-    use crate::sample::Sample;
+    use crate::sample::{Sample, DAMAGE, FIRST_PACK};
 
     const NAME: &[u8] = b"file";
     const DATA: usize = 4200;
@@ -515,5 +515,33 @@ mod tests {
         lent.block.push(0xAA);
         assert_eq!(lent.pull(&sample, NAME, 0), refused);
         assert!(lent.block.iter().chain(&lent.nodes).chain(&lent.blocks).all(|&b| b == 0xAA));
+    }
+
+    #[test]
+    fn damaged_volumes_leave_everything_untouched() {
+        for damage in DAMAGE {
+            let mut sample = sample(4097);
+            assert_eq!(answer(&sample, NAME, 0).answer, 1);
+            damage(&mut sample, FIRST_PACK);
+            let mut lent = Lent::new();
+            let refused = |answer| Pulled { answer, ..Pulled::default() };
+            assert_eq!(lent.pull(&sample, NAME, 0), refused(8));
+            assert_eq!(lent.pull(&sample, b"other", 0), refused(8));
+            assert_eq!(lent.pull(&sample, b"a/b", 0), refused(4));
+            assert!(lent.block.iter().chain(&lent.nodes).chain(&lent.blocks).all(|&b| b == 0xAA));
+        }
+    }
+
+    #[test]
+    fn journalled_nodes() {
+        let mut sample = sample(4097);
+        // By the table both lie outside the main area.
+        sample.put_nat(2560, 3, 3, 1);
+        sample.put_nat(2560, 7, 7, 1);
+        assert_eq!(answer(&sample, NAME, 0).answer, 10);
+        sample.put_journal(&[(7, 7, 4098), (3, 3, 4096)]);
+        assert_eq!(answer(&sample, NAME, 0).answer, 1);
+        sample.put_journal(&[(7, 7, 4098), (3, 3, 4096), (7, 7, 4098)]);
+        assert_eq!(answer(&sample, NAME, 0).answer, 8);
     }
 }

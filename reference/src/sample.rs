@@ -83,10 +83,14 @@ impl Sample {
 
     /// Entries of number, inode and address in the first pack's journal.
     pub fn put_journal(&mut self, entries: &[(u32, u32, u32)]) {
-        let block = FIRST_PACK + 1;
-        self.put16(block, 3584, entries.len() as u16);
+        self.put_journal_at(FIRST_PACK + 1, 3584, entries);
+    }
+
+    /// The same from byte `at` of a block.
+    pub fn put_journal_at(&mut self, block: usize, at: usize, entries: &[(u32, u32, u32)]) {
+        self.put16(block, at, entries.len() as u16);
         for (position, &(number, inode, address)) in entries.iter().enumerate() {
-            let at = 3586 + 13 * position;
+            let at = at + 2 + 13 * position;
             self.put32(block, at, number);
             self.put32(block, at + 5, inode);
             self.put32(block, at + 9, address);
@@ -140,6 +144,20 @@ impl Sample {
         self.put(block, 2384 + 8 * slot, name);
     }
 }
+
+/// Ways to damage an unmounted pack of 8 blocks, which still passes: error, needs-check, a number
+/// twice in its NAT journal.
+pub const DAMAGE: [fn(&mut Sample, usize); 3] = [
+    |sample, pack| {
+        sample.put32(pack, 132, 0x09);
+        sample.seal(pack);
+    },
+    |sample, pack| {
+        sample.put32(pack, 132, 0x11);
+        sample.seal(pack);
+    },
+    |sample, pack| sample.put_journal_at(pack + 1, 3584, &[(20, 20, 4100), (20, 20, 4100)]),
+];
 
 /// A SIT entry's bytes: the word, a map with its lowest `ones` bits set, and a time of ones that
 /// nobody may count.

@@ -131,7 +131,7 @@ pub fn sit_block_address(sit_address: u32, sit_segments: u32, b: u32, bit: bool)
 mod tests {
     use super::*;
     use crate::lookup::node_lookup;
-    use crate::sample::{sit_entry, Sample, FIRST_PACK, SECOND_PACK};
+    use crate::sample::{sit_entry, Sample, DAMAGE, FIRST_PACK, SECOND_PACK};
 
     /// The table's first block, in the first and in the second copy.
     const SIT: usize = 1536;
@@ -299,6 +299,38 @@ mod tests {
         let entries = [(7, sit_entry(1, 1)), (0, sit_entry(2, 3)), (0, sit_entry(4, 4))];
         sample.put_sit_journal(block, at, &entries);
         assert_eq!(ones_and_listed(&sample), (3, vec![0]));
+    }
+
+    #[test]
+    fn first_of_equals_is_no_rule_of_the_nat_journal() {
+        let twice = [(5, 5, 4100), (5, 5, 4100)];
+        let entries = [(0, sit_entry(2, 3)), (0, sit_entry(4, 4))];
+        // The NAT and the SIT journal of a plain and of a compact pack.
+        let plain = (0x01, (FIRST_PACK + 1, 3584), JOURNAL);
+        let compact = (0x05, (FIRST_PACK + 1, 0), (FIRST_PACK + 1, 507));
+        for (flags, nat, sit) in [plain, compact] {
+            let mut sample = Sample::new();
+            sample.put32(FIRST_PACK, 140, 1);
+            sample.put_flags(flags);
+            sample.put_sit_journal(sit.0, sit.1, &entries);
+            sample.put_journal_at(nat.0, nat.1, &twice[..1]);
+            assert_eq!(ones_and_listed(&sample), (3, vec![0]), "flags {flags:x}");
+            assert_eq!(node_lookup(&sample.bytes, 5), Ok((5, 4100)), "flags {flags:x}");
+            sample.put_journal_at(nat.0, nat.1, &twice);
+            assert_eq!(refusal(&sample, 4), 8, "flags {flags:x}");
+            assert_eq!(node_lookup(&sample.bytes, 5), Err(8), "flags {flags:x}");
+        }
+    }
+
+    #[test]
+    fn damage_is_8_before_a_short_list_is_4() {
+        for damage in DAMAGE {
+            let mut sample = Sample::new();
+            assert_eq!(refusal(&sample, 3), 4);
+            damage(&mut sample, FIRST_PACK);
+            assert_eq!(refusal(&sample, 3), 8);
+            assert_eq!(refusal(&sample, 4), 8);
+        }
     }
 
     #[test]

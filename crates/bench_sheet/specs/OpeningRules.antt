@@ -3,14 +3,15 @@
 use mathlib.Core.Path.{refl}
 use mathlib.Core.List.{List, [], _∷_, _++_}
 use mathlib.Core.List as List
-use Prim.Native.Nat.{ℕ, _+_, _-_, _*_, _/_}
-use lib.ListN.{set, replicate}
+use Prim.Native.Nat.{ℕ, zero, suc, _+_, _-_, _*_, _/_}
+use lib.ListN.{length, set, replicate}
 use lib.Dec.{eqb, leb}
 use Rattle.field.specs.Number.{le16, le32, le64}
 use Rattle.field.specs.Bytes.{sameAt}
 use Rattle.field.specs.Card.{Card}
 use Rattle.field.specs.Choice.{choose}
 use Rattle.list.specs.Lists.{bytesOf}
+use Rattle.journal.specs.Journal.{searchFrom, twiceAmong, namesTwice}
 use Rattle.superblock.specs.declared.Areas.{Areas}
 use Rattle.superblock.specs.declared.Found.{Found}
 use Rattle.superblock.specs.declared.Found.the-variants as f
@@ -24,8 +25,8 @@ use Rattle.checkpoint.specs.declared.Opening.{Opening}
 use Rattle.checkpoint.specs.declared.Opening.the-variants.{Opened, Refused}
 use Rattle.checkpoint.specs.Checkpoint.{checkpointOf}
 use Rattle.checkpoint.specs.Pack.{newer}
-use Rattle.checkpoint.specs.Journal.{journalIn, journalPlaced, journalAt}
-use Rattle.checkpoint.specs.Volume.{mapsReadable, journalReadable, openPack, openChosen, openAreas}
+use Rattle.checkpoint.specs.Journal.{damaged, journalIn, journalPlaced, journalAt}
+use Rattle.checkpoint.specs.Volume.{mapsReadable, headerReadable, journalReadable, openPack, openChosen, openAreas}
 use Rattle.bench_sheet.specs.Line.{Line, _is_, Holds, yes}
 use Rattle.bench_sheet.specs.Volume004.{words, superblock, card004, mainNumbers}
 
@@ -179,15 +180,33 @@ readable flags sitMap natMap = yes (mapsReadable (areas 2 2) (header 5 flags 16 
 abbrev fitting : ℕ → ℕ → ℕ
 fitting sit nat = yes (mapsReadable (areas sit nat) (header 5 0 16 5 (32 * sit) (32 * nat)))
 
--- a card with a compact pack at block 512: its first block, and a journal of so many entries in its block 5
-abbrev packCard : ℕ → ℕ → Card
-packCard flags entries =
+-- the same with flags alone, which K9 looks at too
+abbrev marked : ℕ → ℕ
+marked flags = yes (headerReadable (areas 2 2) (header 5 flags 16 5 64 64))
+
+-- entries of a NAT journal with the numbers
+abbrev entries : List ℕ → List ℕ
+entries [] = []
+entries (number ∷ numbers) = bytesOf (number ∷ []) ++ replicate 9 0 ++ entries numbers
+
+-- so many different numbers
+abbrev different : ℕ → List ℕ
+different zero = []
+different (suc n) = n ∷ different n
+
+-- whether a journal is read that counts so many of its entries
+abbrev counted : ℕ → List ℕ → ℕ
+counted count numbers = yes (journalReadable ((count ∷ 0 ∷ []) ++ entries numbers))
+
+-- a card with a compact pack at block 512: its first block, and a journal with the numbers in its block 5
+abbrev packCard : ℕ → List ℕ → Card
+packCard flags numbers =
     record {
       blocks = 25600;
       block =
           λ b.
           choose (eqb b 512) (replicate 132 0 ++ bytesOf (flags ∷ 16 ∷ 5 ∷ 0 ∷ 0 ∷ 0 ∷ 64 ∷ 64 ∷ 4092 ∷ []) ++ replicate 3928 0)
-          (choose (eqb b 517) (entries ∷ replicate 4095 0) (replicate 4096 0));
+          (choose (eqb b 517) (length numbers ∷ 0 ∷ entries numbers) (replicate 4096 0));
     }
 
 -- where the chosen pack's NAT map and journal are, or the answer
@@ -233,14 +252,25 @@ checkpointRules =
     -- "or the journal block is out of place"
     ∷ (List.map (λ start. yes (mapsReadable (areas 2 2) (header 5 4 16 start 64 64))) (0 ∷ 1 ∷ 14 ∷ 15 ∷ []) is (0 ∷ 1 ∷ 1 ∷ 0 ∷ []))
     -- "A journal is a 16-bit count, at most 38 (else 8)"; "The SIT map starts at 192, the NAT map after it."
-    ∷ (List.map (λ count. yes (journalReadable (count ∷ 0 ∷ []))) (0 ∷ 38 ∷ 39 ∷ []) is (1 ∷ 1 ∷ 0 ∷ []))
+    ∷ (List.map (λ count. counted count (different count)) (0 ∷ 38 ∷ 39 ∷ []) is (1 ∷ 1 ∷ 0 ∷ []))
     ∷ ((yes (journalReadable (0 ∷ 1 ∷ [])) ∷ []) is (0 ∷ []))
-    ∷ (opening (openPack (packCard 4 38) (areas 2 2) 512) is (256 ∷ 517 ∷ 0 ∷ []))
-    ∷ (opening (openPack (packCard 4 39) (areas 2 2) 512) is (8 ∷ []))
+    ∷ (opening (openPack (packCard 4 (different 38)) (areas 2 2) 512) is (256 ∷ 517 ∷ 0 ∷ []))
+    ∷ (opening (openPack (packCard 4 (different 39)) (areas 2 2) 512) is (8 ∷ []))
+    -- K9: "Answer 8 also if the chosen pack's flags hold error (8) or needs-check (10 hex)": each, both, and all others but the large map
+    ∷ (List.map marked (0 ∷ 8 ∷ 0x10 ∷ 0x18 ∷ 0xFFFFFFFF ∷ 0xFFFFFBE7 ∷ []) is (1 ∷ 0 ∷ 0 ∷ 0 ∷ 0 ∷ 1 ∷ []))
+    ∷ (opening (openPack (packCard 0xC []) (areas 2 2) 512) ++ opening (openPack (packCard 0x14 []) (areas 2 2) 512) is (8 ∷ 8 ∷ []))
+    -- "or the NAT journal names one number twice": side by side, and apart
+    ∷ ((counted 2 (5 ∷ 6 ∷ []) ∷ counted 2 (5 ∷ 5 ∷ []) ∷ []) is (1 ∷ 0 ∷ []))
+    ∷ ((counted 3 (5 ∷ 5 ∷ 6 ∷ []) ∷ counted 3 (5 ∷ 6 ∷ 5 ∷ []) ∷ counted 3 (6 ∷ 5 ∷ 5 ∷ []) ∷ []) is (0 ∷ 0 ∷ 0 ∷ []))
+    ∷ (opening (openPack (packCard 4 (5 ∷ 6 ∷ 5 ∷ [])) (areas 2 2) 512) is (8 ∷ []))
+    -- any number, though it isn't valid; all four bytes of it count; what is behind the count isn't named
+    ∷ ((counted 2 (0 ∷ 0 ∷ []) ∷ counted 2 (0xFFFFFFFF ∷ 0xFFFFFFFF ∷ []) ∷ []) is (0 ∷ 0 ∷ []))
+    ∷ ((counted 2 (5 ∷ 0x1000005 ∷ []) ∷ counted 2 (5 ∷ 0x105 ∷ []) ∷ []) is (1 ∷ 1 ∷ []))
+    ∷ ((counted 2 (5 ∷ 6 ∷ 5 ∷ []) ∷ counted 1 (5 ∷ 5 ∷ []) ∷ []) is (1 ∷ 1 ∷ []))
     -- 8: "chosen pack not readable"; 7: "no checkpoint pack passes"; 5 and 6 come before them
-    ∷ (opening (openPack (packCard 0x404 38) (areas 2 2) 512) is (8 ∷ []))
-    ∷ (opening (openChosen (packCard 4 38) (areas 2 2) Nothing) is (7 ∷ []))
-    ∷ (opening (openAreas (packCard 4 38) (f.Refused 5)) ++ opening (openAreas (packCard 4 38) (f.Refused 6)) is (5 ∷ 6 ∷ []))
+    ∷ (opening (openPack (packCard 0x404 (different 38)) (areas 2 2) 512) is (8 ∷ []))
+    ∷ (opening (openChosen (packCard 4 (different 38)) (areas 2 2) Nothing) is (7 ∷ []))
+    ∷ (opening (openAreas (packCard 4 (different 38)) (f.Refused 5)) ++ opening (openAreas (packCard 4 (different 38)) (f.Refused 6)) is (5 ∷ 6 ∷ []))
     ∷ []
 
 pub superblock-rules : Holds superblockRules
@@ -248,5 +278,6 @@ unfolding le16 le32 le64 sameAt bytesOf inShape superblockOf logsPass unitsPass 
 superblock-rules = refl
 
 pub checkpoint-rules : Holds checkpointRules
-unfolding le16 le32 le64 bytesOf checkpointOf newer journalIn journalPlaced journalAt mapsReadable journalReadable openPack
+unfolding le16 le32 le64 bytesOf checkpointOf newer journalIn journalPlaced journalAt searchFrom twiceAmong namesTwice damaged mapsReadable
+    headerReadable journalReadable openPack
 checkpoint-rules = refl

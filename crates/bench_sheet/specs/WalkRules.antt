@@ -65,13 +65,13 @@ natEntry ino address = 255 ∷ bytesOf (ino ∷ address ∷ [])
 abbrev journalEntry : ℕ → ℕ → ℕ → List ℕ
 journalEntry number ino address = bytesOf (number ∷ []) ++ natEntry ino address
 
--- its card: number 7 twice in a journal of three, number 8 last in it, number 9 behind its end. Of table block 0 the first copy
--- is in use, of table block 1 the second
+-- its card: numbers 6, 7 and 8 in a journal of three, number 9 behind its end. Of table block 0 the first copy is in use, of table
+-- block 1 the second
 abbrev natBlock : ℕ → List ℕ
 natBlock b =
     choose (eqb b 512) (replicate 256 0 ++ (0x40 ∷ []))
     (choose (eqb b 517)
-    ((3 ∷ 0 ∷ []) ++ journalEntry 7 71 5001 ++ journalEntry 7 72 5002 ++ journalEntry 8 81 5003 ++ journalEntry 9 91 5004)
+    ((3 ∷ 0 ∷ []) ++ journalEntry 6 61 5001 ++ journalEntry 7 71 5002 ++ journalEntry 8 81 5003 ++ journalEntry 9 91 5004)
     (choose (eqb b 2560) (replicate 63 0 ++ natEntry 73 6001 ++ natEntry 83 6002 ++ natEntry 93 6003 ++ replicate 3996 0 ++ natEntry 94 6004)
     (choose (eqb b 3073) (natEntry 95 6005) [])))
 
@@ -87,8 +87,9 @@ lookupRules =
     -- "Valid numbers are 1 to 455 × 256 × NAT segments − 1."
     (List.map (λ number. yes (inRange volume number)) (0 ∷ 1 ∷ 232959 ∷ 232960 ∷ []) is (0 ∷ 1 ∷ 1 ∷ 0 ∷ []))
     ∷ (looked 0 ++ looked 232960 is (9 ∷ 9 ∷ []))
-    -- "The first journal entry with the number decides." "13-byte entries: number, then a NAT entry", which is "version, inode, address"
-    ∷ (looked 7 is (0 ∷ 71 ∷ 5001 ∷ []))
+    -- the journal comes before the table: "13-byte entries: number, then a NAT entry", which is "version, inode, address"
+    ∷ (looked 6 is (0 ∷ 61 ∷ 5001 ∷ []))
+    ∷ (looked 7 is (0 ∷ 71 ∷ 5002 ∷ []))
     ∷ (looked 8 is (0 ∷ 81 ∷ 5003 ∷ []))
     -- "Otherwise table block b = number / 455", of "455 entries of 9 bytes"
     ∷ (looked 9 is (0 ∷ 93 ∷ 6003 ∷ []))

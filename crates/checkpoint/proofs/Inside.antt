@@ -1,17 +1,18 @@
 -- What is known of an opened volume, so that a reader of it opens no definition: all that it names lies inside the card. And
 -- which answers refuse a card.
 use mathlib.Core.Path.{_≡_, refl, sym, _∙_}
-use mathlib.Core.Bool.{true}
+use mathlib.Core.Bool.{true, false, and-false}
 use mathlib.Core.List.{List}
 use mathlib.Core.Logic.{_⊎_, inl, inr, ⊎-elim}
 use Prim.Native.Nat.{ℕ, _≤_, _<_}
 use native.Mathlib.Omega.{arith}
-use borrow.Author.Tests.{leb-true}
+use borrow.Author.Tests.{not-true}
 use lib.ListN.{length, length-drop}
 use Rattle.field.specs.Number.{le16}
 use Rattle.field.specs.Card.{Card, cardOf}
-use Rattle.field.proofs.Choosing.{either}
+use Rattle.field.proofs.Choosing.{either, needed, needed-le}
 use Rattle.field.proofs.Blocks.{length-block}
+use Rattle.journal.specs.Journal.{namesTwice}
 use Rattle.superblock.specs.Shape.{inShape}
 use Rattle.superblock.specs.Areas.{found, AreasIn}
 use Rattle.superblock.specs.declared.Areas.{Areas}
@@ -26,12 +27,12 @@ use Rattle.checkpoint.specs.declared.Opening.{Opening}
 use Rattle.checkpoint.specs.declared.Opening.the-variants.{Opened, Refused}
 use Rattle.checkpoint.specs.Pack.{secondPack, packPasses, chosen}
 use Rattle.checkpoint.specs.Checkpoint.{headerOf}
-use Rattle.checkpoint.specs.Volume.{mapsReadable, volumeOf, journalOf, journalReadable, openPack, openChosen, openAreas}
+use Rattle.checkpoint.specs.Volume.{mapsReadable, headerReadable, volumeOf, journalOf, journalReadable, openPack, openChosen, openAreas}
 use Rattle.checkpoint.specs.Volume.{opened, openedImage, PlacesIn, VolumeIn}
 use Rattle.checkpoint.proofs.Choosing.{chosen-passes}
 use Rattle.checkpoint.proofs.Passing.{passing-total}
-use Rattle.checkpoint.proofs.Reading.{journal-starts, map-starts, map-inside, cold-inside, journal-inside}
-use Rattle.checkpoint.proofs.Ways.{maps-refuse, journal-refuses, pack-opens, shape-refuses, shape-opens}
+use Rattle.checkpoint.proofs.Reading.{journal-starts, map-starts, map-inside, cold-inside, journal-inside, readable-maps}
+use Rattle.checkpoint.proofs.Ways.{header-refuses, journal-refuses, pack-opens, shape-refuses, shape-opens}
 
 -- an opening is an answer from 5 to 8, or a volume inside the card
 abbrev OpeningEnds : Card → Opening → Type 0
@@ -40,9 +41,14 @@ OpeningEnds card o = ((n : ℕ) × (5 ≤ n) × (n ≤ 8) × (o ≡ Refused n)) 
 ends-refused : {card : Card} {o : Opening} (n : ℕ) → 5 ≤ n → n ≤ 8 → o ≡ Refused n → OpeningEnds card o
 ends-refused n l m e = inl (n, l, m, e)
 
-journal-count : (journal : List ℕ) → journalReadable journal ≡ true → le16 journal 0 ≤ 38
-unfolding journalReadable
-journal-count journal h = leb-true _ _ h
+module _ (journal : List ℕ) (h : journalReadable journal ≡ true) where
+  journal-count : le16 journal 0 ≤ 38
+  unfolding journalReadable
+  journal-count = needed-le (λ p. rw p) h
+
+  journal-once : namesTwice 13 journal ≡ false
+  unfolding journalReadable
+  journal-once = not-true _ (needed (λ p. simp (p, and-false)) h)
 
 module _ (card : Card) (a : Areas) (areas : AreasIn (card .blocks) a) where
   module _ (start : ℕ) (near : start ≤ secondPack (a .checkpoint)) (p : packPasses card start ≡ true) where
@@ -64,19 +70,23 @@ module _ (card : Card) (a : Areas) (areas : AreasIn (card .blocks) a) where
           journalStarts = journal-starts header;
         }
 
+    volume-readable : headerReadable a header ≡ true → journalReadable (journalOf card volume) ≡ true → VolumeIn card volume
+    volume-readable h j =
+        record {
+          places = places-in (readable-maps a header h);
+          journalCount = journal-count (journalOf card volume) j;
+          journalOnce = journal-once (journalOf card volume) j;
+        }
+
     pack-ends : OpeningEnds card (openPack card a start)
     pack-ends =
-        ⊎-elim (λ m.
+        ⊎-elim (λ h.
         ⊎-elim (λ j.
-        inr (
-          volume,
-          record { places = places-in m; journalCount = journal-count (journalOf card volume) j },
-          pack-opens card a start header refl volume refl m j,
-        ))
-        (λ j. ends-refused 8 (omega arith) (omega arith) (journal-refuses card a start header refl volume refl m j))
+        inr (volume, volume-readable h j, pack-opens card a start header refl volume refl h j))
+        (λ j. ends-refused 8 (omega arith) (omega arith) (journal-refuses card a start header refl volume refl h j))
         (either (journalReadable (journalOf card volume))))
-        (λ m. ends-refused 8 (omega arith) (omega arith) (maps-refuse card a start header refl m))
-        (either (mapsReadable a header))
+        (λ h. ends-refused 8 (omega arith) (omega arith) (header-refuses card a start header refl h))
+        (either (headerReadable a header))
 
   chosen-ends : (k : Chosen) → chosen card (a .checkpoint) ≡ k → OpeningEnds card (openChosen card a k)
   chosen-ends (c.Pack start) e =

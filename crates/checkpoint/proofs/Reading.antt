@@ -9,7 +9,7 @@ use Rattle.field.proofs.Choosing.{either, needed, needed-eq, needed-le}
 use Rattle.superblock.specs.declared.Areas.{Areas}
 use Rattle.checkpoint.specs.declared.Checkpoint.{Checkpoint}
 use Rattle.checkpoint.specs.Journal.{unmount, fastboot, compact, journalIn, journalPlaced, journalAt}
-use Rattle.checkpoint.specs.Volume.{natMapAt, mapsReadable}
+use Rattle.checkpoint.specs.Volume.{natMapAt, mapsReadable, headerReadable}
 
 module _ (cp : Checkpoint) where
   pub journal-starts : (journalAt cp ≡ 0) ⊎ (journalAt cp ≡ 3584)
@@ -57,3 +57,8 @@ module _ (a : Areas) (cp : Checkpoint) (h : mapsReadable a cp ≡ true) where
   pub journal-inside : journalIn cp ≤ cp .«cp_pack_total_block_count» - 2
   unfolding mapsReadable
   journal-inside = journal-before cp (needed (λ p. simp (p, and-false)) h)
+
+-- a header that is readable has readable maps
+pub readable-maps : (a : Areas) (cp : Checkpoint) → headerReadable a cp ≡ true → mapsReadable a cp ≡ true
+unfolding headerReadable
+readable-maps a cp h = needed (λ p. simp (p, and-false)) h

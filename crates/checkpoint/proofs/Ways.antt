@@ -13,15 +13,15 @@ use Rattle.checkpoint.specs.declared.Checkpoint.{Checkpoint}
 use Rattle.checkpoint.specs.declared.Volume.{Volume}
 use Rattle.checkpoint.specs.declared.Opening.the-variants.{Opened, Refused}
 use Rattle.checkpoint.specs.Checkpoint.{headerOf}
-use Rattle.checkpoint.specs.Volume.{mapsReadable, volumeOf, journalOf, journalReadable, openPack, openAreas, opened, openedImage}
+use Rattle.checkpoint.specs.Volume.{headerReadable, volumeOf, journalOf, journalReadable, openPack, openAreas, opened, openedImage}
 
 -- the three ways of a chosen pack, by its header
 module _ (card : Card) (a : Areas) (start : ℕ) (cp : Checkpoint) (read : cp ≡ headerOf card start) where
-  pub maps-refuse : mapsReadable a cp ≡ false → openPack card a start ≡ Refused 8
+  pub header-refuses : headerReadable a cp ≡ false → openPack card a start ≡ Refused 8
   unfolding openPack
-  maps-refuse p = rw (← read, p)
+  header-refuses p = rw (← read, p)
 
-  module _ (v : Volume) (e : v ≡ volumeOf a start cp) (p : mapsReadable a cp ≡ true) where
+  module _ (v : Volume) (e : v ≡ volumeOf a start cp) (p : headerReadable a cp ≡ true) where
     pub journal-refuses : journalReadable (journalOf card v) ≡ false → openPack card a start ≡ Refused 8
     unfolding openPack
     journal-refuses q = rw (← read, p, rw e at q)

@@ -1,4 +1,4 @@
--- Where the NAT journal of a pack is, by the pack's header.
+-- What a pack's flags say, and where its NAT journal is, by the pack's header.
 use mathlib.Core.List.{List}
 use mathlib.Core.Bool.{Bool, _&&_, _||_}
 use Prim.Native.Nat.{ℕ, _-_, _/_, _%_}
@@ -25,6 +25,10 @@ fastboot cp = flagSet (cp .«ckpt_flags») 32
 
 abbrev pub largeNatMap : Checkpoint → Bool
 largeNatMap cp = flagSet (cp .«ckpt_flags») 1024
+
+-- K9: "the chosen pack's flags hold error (8) or needs-check (10 hex)"; in Linux, CP_ERROR_FLAG and CP_FSCK_FLAG
+unfoldable pub damaged : Checkpoint → Bool
+damaged cp = flagSet (cp .«ckpt_flags») 8 || flagSet (cp .«ckpt_flags») 16
 
 -- the journal block, counted in the pack. "Compact: the journal block is the start-of-summaries number (140)"; "Else it is block
 -- total − 7 with unmount or fastboot, total − 4 without": 0 where the pack is too short for that

@@ -9,7 +9,7 @@ use lib.Dec.{eqb, leb}
 use Rattle.field.specs.Number.{le16}
 use Rattle.field.specs.Card.{Card, cardOf}
 use Rattle.field.specs.Choice.{choose}
-use Rattle.journal.specs.Journal.{countWithin}
+use Rattle.journal.specs.Journal.{countWithin, namesTwice}
 use Rattle.superblock.specs.Shape.{inShape}
 use Rattle.superblock.specs.Areas.{found, AreasIn}
 use Rattle.superblock.specs.declared.Areas.{Areas}
@@ -23,7 +23,7 @@ use Rattle.checkpoint.specs.declared.Opening.{Opening}
 use Rattle.checkpoint.specs.declared.Opening.the-variants.{Opened, Refused}
 use Rattle.checkpoint.specs.Checkpoint.{headerOf}
 use Rattle.checkpoint.specs.Pack.{chosen}
-use Rattle.checkpoint.specs.Journal.{compactIn, largeNatMap, journalIn, journalPlaced, journalAt}
+use Rattle.checkpoint.specs.Journal.{compactIn, largeNatMap, damaged, journalIn, journalPlaced, journalAt}
 
 -- "The SIT map starts at 192, the NAT map after it"
 abbrev pub natMapAt : Checkpoint → ℕ
@@ -36,6 +36,10 @@ mapsReadable a cp =
     not (largeNatMap cp) && eqb (cp .«sit_ver_bitmap_bytesize») (32 * a .«sit_segments»)
     && eqb (cp .«nat_ver_bitmap_bytesize») (32 * a .«nat_segments»)
     && leb (192 + cp .«sit_ver_bitmap_bytesize» + cp .«nat_ver_bitmap_bytesize») 4092 && journalPlaced cp
+
+-- K9: "Answer 8 also if" a flag says that the volume is damaged
+unfoldable pub headerReadable : Areas → Checkpoint → Bool
+headerReadable a cp = not (damaged cp) && mapsReadable a cp
 
 -- the volume of the areas and a pack: where the pack starts, and its header
 abbrev pub volumeOf : Areas → ℕ → Checkpoint → Volume
@@ -54,15 +58,15 @@ volumeOf a start cp =
 abbrev pub journalOf : Card → Volume → List ℕ
 journalOf card v = drop (v .«journal_at») (card .block (v .«journal_block»))
 
--- "A journal is a 16-bit count, at most 38 (else 8)"
+-- "A journal is a 16-bit count, at most 38 (else 8), then 13-byte entries"; K9: 8 "also if .. the NAT journal names one number twice"
 unfoldable pub journalReadable : List ℕ → Bool
-journalReadable journal = countWithin 38 journal
+journalReadable journal = countWithin 38 journal && not (namesTwice 13 journal)
 
 -- what makes a chosen pack readable; if it isn't, the answer is 8
 unfoldable pub openPack : Card → Areas → ℕ → Opening
 openPack card a start =
     let v : Volume = volumeOf a start (headerOf card start) in
-    choose (mapsReadable a (headerOf card start) && journalReadable (journalOf card v)) (Opened v) (Refused 8)
+    choose (headerReadable a (headerOf card start) && journalReadable (journalOf card v)) (Opened v) (Refused 8)
 
 abbrev pub openChosen : Card → Areas → Chosen → Opening
 openChosen card a (c.Pack start) = openPack card a start
@@ -99,3 +103,4 @@ pub record PlacesIn (blocks : ℕ) (v : Volume) : Type 0 where
 pub record VolumeIn (card : Card) (v : Volume) : Type 0 where
   pub places : PlacesIn (card .blocks) v
   pub journalCount : le16 (journalOf card v) 0 ≤ 38
+  pub journalOnce : namesTwice 13 (journalOf card v) ≡ false

@@ -10,13 +10,17 @@ ghost use Rattle.superblock.specs.Shape.{InShape};
 ghost use Rattle.superblock.specs.Areas.{AreasIn};
 ghost use Rattle.checkpoint.specs.Checkpoint.{checkpointOf};
 ghost use Rattle.checkpoint.specs.Pack.{blockPasses, firstPasses, lastPasses, packPasses, newer, chosen};
-ghost use Rattle.checkpoint.specs.Journal.{flagSet, unmount, fastboot, journalIn, journalPlaced, journalAt};
-ghost use Rattle.checkpoint.specs.Volume.{mapsReadable, volumeOf, journalOf, journalReadable, openPack, openChosen, openedImage};
+ghost use Rattle.checkpoint.specs.Journal.{flagSet, damaged, unmount, fastboot, journalIn, journalPlaced, journalAt};
+ghost use Rattle.checkpoint.specs.Volume.{mapsReadable, headerReadable, volumeOf, journalOf, journalReadable, openPack, openChosen, openedImage};
 
 // The flags of a pack.
 const UNMOUNT: u32 = 1;
 
 pub const COMPACT: u32 = 4;
+
+const ERROR: u32 = 8;
+
+const NEEDS_CHECK: u32 = 16;
 
 const FASTBOOT: u32 = 32;
 
@@ -182,6 +186,13 @@ pub fn flag_set(flags: u32, one: u32) -> bool
     flags / one % 2 == 1
 }
 
+// Whether a pack's flags say that the volume is damaged.
+fn damaged(cp: Checkpoint) -> bool
+    ensures { λ r. ⌜ r ≡ damaged cp ⌝ }
+{
+    flag_set(cp.ckpt_flags, ERROR) | flag_set(cp.ckpt_flags, NEEDS_CHECK)
+}
+
 // How far before the pack's end the journal block of a pack that isn't compact is.
 fn journal_back(cp: Checkpoint) -> u32
     ensures { λ r. ⌜ r ≡ choose (unmount cp || fastboot cp) 7 4 ⌝ }
@@ -224,7 +235,7 @@ fn journal_at(cp: Checkpoint) -> u32
 }
 
 // In 64 bits the sums are exact, whatever sizes the header names.
-pub fn maps_readable(areas: superblock::Areas, cp: Checkpoint) -> bool
+fn maps_readable(areas: superblock::Areas, cp: Checkpoint) -> bool
     requires { ⌜ 2 ≤ cp .«cp_pack_total_block_count» ⌝ }
     ensures { λ r. ⌜ r ≡ mapsReadable areas cp ⌝ }
 {
@@ -235,6 +246,13 @@ pub fn maps_readable(areas: superblock::Areas, cp: Checkpoint) -> bool
         & (nat == 32 * (areas.nat_segments as u64))
         & (192 + sit + nat <= 4092)
         & journal_placed(cp)
+}
+
+pub fn header_readable(areas: superblock::Areas, cp: Checkpoint) -> bool
+    requires { ⌜ 2 ≤ cp .«cp_pack_total_block_count» ⌝ }
+    ensures { λ r. ⌜ r ≡ headerReadable areas cp ⌝ }
+{
+    !damaged(cp) & maps_readable(areas, cp)
 }
 
 // The volume of a pack whose maps are readable: each sum is a block address, or an offset in a block.
@@ -266,10 +284,13 @@ pub fn journal_of(image: &[u8], v: Volume) -> &[u8]
 }
 
 pub fn journal_readable(journal: &[u8]) -> bool
-    requires { ⌜ 2 ≤ length (now journal) ⌝ }
+    requires { ⌜ 496 ≤ length (now journal) ⌝ }
     ensures { λ r. ⌜ r ≡ journalReadable (now (journal .entry)) ⌝ }
 {
-    journal::count_within(journal, 38)
+    if !journal::count_within(journal, 38) {
+        return false;
+    }
+    !journal::names_twice(journal, 13)
 }
 
 fn open_pack(image: &[u8], areas: superblock::Areas, start: u32) -> Opening
@@ -279,7 +300,7 @@ fn open_pack(image: &[u8], areas: superblock::Areas, start: u32) -> Opening
     ensures { λ r. ⌜ r ≡ openPack (cardOf (now (image .entry))) areas start ⌝ }
 {
     let cp = checkpoint_of(field::block_at(image, start));
-    if !maps_readable(areas, cp) {
+    if !header_readable(areas, cp) {
         return Opening::Refused(answer::UNREADABLE);
     }
     let volume = volume_of(areas, start, cp);

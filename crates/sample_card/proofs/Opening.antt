@@ -3,6 +3,7 @@ use mathlib.Core.Path.{_≡_, refl}
 use mathlib.Core.Bool.{true, false}
 use Rattle.field.specs.Number.{le16, le32, le64}
 use Rattle.field.specs.Bytes.{sameAt}
+use Rattle.journal.specs.Journal.{searchFrom, twiceAmong, namesTwice}
 use Rattle.superblock.specs.declared.Found.the-variants.{At}
 use Rattle.superblock.specs.Superblock.{superblockOf, logsPass, unitsPass, countsPass, areasPass, endsPass, fieldsPass, passes}
 use Rattle.superblock.specs.Areas.{found}
@@ -10,8 +11,8 @@ use Rattle.checkpoint.specs.declared.Chosen.the-variants.{Pack}
 use Rattle.checkpoint.specs.declared.Opening.the-variants.{Opened}
 use Rattle.checkpoint.specs.Pack.{blockPasses, packPasses, chosen, firstPasses, lastPasses}
 use Rattle.checkpoint.specs.Checkpoint.{checkpointOf}
-use Rattle.checkpoint.specs.Journal.{journalIn, journalPlaced, journalAt}
-use Rattle.checkpoint.specs.Volume.{mapsReadable, journalReadable, openPack, opened}
+use Rattle.checkpoint.specs.Journal.{damaged, journalIn, journalPlaced, journalAt}
+use Rattle.checkpoint.specs.Volume.{mapsReadable, headerReadable, journalReadable, openPack, opened}
 use Rattle.list.specs.Lists.{bytesOf}
 use Rattle.sample_card.specs.Image.{filled, zeros, superblock, checksum, pack, journal, runs, blockIn, card}
 use Rattle.sample_card.specs.Volume.{areas, volume}
@@ -47,7 +48,8 @@ first-chosen = rw (first-passes, second-fails)
 
 -- ---- the volume
 pack-opens : openPack card areas 512 ≡ Opened volume
-unfolding runs blockIn pack journal filled bytesOf le16 le32 checkpointOf journalIn journalPlaced journalAt mapsReadable journalReadable openPack
+unfolding runs blockIn pack journal filled bytesOf le16 le32 checkpointOf searchFrom twiceAmong namesTwice journalIn journalPlaced journalAt damaged
+    mapsReadable headerReadable journalReadable openPack
 pack-opens = refl
 
 pub card-opens : opened card ≡ Opened volume

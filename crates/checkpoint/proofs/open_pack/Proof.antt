@@ -5,11 +5,11 @@ use native.Mathlib.Omega.{arith}
 use Rattle.field.specs.Card.{cardOf}
 use Rattle.field.proofs.Blocks.{length-of-block}
 use Rattle.checkpoint.specs.Checkpoint.{headerOf}
-use Rattle.checkpoint.specs.Volume.{mapsReadable}
+use Rattle.checkpoint.specs.Volume.{mapsReadable, headerReadable}
 use Rattle.checkpoint.proofs.Passing.{passing-total}
-use Rattle.checkpoint.proofs.Reading.{journal-at-most, journal-inside}
+use Rattle.checkpoint.proofs.Reading.{journal-at-most, journal-inside, readable-maps}
 use Rattle.checkpoint.proofs.Inside.{journal-room}
-use Rattle.checkpoint.proofs.Ways.{maps-refuse, journal-refuses, pack-opens}
+use Rattle.checkpoint.proofs.Ways.{header-refuses, journal-refuses, pack-opens}
 use Rattle.checkpoint.proofs.Negated.{fails, holds}
 use borrow.Author.Needs.{needs}
 use Rattle.checkpoint.proofs.open_pack.Statement.{statement}
@@ -26,9 +26,12 @@ total : (k : tie.After-checkpoint-of) → let cp = k .checkpoint-of .result in
     (2 ≤ cp .«cp_pack_total_block_count») × (cp .«cp_pack_total_block_count» ≤ 512)
 total k = rw (read-of k) (passing-total _ _ (start-of k .pre .1 .1))
 
--- the maps are readable
+-- the header is readable
+readable : (k : tie.Else1) → let read = k .before .before in headerReadable (start-of read .args .areas) (read .checkpoint-of .result) ≡ true
+readable k = holds (k .before .header-readable .ensures) (k .if1 .left)
+
 maps : (k : tie.Else1) → let read = k .before .before in mapsReadable (start-of read .args .areas) (read .checkpoint-of .result) ≡ true
-maps k = holds (k .before .maps-readable .ensures) (k .if1 .left)
+maps k = readable-maps _ _ (readable k)
 
 -- the journal lies in the card
 placed : (k : tie.After-volume-of) → let v = k .volume-of .result in
@@ -44,13 +47,13 @@ checkpoint-of-requires : tie.Need-checkpoint-of-requires
 checkpoint-of-requires c κs =
     length-of-block _ _ (omega arith) (c .block-at .ensures)
 
-maps-readable-requires : tie.Need-maps-readable-requires
-maps-readable-requires c κs =
+header-readable-requires : tie.Need-header-readable-requires
+header-readable-requires c κs =
     total c .0
 
 returns : tie.Need-returns
 returns c =
-    sym (maps-refuse _ _ _ _ (read-of (c .before .before)) (fails (c .before .maps-readable .ensures) (c .if1 .taken)))
+    sym (header-refuses _ _ _ _ (read-of (c .before .before)) (fails (c .before .header-readable .ensures) (c .if1 .taken)))
 
 volume-of-requires : tie.Need-volume-of-requires
 volume-of-requires c κs =
@@ -65,19 +68,19 @@ journal-readable-requires : tie.Need-journal-readable-requires
 journal-readable-requires c κs =
     let v = c .before in
     let image = start-of (v .before .before .before) .args .image .now in
-    rw (c .journal-of .ensures) (omega (arith, journal-room image (v .volume-of .result) (placed v .0) (placed v .1)))
+    rw (c .journal-of .ensures) (journal-room image (v .volume-of .result) (placed v .0) (placed v .1))
 
 returns-2 : tie.Need-returns-2
 returns-2 c =
     let v = c .before .before .before in
-    let readable = rw (c .before .before .journal-of .ensures) at (c .before .journal-readable .ensures) in
-    sym (journal-refuses _ _ _ _ (read-of (v .before .before .before)) _ (v .volume-of .ensures) (maps (v .before)) (fails readable (c .if2 .taken)))
+    let journal = rw (c .before .before .journal-of .ensures) at (c .before .journal-readable .ensures) in
+    sym (journal-refuses _ _ _ _ (read-of (v .before .before .before)) _ (v .volume-of .ensures) (readable (v .before)) (fails journal (c .if2 .taken)))
 
 returns-3 : tie.Need-returns-3
 returns-3 c =
     let v = c .before .before .before in
-    let readable = rw (c .before .before .journal-of .ensures) at (c .before .journal-readable .ensures) in
-    sym (pack-opens _ _ _ _ (read-of (v .before .before .before)) _ (v .volume-of .ensures) (maps (v .before)) (holds readable (c .if2 .left)))
+    let journal = rw (c .before .before .journal-of .ensures) at (c .before .journal-readable .ensures) in
+    sym (pack-opens _ _ _ _ (read-of (v .before .before .before)) _ (v .volume-of .ensures) (readable (v .before)) (holds journal (c .if2 .left)))
 
 pub open-pack-spec : {M : Type 1} → statement M
 open-pack-spec =
@@ -85,7 +88,7 @@ open-pack-spec =
     (tie.spec
     block-at-requires
     checkpoint-of-requires
-    maps-readable-requires
+    header-readable-requires
     returns
     volume-of-requires
     journal-of-requires

@@ -1,62 +1,20 @@
 use borrow.Author.Needs.{needs}
-use native.Mathlib.Omega.{arith}
-use mathlib.Core.Path.{_∙_, sym}
-use Rattle.journal.proofs.Searching.{Searching, search-starts, search-over, entry-inside, search-found, search-passed}
+use Rattle.journal.specs.Journal.{journalFind}
 use Rattle.journal.proofs.find_entry.Statement.{statement}
 use Rattle.journal.proofs.find_entry.Tie as tie
 
-abbrev Inv-loop : tie.InvT-loop
-Inv-loop journal width number left₀ at₀ left at = Searching width journal number left at
-
-abbrev μ-loop : tie.MeasureT-loop
-μ-loop journal width number left₀ at₀ left at = left
-
-get16-requires : tie.Need-get16-requires Inv-loop μ-loop
+get16-requires : tie.Need-get16-requires
 get16-requires c κs = search needs
 
-cast-left : tie.Need-cast-left Inv-loop μ-loop
-cast-left c = search needs
+cast-find-among : tie.Need-cast-find-among
+cast-find-among c = search needs
 
-loop-holds : tie.Need-loop-holds Inv-loop μ-loop
-loop-holds c = search-starts (c .get16 .ensures) (c .before .before .pre .1)
+find-among-requires : tie.Need-find-among-requires
+find-among-requires c κs = rw (c .get16 .ensures) (c .before .before .pre)
 
-get32-requires : tie.Need-get32-requires Inv-loop μ-loop
-get32-requires c κs = omega (arith, entry-inside (c .before .loop .inv) (c .loop-test .taken))
-
-returns : tie.Need-returns Inv-loop μ-loop
-returns c =
-    let k = c .before .before .before in
-    sym (search-found (k .loop .inv) (c .before .before .loop-test .taken) (sym (c .before .get32 .ensures) ∙ c .if1 .taken))
-
-add-at : tie.Need-add-at Inv-loop μ-loop
-add-at c = omega (arith, entry-inside (c .before .before .before .loop .inv) (c .before .before .loop-test .taken))
-
-sub-left : tie.Need-sub-left Inv-loop μ-loop
-sub-left c = search needs
-
-loop-less : tie.Need-loop-less Inv-loop μ-loop
-loop-less c = search needs
-
-loop-again : tie.Need-loop-again Inv-loop μ-loop
-loop-again c =
-    search-passed (c .before .before .before .loop .inv) (c .before .before .loop-test .taken) (λ e. c .if1 .left (c .before .get32 .ensures ∙ e))
-
-returns-2 : tie.Need-returns-2 Inv-loop μ-loop
-returns-2 c = sym (search-over (c .before .loop .inv) (c .loop-test .left))
+returns : tie.Need-returns
+unfolding journalFind
+returns c = rw (c .before .get16 .ensures) at (c .find-among .ensures)
 
 pub find-entry-spec : {M : Type 1} → statement M
-find-entry-spec =
-    tie.close
-    (tie.spec
-    Inv-loop
-    μ-loop
-    get16-requires
-    cast-left
-    loop-holds
-    get32-requires
-    returns
-    add-at
-    sub-left
-    loop-less
-    loop-again
-    returns-2)
+find-entry-spec = tie.close (tie.spec get16-requires cast-find-among find-among-requires returns)
