@@ -14,14 +14,12 @@ use Rattle.pull.specs.Pull.{Lent, callInShape, refusedPull, pulled}
 use Rattle.pull.proofs.Results.{call-refused}
 use Rattle.compare.specs.Compare.{refused, compared}
 use Rattle.compare.proofs.Openings.{shape-refused}
-use Rattle.sit.proofs.Openings.{still-refused}
 use Rattle.segment_report.specs.Report.{refusedReport, segmentReport}
-use Rattle.segment_report.proofs.Ends.{refused-by-opening}
+use Rattle.any_bytes.proofs.Refusals.{lookup-refused, report-refused}
 
 module _ (image : List ℕ) (out : inShape (length image) ≡ false) where
   pub lookup-out-of-shape : (number : ℕ) → lookupOf image number ≡ record { answer = 4; inode = 0; address = 0 }
-  unfolding lookupOf
-  lookup-out-of-shape number = rw (shape-refuses image out)
+  lookup-out-of-shape = lookup-refused image 4 (shape-refuses image out)
 
   pub pull-out-of-shape : (name : List ℕ) (index : ℕ) (lent : Lent) → pulled image name index lent ≡ refusedPull 4 lent
   unfolding callInShape
@@ -34,4 +32,4 @@ module _ (image : List ℕ) (out : inShape (length image) ≡ false) where
   fresh-out-of-shape kept nodes blocks = shape-refused kept image nodes blocks (rw (out, and-false))
 
   pub report-out-of-shape : (list : List ℕ) → segmentReport image list ≡ refusedReport 4 list
-  report-out-of-shape list = refused-by-opening image list 4 (still-refused image 4 (shape-refuses image out))
+  report-out-of-shape = report-refused image 4 (shape-refuses image out)

@@ -1,15 +1,15 @@
 -- K9's reasons for 8, by the request's own numbers, and that there are no others beside document 01's. They are of the chosen pack alone:
 -- whatever the other pack holds, it is not read instead.
 use mathlib.Core.Path.{_≡_, refl, _∙_, ap}
-use mathlib.Core.Bool.{true, false, _||_, or-true, and-false}
+use mathlib.Core.Bool.{Bool, true, false, _||_, or-true, and-false}
 use mathlib.Core.List.{List}
-use mathlib.Core.Logic.{⊎-elim}
+use mathlib.Core.Logic.{_⊎_, inl, inr, ⊎-elim}
 use Prim.Native.Nat.{ℕ, _/_, _%_, _≤_, _<_}
 use native.Mathlib.Omega.{arith}
 use borrow.Author.Tests.{eq-eqb, ne-eqb, le-leb}
 use Rattle.field.specs.Number.{le16}
 use Rattle.field.specs.Card.{Card}
-use Rattle.field.proofs.Choosing.{either, clash}
+use Rattle.field.proofs.Choosing.{either}
 use Rattle.journal.specs.Journal.{numberOf, namesTwice}
 use Rattle.journal.proofs.Once.{twice, two-entries}
 use Rattle.superblock.specs.Areas.{found}
@@ -21,9 +21,13 @@ use Rattle.checkpoint.specs.declared.Volume.{Volume}
 use Rattle.checkpoint.specs.declared.Opening.the-variants.{Opened, Refused}
 use Rattle.checkpoint.specs.Checkpoint.{headerOf}
 use Rattle.checkpoint.specs.Pack.{chosen}
-use Rattle.checkpoint.specs.Journal.{damaged}
+use Rattle.checkpoint.specs.Journal.{flagSet, damaged}
 use Rattle.checkpoint.specs.Volume.{mapsReadable, headerReadable, volumeOf, journalOf, journalReadable, openPack, openChosen, opened}
 use Rattle.checkpoint.proofs.Ways.{header-refuses, journal-refuses, pack-opens, opened-at}
+
+either-way : (s t : Bool) → (s ≡ true) ⊎ (t ≡ true) → (s || t) ≡ true
+either-way s t (inl h) = rw h
+either-way s t (inr h) = rw (h, or-true)
 
 -- a card with a superblock and a chosen pack
 module _ (card : Card) (a : Areas) (start : ℕ) (areas : found card ≡ At a) (pack : chosen card (a .checkpoint) ≡ Pack start) where
@@ -49,11 +53,11 @@ module _ (card : Card) (a : Areas) (start : ℕ) (areas : found card ≡ At a) (
   -- "the chosen pack's flags hold error (8) or needs-check (10 hex)"
   pub error-refuses : flags / 8 % 2 ≡ 1 → opened card ≡ Refused 8
   unfolding damaged
-  error-refuses e = damaged-refuses (rw (eq-eqb (flags / 8 % 2) 1 e))
+  error-refuses e = damaged-refuses (either-way (flagSet flags 8) (flagSet flags 16) (inl (eq-eqb (flags / 8 % 2) 1 e)))
 
   pub needs-check-refuses : flags / 16 % 2 ≡ 1 → opened card ≡ Refused 8
   unfolding damaged
-  needs-check-refuses e = damaged-refuses (rw (eq-eqb (flags / 16 % 2) 1 e, or-true))
+  needs-check-refuses e = damaged-refuses (either-way (flagSet flags 8) (flagSet flags 16) (inr (eq-eqb (flags / 16 % 2) 1 e)))
 
   -- "or the NAT journal names one number twice"
   pub twice-refuses : (i j : ℕ) → i < j → j < le16 journal 0 → numberOf 13 journal i ≡ numberOf 13 journal j → opened card ≡ Refused 8

@@ -1,10 +1,11 @@
 -- The ways that opening goes: what the code follows, and what the laws on opened volumes stand on.
 use mathlib.Core.Path.{_≡_, refl}
-use mathlib.Core.Bool.{true, false}
+use mathlib.Core.Bool.{Bool, true, false, _&&_}
 use mathlib.Core.List.{List}
 use Prim.Native.Nat.{ℕ}
 use lib.ListN.{length}
 use Rattle.field.specs.Card.{Card, cardOf}
+use Rattle.field.specs.Choice.{choose}
 use Rattle.superblock.specs.Shape.{inShape}
 use Rattle.superblock.specs.Areas.{found}
 use Rattle.superblock.specs.declared.Areas.{Areas}
@@ -15,11 +16,17 @@ use Rattle.checkpoint.specs.declared.Opening.the-variants.{Opened, Refus
 use Rattle.checkpoint.specs.Checkpoint.{headerOf}
 use Rattle.checkpoint.specs.Volume.{headerReadable, volumeOf, journalOf, journalReadable, openPack, openAreas, opened, openedImage}
 
+-- a choice whose first test fails
+other-way : {A : Type 0} (s t : Bool) (one other : A) → s ≡ false → choose (s && t) one other ≡ other
+other-way s t one other h = rw h
+
 -- the three ways of a chosen pack, by its header
 module _ (card : Card) (a : Areas) (start : ℕ) (cp : Checkpoint) (read : cp ≡ headerOf card start) where
   pub header-refuses : headerReadable a cp ≡ false → openPack card a start ≡ Refused 8
   unfolding openPack
-  header-refuses p = rw (← read, p)
+  header-refuses p =
+      let v = volumeOf a start (headerOf card start) in
+      other-way (headerReadable a (headerOf card start)) (journalReadable (journalOf card v)) (Opened v) (Refused 8) (rw (← read) p)
 
   module _ (v : Volume) (e : v ≡ volumeOf a start cp) (p : headerReadable a cp ≡ true) where
     pub journal-refuses : journalReadable (journalOf card v) ≡ false → openPack card a start ≡ Refused 8

@@ -28,7 +28,7 @@ module _ (width : ℕ) (journal : List ℕ) where
 
   pub once-over : (i : ℕ) → twiceAmong width journal i ≡ false → i ≡ le16 journal 0 → namesTwice width journal ≡ false
   unfolding namesTwice
-  once-over i h e = rw (← e) h
+  once-over i h e = ap (twiceAmong width journal) (sym e) ∙ h
 
   -- what is twice among some entries is twice among more
   twice-more : (i n : ℕ) → i < n → namedBefore width journal i ≡ true → twiceAmong width journal n ≡ true

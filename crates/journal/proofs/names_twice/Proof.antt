@@ -32,7 +32,7 @@ named-before-requires c κs =
     let start = loop .before .before .before in
     let width = start .args .width in
     let upTo : width * (loop .loop .i + 1) ≤ width * le16 (now (start .args .journal)) 0 =
-        mul-le-mul-left width (omega (arith, loop .loop .inv .0, c .loop-test .taken)) in
+    mul-le-mul-left width (omega (arith, loop .loop .inv .0, c .loop-test .taken)) in
     (start .pre .0, omega (arith, start .pre .1))
 
 returns : tie.Need-returns Inv-loop μ-loop

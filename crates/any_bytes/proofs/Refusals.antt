@@ -1,0 +1,40 @@
+-- An image that opening refuses is refused by each call that takes one, with the same answer: all other numbers are 0 but Compare's side,
+-- and what was lent stays as it was. K9's "Answer 8 also if" is this and the laws in checkpoint/proofs/Damage.antt.
+use mathlib.Core.Path.{_≡_}
+use mathlib.Core.Bool.{true, _&&_}
+use mathlib.Core.List.{List}
+use Prim.Native.Nat.{ℕ}
+use lib.ListN.{length}
+use Rattle.superblock.specs.Shape.{inShape}
+use Rattle.checkpoint.specs.declared.Volume.{Volume}
+use Rattle.checkpoint.specs.declared.Opening.the-variants.{Opened, Refused}
+use Rattle.checkpoint.specs.Volume.{openedImage}
+use Rattle.list.specs.Lists.{Listed}
+use Rattle.nat.specs.Lookup.{lookupOf}
+use Rattle.pull.specs.Pull.{Lent, callInShape, refusedPull, pulled}
+use Rattle.pull.proofs.Results.{call-opens}
+use Rattle.compare.specs.Compare.{refused, compared}
+use Rattle.compare.proofs.Openings as openings
+use Rattle.sit.proofs.Openings.{still-refused}
+use Rattle.segment_report.specs.Report.{refusedReport, segmentReport}
+use Rattle.segment_report.proofs.Ends.{refused-by-opening}
+
+module _ (image : List ℕ) (n : ℕ) (refuses : openedImage image ≡ Refused n) where
+  pub lookup-refused : (number : ℕ) → lookupOf image number ≡ record { answer = n; inode = 0; address = 0 }
+  unfolding lookupOf
+  lookup-refused number = rw refuses
+
+  pub pull-refused : (name : List ℕ) (index : ℕ) (lent : Lent) → callInShape image name lent ≡ true → pulled image name index lent ≡ refusedPull n lent
+  pull-refused name index lent shaped = call-opens image name index lent (Refused n) shaped refuses
+
+  pub report-refused : (list : List ℕ) → segmentReport image list ≡ refusedReport n list
+  report-refused list = refused-by-opening image list n (still-refused image n refuses)
+
+  -- whatever was listed, Compare doesn't say "same" of it: the kept image is looked at first
+  module _ (nodes blocks : Listed) where
+    pub kept-refused : (fresh : List ℕ) → (inShape (length image) && inShape (length fresh)) ≡ true → compared image fresh nodes blocks ≡ refused n 1
+    kept-refused fresh shaped = openings.kept-refused image fresh nodes blocks shaped n refuses
+
+    pub fresh-refused : (kept : List ℕ) → (inShape (length kept) && inShape (length image)) ≡ true → (v : Volume) → openedImage kept ≡ Opened v
+        → compared kept image nodes blocks ≡ refused n 2
+    fresh-refused kept shaped v opens = openings.fresh-refused kept image nodes blocks shaped v opens n refuses
