@@ -52,7 +52,7 @@ fn named_before(journal: &[u8], width: usize, i: usize) -> bool
 {
     let number = field::get32(journal, 2 + width * i);
     match find_among(journal, width, number, i) {
-        Sought::At(at) => true,
+        Sought::At(_) => true,
         Sought::Absent => false,
     }
 }

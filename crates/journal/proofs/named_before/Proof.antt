@@ -22,17 +22,17 @@ get32-requires c κs = search needs
 find-among-requires : tie.Need-find-among-requires
 find-among-requires c κs = search needs
 
-enum-known-at : tie.Need-enum-known-at
-enum-known-at c = search needs
-
 enum-told : tie.Need-enum-told
 enum-told c = search needs
 
+enum-told-2 : tie.Need-enum-told-2
+enum-told-2 c = search needs
+
 returns : tie.Need-returns
-returns c = sym (ap isFound (sym (sought (c .before .before .before)) ∙ c .before .at .given .1))
+returns c = sym (ap isFound (sym (sought (c .before .before)) ∙ c .enum-told .given .1))
 
 returns-2 : tie.Need-returns-2
-returns-2 c = sym (ap isFound (sym (sought (c .before .before)) ∙ c .enum-told .given .1))
+returns-2 c = sym (ap isFound (sym (sought (c .before .before)) ∙ c .enum-told2 .given .1))
 
 pub named-before-spec : {M : Type 1} → statement M
 named-before-spec =
@@ -42,7 +42,7 @@ named-before-spec =
     add-get32
     get32-requires
     find-among-requires
-    enum-known-at
     enum-told
+    enum-told-2
     returns
     returns-2)
