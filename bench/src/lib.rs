@@ -1,5 +1,5 @@
 //! Measures the library beside other readers, in one run and as ratios: a time alone would say more of
-//! the processor than of the code. `bench/run` runs it all.
+//! the processor than of the code. `bench/run` runs it all but `before`, which has a script of its own.
 //!
 //! The program `checksum` links an archive that must not meet the library's in one program, so nothing
 //! in here may link the library.

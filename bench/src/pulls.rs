@@ -10,6 +10,7 @@ use std::ops::Range;
 pub use harptimber_tests::sizes::{BLOCKS_MOST as BLOCKS, NODES_MOST as NODES};
 
 /// What is lent to a pull: a block and the two lists.
+#[derive(PartialEq, Eq)]
 pub struct Lent {
     pub block: [u8; BLOCK_SIZE],
     pub nodes: [u8; NODES as usize * 4],

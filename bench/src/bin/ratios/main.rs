@@ -2,6 +2,8 @@
 
 mod calls;
 mod cards;
+mod journal;
+mod journalled;
 mod levels;
 mod segments;
 mod versions;
@@ -10,6 +12,7 @@ mod whole;
 use calls::{Calls, MEMCMP, SAME_BLOCK};
 use cards::{Card, ARCHIVE, OPTIONS, REFERENCE, WITHOUT_SURVEY};
 use harptimber_bench::agreed::Agreed;
+use harptimber_bench::grid::Grid;
 use harptimber_bench::table::Table;
 use harptimber_tests::sizes::SEGMENTS_MOST;
 use std::process::{Command, ExitCode};
@@ -29,6 +32,7 @@ fn main() -> ExitCode {
     whole_files(&whole::columns(&cards, &files), &mut agreed);
     checksum(&mut agreed);
     packs_by_version(&mut agreed);
+    journals_by_entries(&mut agreed);
     agreed.finish()
 }
 
@@ -45,7 +49,7 @@ Every number in the tables is a ratio of two times of this run. No time is claim
               both are built for release
   GRUB        its F2FS reader, by {}
   cards       written by mkfs.f2fs {OPTIONS} and sload.f2fs, sparse files, mapped for reading; those of
-              tables 4, 5 and 8 are built in memory
+              tables 4, 5, 8 and 9 are built in memory
   buffers     warm: each card is in the page cache, mapped and read before; what is lent to a pull is
               lent again to the next one, and not cleared in between
   times       the processor's, user and system, children included: other load shows only where it
@@ -176,19 +180,36 @@ fn checksum(agreed: &mut Agreed) {
 
 fn packs_by_version(agreed: &mut Agreed) {
     let grids = versions::by_versions(agreed);
-    let mut table = Table::new(versions::heads());
-    for (label, grid) in ["pull", "lookup"].iter().zip(grids) {
-        let parts = grid.parts(ARCHIVE, REFERENCE);
-        table.row(&format!("{label}, archive to reference/"), &parts);
-        for (side, name) in [(ARCHIVE, "archive"), (REFERENCE, "reference/")] {
-            let row = format!("{label}, {name} to its versions 1, 2");
-            table.row(&row, &grid.growth(side));
-        }
-    }
+    let table = pulls_and_lookups(versions::heads(), grids, "versions 1, 2");
     table.print(
         "8. Two packs, the second in use: plain versions, versions that wrapped, and no first pack
    time as a part of reference/'s, then as a multiple of the same side's with versions 1, 2; lower is
    better. The archive's multiples are about 1: a pack that isn't chosen costs it no checksum.
    reference/ tests both",
     );
+}
+
+fn journals_by_entries(agreed: &mut Agreed) {
+    let grids = journal::by_entries(agreed);
+    let table = pulls_and_lookups(journal::heads(), grids, "empty journal");
+    table.print(
+        "9. The NAT journal by its entries, in plain packs and then, a full one, in compact packs
+   time as a part of reference/'s, then as a multiple of the same side's with an empty journal in plain
+   packs; lower is better. An opening compares each entry's number with those before it. The file's
+   entry is the last one: a pull looks through the journal twice, for the root too",
+    );
+}
+
+/// Rows beside the reference, and beside the first column, which has a name.
+fn pulls_and_lookups(heads: impl Iterator<Item = String>, grids: [Grid; 2], first: &str) -> Table {
+    let mut table = Table::new(heads);
+    for (label, grid) in ["pull", "lookup"].iter().zip(grids) {
+        let parts = grid.parts(ARCHIVE, REFERENCE);
+        table.row(&format!("{label}, archive to reference/"), &parts);
+        for (side, name) in [(ARCHIVE, "archive"), (REFERENCE, "reference/")] {
+            let row = format!("{label}, {name} to its {first}");
+            table.row(&row, &grid.growth(side));
+        }
+    }
+    table
 }
