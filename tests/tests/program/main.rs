@@ -19,6 +19,7 @@ mod pull;
 mod reasons;
 mod refusals;
 mod segments;
+mod unread;
 mod usage;
 mod while_read;
 mod whole;
