@@ -44,7 +44,7 @@ static void find_reason(struct report *report, const struct opening *opening)
 {
     uint32_t answer = report->told.answer, entries = sit_journal_count(opening, &report->card);
     report->reason = reason_of(answer, &report->card, NULL);
-    report->causes = answer == opening->answer ? opening->causes : 0;
+    report->causes = opening->causes;
     if (report->reason != NULL || answer != HARPTIMBER_UNREADABLE || entries <= SIT_JOURNAL_MOST)
         return;
     report->causes = cause_bit(CAUSE_SIT_JOURNAL_COUNT);

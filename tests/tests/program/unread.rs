@@ -277,6 +277,8 @@ fn expect_info(disk: &OnDisk, reason: Option<&str>) {
     let json = ran.expect(status_of(answer)).json();
     expect_head(&json, "info", if reason.is_some() { 8 } else { 0 });
     assert_eq!(json.get("reason").map(Json::text), reason, "in {json:?}");
+    // Else the program would see something else than the library.
+    assert!(json.get("packs").is_some(), "no packs in {json:?}");
 }
 
 /// Wherever the two stand, with the most entries: equal, and with each part of them another. Behind the count nothing is an entry.
@@ -288,8 +290,8 @@ fn places_of_two() {
             for second in [
                 entry(nid, 5, 6, 7),
                 entry(nid, 4, 6, 7),
-                entry(nid, 5, 262, 7),
-                entry(nid, 5, 6, 1 << 24),
+                entry(nid, 5, 6 + (1 << 8), 7),
+                entry(nid, 5, 6, 7 + (1 << 24)),
             ] {
                 let mut journal = entries(MOST_ENTRIES);
                 journal[one] = entry(nid, 5, 6, 7);
