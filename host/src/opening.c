@@ -14,7 +14,7 @@ static bool is_zeros(const uint8_t *block)
     return *block == 0 && memcmp(block, block + 1, BLOCK_SIZE - 1) == 0;
 }
 
-static void add_words(char *why, const char *format, va_list arguments)
+__attribute__((format(printf, 2, 0))) static void add_words(char *why, const char *format, va_list arguments)
 {
     size_t len = strlen(why);
     vsnprintf(why + len, WHY_ROOM - len, format, arguments);
@@ -253,8 +253,8 @@ static void because_entry(char *why, const char *before, const uint8_t *entry)
 static void number_is_twice(struct opening *opening, const uint8_t *journal, uint32_t i, uint32_t j)
 {
     const uint8_t *one = nat_entry(journal, i), *other = nat_entry(journal, j);
-    caused(opening, CAUSE_NUMBER_TWICE, "the NAT journal names node %" PRIu32 " twice, in its entries %" PRIu32 " and %" PRIu32,
-           disk32(one), i, j);
+    caused(opening, CAUSE_NUMBER_TWICE,
+           "the NAT journal names node %" PRIu32 " twice, in its entries %" PRIu32 " and %" PRIu32, disk32(one), i, j);
     if (memcmp(one, other, NAT_ENTRY_BYTES) == 0) {
         because(opening->why, ", which are equal");
         return;

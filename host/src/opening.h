@@ -32,7 +32,7 @@ struct journal_place {
 
 enum { NONE_IN_USE = -1 };
 
-/* What is behind answer 8, in the order in which it is told. The last is of the segment report alone: opening doesn't look at it. */
+/* What can be behind answer 8, in the order in which it is told. The last is the segment report's: opening doesn't look at it. */
 enum cause {
     CAUSE_ERROR_FLAG,
     CAUSE_NEEDS_CHECK_FLAG,

@@ -48,7 +48,8 @@ static void find_reason(struct report *report, const struct opening *opening)
     if (report->reason != NULL || answer != HARPTIMBER_UNREADABLE || entries <= SIT_JOURNAL_MOST)
         return;
     report->causes = cause_bit(CAUSE_SIT_JOURNAL_COUNT);
-    if (asprintf(&report->reason, "the SIT journal counts %" PRIu32 " entries, at most %d fit", entries, SIT_JOURNAL_MOST) < 0)
+    if (asprintf(&report->reason, "the SIT journal counts %" PRIu32 " entries, at most %d fit", entries,
+                 SIT_JOURNAL_MOST) < 0)
         report->reason = NULL;
 }
 

@@ -10,6 +10,7 @@ use harptimber_tests::cards::knobs::{Knobs, Pack};
 use harptimber_tests::cards::layout::checkpoint::*;
 use harptimber_tests::cards::layout::journal::{self, JournalEntry, MOST_ENTRIES, N_NATS};
 use harptimber_tests::cards::layout::nat::NatEntry;
+use harptimber_tests::cards::layout::slots::I_ADDR;
 use harptimber_tests::cards::layout::Field;
 use harptimber_tests::cards::on_disk::OnDisk;
 use harptimber_tests::cards::random::pick;
@@ -742,6 +743,25 @@ fn needs_check_of_an_empty_card() {
     assert!(is_advised(&disk.path()), "no advice");
     fsck(&disk.path()).expect(0);
     run(&[&"info", &disk.path()]).expect(0);
+}
+
+/// What it can't mend it removes, as the page warns: here the address of a file's block.
+#[test]
+fn needs_check_of_a_damaged_card() {
+    let mut card = Published::new();
+    let inode = card.road_entry().entry.block_addr;
+    let which = card.image.pack_in_use();
+    set_flags(&mut card.image, which, |flags| flags | FSCK);
+    for (address, kept) in [(None, true), (Some(77), false)] {
+        if let Some(address) = address {
+            card.image.set(inode, I_ADDR, address);
+        }
+        let path = card.save();
+        assert!(is_advised(&path), "no advice");
+        fsck(&path);
+        run(&[&"info", &path]).expect(0);
+        assert_eq!(card.has_road(&path), kept, "with {address:?}");
+    }
 }
 
 /// fsck.f2fs finds nothing wrong, and leaves the card as it is.
