@@ -5,6 +5,7 @@ mod compare;
 mod compare_cards;
 mod compare_fields;
 mod files;
+mod fsck;
 mod huge_files;
 mod info;
 mod install;
