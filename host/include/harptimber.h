@@ -42,9 +42,9 @@ extern "C" {
 
 /* The version of this header, and of the library that is installed with it. */
 #define HARPTIMBER_VERSION_MAJOR 0
-#define HARPTIMBER_VERSION_MINOR 4
+#define HARPTIMBER_VERSION_MINOR 5
 #define HARPTIMBER_VERSION_PATCH 0
-#define HARPTIMBER_VERSION "0.4.0"
+#define HARPTIMBER_VERSION "0.5.0"
 
 enum {
     /* Of what is asked: a card's blocks, and a name's bytes. */
@@ -80,6 +80,16 @@ enum harptimber_answer {
     HARPTIMBER_NO_SUPERBLOCK = 5,
     HARPTIMBER_FEATURES = 6,
     HARPTIMBER_NO_CHECKPOINT = 7,
+    /*
+     * The chosen checkpoint pack passes, but isn't read; the other pack isn't read in its place. Behind it is
+     * at least one of these:
+     *   - the pack's first block has the flag error (8 hex), needs check (10 hex, fsck to the tools) or
+     *     large_nat_bitmap (400 hex);
+     *   - its SIT or its NAT map hasn't 32 bytes a segment of its area, or together they are too long for it;
+     *   - the NAT journal's block doesn't lie in the pack; or the journal counts more than 38 entries, or has
+     *     two for one number, be they equal or not;
+     *   - for harptimber_segment_report also: the SIT journal counts more than 6 entries.
+     */
     HARPTIMBER_UNREADABLE = 8,
     HARPTIMBER_NO_NODE = 9,
     HARPTIMBER_NODE_OUTSIDE = 10,
@@ -103,7 +113,7 @@ static inline const char *harptimber_answer_words(uint32_t answer)
         /*  5 */ "neither copy of the superblock passes",
         /*  6 */ "the card has features or a payload, which aren't read",
         /*  7 */ "neither checkpoint pack passes",
-        /*  8 */ "the checkpoint pack in use has its maps or a journal out of place",
+        /*  8 */ "the checkpoint pack in use isn't read: flags, maps or a journal",
         /*  9 */ "a node number out of range or not in use",
         /* 10 */ "a node's address lies outside the main area",
         /* 11 */ "a node block belongs elsewhere",

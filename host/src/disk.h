@@ -105,6 +105,14 @@ enum { DISK_BLOCK_COUNT_AT = 36, DISK_PAYLOAD_AT = 1664, DISK_FEATURES_AT = 2180
 enum { DISK_LABEL_UNITS = 512, DISK_LABEL_ROOM = 3 * DISK_LABEL_UNITS + 1 };
 void disk_label(const uint8_t *superblock, char label[DISK_LABEL_ROOM]);
 
-enum { DISK_UNMOUNT = 0x1, DISK_COMPACT = 0x4, DISK_FASTBOOT = 0x20, DISK_LARGE_NAT_MAP = 0x400 };
+/* Flags of a checkpoint. */
+enum {
+    DISK_UNMOUNT = 0x1,
+    DISK_COMPACT = 0x4,
+    DISK_ERROR = 0x8,
+    DISK_FSCK = 0x10,
+    DISK_FASTBOOT = 0x20,
+    DISK_LARGE_NAT_MAP = 0x400
+};
 
 #endif

@@ -239,6 +239,7 @@ static void info_json(const struct info *info)
     struct json json = json_begin(stdout, "info", opening->answer, card_meaning_of(opening->answer));
     if (info->reason != NULL)
         json_string(&json, "reason", info->reason);
+    json_causes(&json, opening->causes);
     json_string(&json, "image", info->card->path);
     json_number(&json, "offset", card_offset(info->card));
     json_number(&json, "bytes", info->card->len);

@@ -14,13 +14,42 @@ static bool is_zeros(const uint8_t *block)
     return *block == 0 && memcmp(block, block + 1, BLOCK_SIZE - 1) == 0;
 }
 
+__attribute__((format(printf, 2, 0))) static void add_words(char *why, const char *format, va_list arguments)
+{
+    size_t len = strlen(why);
+    vsnprintf(why + len, WHY_ROOM - len, format, arguments);
+}
+
 /* Adds words to a reason, as far as there is room. Returns false, for a rule that fails by it. */
 __attribute__((format(printf, 2, 3))) static bool because(char *why, const char *format, ...)
 {
-    size_t len = strlen(why);
     va_list arguments;
     va_start(arguments, format);
-    vsnprintf(why + len, WHY_ROOM - len, format, arguments);
+    add_words(why, format, arguments);
+    va_end(arguments);
+    return false;
+}
+
+const char *const cause_names[CAUSES] = {
+    [CAUSE_ERROR_FLAG] = "error_flag",
+    [CAUSE_NEEDS_CHECK_FLAG] = "needs_check_flag",
+    [CAUSE_LARGE_NAT_BITMAP] = "large_nat_bitmap",
+    [CAUSE_MAPS] = "maps",
+    [CAUSE_JOURNAL_PLACE] = "journal_place",
+    [CAUSE_JOURNAL_COUNT] = "journal_count",
+    [CAUSE_NUMBER_TWICE] = "number_twice",
+    [CAUSE_SIT_JOURNAL_COUNT] = "sit_journal_count",
+};
+
+/* Adds a cause, with its words behind those of the others. Returns false, for a rule that fails by it. */
+__attribute__((format(printf, 3, 4))) static bool caused(struct opening *opening, enum cause cause, const char *format, ...)
+{
+    va_list arguments;
+    if (opening->causes != 0)
+        because(opening->why, "; ");
+    opening->causes |= cause_bit(cause);
+    va_start(arguments, format);
+    add_words(opening->why, format, arguments);
     va_end(arguments);
     return false;
 }
@@ -159,25 +188,33 @@ static bool pack_passes(struct opening_pack *pack, const struct card *card, uint
     return true;
 }
 
+/* The flags by which F2FS itself says that the volume is damaged, or may be; and one that isn't read. */
+static void judge_flags(struct opening *opening, uint32_t flags)
+{
+    if ((flags & DISK_ERROR) != 0)
+        caused(opening, CAUSE_ERROR_FLAG, "its error flag (0x8) is set");
+    if ((flags & DISK_FSCK) != 0)
+        caused(opening, CAUSE_NEEDS_CHECK_FLAG, "its fsck flag (0x10) is set: the card needs a check");
+    if ((flags & DISK_LARGE_NAT_MAP) != 0)
+        caused(opening, CAUSE_LARGE_NAT_BITMAP, "large_nat_bitmap is set, which isn't read");
+}
+
 /* The two maps, which fit their segments and their block. */
-static bool maps_pass(const uint8_t *superblock, const uint8_t *first, char *why)
+static void judge_maps(struct opening *opening, const uint8_t *superblock, const uint8_t *first)
 {
     uint64_t sit = disk32(first + 156), nat = disk32(first + 160);
     uint64_t sit_wanted = 32 * (uint64_t)disk_area_segments(superblock, DISK_SIT);
     uint64_t nat_wanted = 32 * (uint64_t)disk_area_segments(superblock, DISK_NAT);
-    if ((disk32(first + 132) & DISK_LARGE_NAT_MAP) != 0)
-        return because(why, "large_nat_bitmap is set, which isn't read");
     if (sit != sit_wanted)
-        return because(why, "sit_ver_bitmap_bytesize is %" PRIu64 ", not %" PRIu64, sit, sit_wanted);
-    if (nat != nat_wanted)
-        return because(why, "nat_ver_bitmap_bytesize is %" PRIu64 ", not %" PRIu64, nat, nat_wanted);
-    if (192 + sit + nat > CHECKSUM_AT)
-        return because(why, "the maps end at byte %" PRIu64 " of their block, behind 4092", 192 + sit + nat);
-    return true;
+        caused(opening, CAUSE_MAPS, "sit_ver_bitmap_bytesize is %" PRIu64 ", not %" PRIu64, sit, sit_wanted);
+    else if (nat != nat_wanted)
+        caused(opening, CAUSE_MAPS, "nat_ver_bitmap_bytesize is %" PRIu64 ", not %" PRIu64, nat, nat_wanted);
+    else if (192 + sit + nat > CHECKSUM_AT)
+        caused(opening, CAUSE_MAPS, "the maps end at byte %" PRIu64 " of their block, behind 4092", 192 + sit + nat);
 }
 
 /* Puts both journals' places: a compact pack has them in one block, others in the summaries of hot and of cold data. */
-static bool journals_are_in_place(struct opening *opening, const uint8_t *first)
+static bool judge_journals_place(struct opening *opening, const uint8_t *first)
 {
     const struct opening_pack *pack = &opening->packs[opening->pack_in_use];
     uint32_t start = disk32(first + 140), total = pack->total;
@@ -187,25 +224,71 @@ static bool journals_are_in_place(struct opening *opening, const uint8_t *first)
         opening->nat_journal = (struct journal_place){opening->pack_first + start, 0};
         opening->sit_journal = (struct journal_place){opening->pack_first + start, 507};
         return (start >= 1 && start <= total - 2) ||
-               because(opening->why, "the journal block is out of place: cp_pack_start_sum is %" PRIu32
-                                     " in a pack of %" PRIu32 " blocks", start, total);
+               caused(opening, CAUSE_JOURNAL_PLACE, "the journal block is out of place: cp_pack_start_sum is %" PRIu32
+                      " in a pack of %" PRIu32 " blocks", start, total);
     }
     uint32_t hot_data = opening->pack_first + total - from_end;
     opening->nat_journal = (struct journal_place){hot_data, 3584};
     opening->sit_journal = (struct journal_place){hot_data + 2, 3584};
     return total > from_end ||
-           because(opening->why, "the journal block is out of place: the pack has %" PRIu32 " blocks, and it lies %" PRIu32
-                                 " before the end", total, from_end);
+           caused(opening, CAUSE_JOURNAL_PLACE, "the journal block is out of place: the pack has %" PRIu32
+                  " blocks, and it lies %" PRIu32 " before the end", total, from_end);
 }
 
+/* An entry of the NAT journal: a node's number, then what the table would have for it. */
+enum { NAT_ENTRIES_AT = 2, NAT_ENTRY_BYTES = 13, NAT_JOURNAL_MOST = 38 };
+
+static const uint8_t *nat_entry(const uint8_t *journal, uint32_t i)
+{
+    return journal + NAT_ENTRIES_AT + (size_t)NAT_ENTRY_BYTES * i;
+}
+
+static void because_entry(char *why, const char *before, const uint8_t *entry)
+{
+    because(why, "%sversion %u, inode %" PRIu32 ", block %" PRIu32, before, (unsigned)entry[4], disk32(entry + 5),
+            disk32(entry + 9));
+}
+
+/* If two entries for one number don't say the same, nothing tells which of them holds. */
+static void number_is_twice(struct opening *opening, const uint8_t *journal, uint32_t i, uint32_t j)
+{
+    const uint8_t *one = nat_entry(journal, i), *other = nat_entry(journal, j);
+    caused(opening, CAUSE_NUMBER_TWICE,
+           "the NAT journal names node %" PRIu32 " twice, in its entries %" PRIu32 " and %" PRIu32, disk32(one), i, j);
+    if (memcmp(one, other, NAT_ENTRY_BYTES) == 0) {
+        because(opening->why, ", which are equal");
+        return;
+    }
+    because_entry(opening->why, ", which differ: ", one);
+    because_entry(opening->why, " and ", other);
+}
+
+/* How many entries it counts, and that no two of them have the same number. */
+static void judge_journal(struct opening *opening, const uint8_t *journal)
+{
+    uint32_t count = disk16(journal);
+    if (count > NAT_JOURNAL_MOST) {
+        caused(opening, CAUSE_JOURNAL_COUNT, "the NAT journal counts %" PRIu32 " entries, at most 38 fit", count);
+        return;
+    }
+    for (uint32_t i = 0; i < count; i++)
+        for (uint32_t j = i + 1; j < count; j++)
+            if (disk32(nat_entry(journal, i)) == disk32(nat_entry(journal, j))) {
+                number_is_twice(opening, journal, i, j);
+                return;
+            }
+}
+
+/* All that keeps the pack in use from being read: whoever mends one thing wants to know what is left. */
 static bool pack_is_readable(struct opening *opening, const struct card *card, const uint8_t *superblock)
 {
     const uint8_t *first = disk_block(card, opening->pack_first);
-    if (!maps_pass(superblock, first, opening->why) || !journals_are_in_place(opening, first))
-        return false;
-    const uint8_t *journal = disk_block(card, opening->nat_journal.block);
-    uint16_t count = journal == NULL ? 0 : disk16(journal + opening->nat_journal.at);
-    return count <= 38 || because(opening->why, "the NAT journal counts %" PRIu16 " entries, at most 38 fit", count);
+    judge_flags(opening, opening->packs[opening->pack_in_use].flags);
+    judge_maps(opening, superblock, first);
+    const uint8_t *journal = judge_journals_place(opening, first) ? disk_block(card, opening->nat_journal.block) : NULL;
+    if (journal != NULL)
+        judge_journal(opening, journal + opening->nat_journal.at);
+    return opening->causes == 0;
 }
 
 bool ver_after(uint64_t a, uint64_t b)
@@ -266,8 +349,10 @@ void opening_read(struct opening *opening, const struct card *card)
     uint32_t judged = judge(opening, card);
     opening->answer = harptimber_node_lookup(card->bytes, card->len, DISK_ROOT).answer;
     opening->agrees = judged == opening->answer;
-    if (!opening->agrees)
+    if (!opening->agrees) {
+        opening->causes = 0;
         *opening->why = '\0';
+    }
 }
 
 const uint8_t *opening_superblock(const struct card *card)

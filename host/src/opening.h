@@ -32,6 +32,28 @@ struct journal_place {
 
 enum { NONE_IN_USE = -1 };
 
+/* What can be behind answer 8, in the order in which it is told. The last is the segment report's: opening doesn't look at it. */
+enum cause {
+    CAUSE_ERROR_FLAG,
+    CAUSE_NEEDS_CHECK_FLAG,
+    CAUSE_LARGE_NAT_BITMAP,
+    CAUSE_MAPS,
+    CAUSE_JOURNAL_PLACE,
+    CAUSE_JOURNAL_COUNT,
+    CAUSE_NUMBER_TWICE,
+    CAUSE_SIT_JOURNAL_COUNT,
+    CAUSES
+};
+
+/* Their names, for machines. */
+extern const char *const cause_names[CAUSES];
+
+/* A cause as one of several: each is a bit. */
+static inline uint32_t cause_bit(enum cause cause)
+{
+    return UINT32_C(1) << cause;
+}
+
 struct opening {
     uint32_t answer; /* the library's: 0, or 4 to 8 */
     bool agrees;     /* what was read here leads to that answer; else it isn't worth saying */
@@ -41,6 +63,7 @@ struct opening {
     int pack_in_use;
     uint32_t pack_first;                           /* the first block of the pack in use, */
     struct journal_place nat_journal, sit_journal; /* and its journals, if the card opens */
+    uint32_t causes;    /* of answer 8: all of them that were found, as bits */
     char why[WHY_ROOM]; /* of answers 5 to 8: the reason, in plain text; empty if there are no words for it */
 };
 

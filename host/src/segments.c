@@ -17,8 +17,9 @@ struct report {
     struct card card;
     struct harptimber_segments told; /* by the library, with its list */
     uint8_t list[HARPTIMBER_SEGMENTS_BYTES];
-    char *reason; /* why it was refused, or null */
-    bool has_sit; /* the entries lead to what the library told; else they aren't worth saying */
+    char *reason;    /* why it was refused, or null */
+    uint32_t causes; /* with answer 8 */
+    bool has_sit;    /* the entries lead to what the library told; else they aren't worth saying */
     struct sit sit;
 };
 
@@ -38,15 +39,18 @@ static bool sit_agrees(const struct report *report)
     return off == report->told.count && valid == report->told.valid_blocks;
 }
 
-/* Why a report is refused, or null. A card that opens is refused for its SIT journal alone. */
-static char *why_refused(uint32_t answer, const struct card *card, const struct opening *opening)
+/* Finds why a report is refused. A card that opens is refused for its SIT journal alone. */
+static void find_reason(struct report *report, const struct opening *opening)
 {
-    uint32_t entries = sit_journal_count(opening, card);
-    char *reason = reason_of(answer, card, NULL);
-    if (reason != NULL || answer != HARPTIMBER_UNREADABLE || entries <= SIT_JOURNAL_MOST)
-        return reason;
-    int len = asprintf(&reason, "the SIT journal counts %" PRIu32 " entries, at most %d fit", entries, SIT_JOURNAL_MOST);
-    return len < 0 ? NULL : reason;
+    uint32_t answer = report->told.answer, entries = sit_journal_count(opening, &report->card);
+    report->reason = reason_of(answer, &report->card, NULL);
+    report->causes = opening->causes;
+    if (report->reason != NULL || answer != HARPTIMBER_UNREADABLE || entries <= SIT_JOURNAL_MOST)
+        return;
+    report->causes = cause_bit(CAUSE_SIT_JOURNAL_COUNT);
+    if (asprintf(&report->reason, "the SIT journal counts %" PRIu32 " entries, at most %d fit", entries,
+                 SIT_JOURNAL_MOST) < 0)
+        report->reason = NULL;
 }
 
 static void read_report(struct report *report)
@@ -58,7 +62,7 @@ static void read_report(struct report *report)
     if (report->told.answer == HARPTIMBER_DATA)
         report->has_sit = sit_read(&report->sit, &opening, card) && sit_agrees(report);
     else
-        report->reason = why_refused(report->told.answer, card, &opening);
+        find_reason(report, &opening);
 }
 
 /* So much of a list is shown. */
@@ -186,6 +190,7 @@ static void show_json(const struct report *report)
     struct json json = json_begin(stdout, "segments", answer, card_meaning_of(answer));
     if (report->reason != NULL)
         json_string(&json, "reason", report->reason);
+    json_causes(&json, report->causes);
     json_string(&json, "image", report->card.path);
     json_number(&json, "count", report->told.count);
     json_number(&json, "valid_blocks", report->told.valid_blocks);

@@ -116,12 +116,26 @@ static void show_out_of_shape(FILE *out, const struct asked *asked)
     }
 }
 
+/*
+ * Whether fsck.f2fs -f makes the card readable again. Asked by its own flag for a check, it makes one and clears that flag and
+ * the error flag. Else it writes nothing where it finds nothing wrong, as with an error flag alone or a number that is there
+ * twice; and of entries that differ it may take the one that loses the file.
+ */
+static bool fsck_helps(uint32_t causes)
+{
+    uint32_t cleared = cause_bit(CAUSE_ERROR_FLAG) | cause_bit(CAUSE_NEEDS_CHECK_FLAG);
+    return (causes & cause_bit(CAUSE_NEEDS_CHECK_FLAG)) != 0 && (causes & ~cleared) == 0;
+}
+
 /* Why a card doesn't open. */
 static void show_unopened(FILE *out, const struct card *card, uint32_t answer)
 {
     struct opening opening;
     opening_read(&opening, card);
     fputs(opening.answer == answer ? opening.why : "", out);
+    if (opening.answer == answer && fsck_helps(opening.causes))
+        fprintf(out, "; fsck.f2fs -f checks it and clears %s; it writes to the card, so keep a copy",
+                (opening.causes & cause_bit(CAUSE_ERROR_FLAG)) != 0 ? "both flags" : "the flag");
     bool marked = opening.copies[0].marked || opening.copies[1].marked;
     if (answer == HARPTIMBER_NO_SUPERBLOCK && !show_disk(out, card) && !marked)
         fputs("; perhaps it is another file system", out);
@@ -176,10 +190,12 @@ char *reason_of(uint32_t answer, const struct card *card, const char *name)
     return reason_of_asked(answer, &asked);
 }
 
-/* What is out of shape is told by the reason, instead of all that could be. */
+/* What is out of shape, or keeps the pack in use from being read, is told by the reason, instead of all that could be. */
 void show_with_reason(FILE *out, uint32_t answer, const char *meaning, const char *reason)
 {
-    fprintf(out, "%s (answer %" PRIu32 ")", answer == HARPTIMBER_OUT_OF_SHAPE ? "out of shape" : meaning, answer);
+    bool told = answer == HARPTIMBER_OUT_OF_SHAPE || (answer == HARPTIMBER_UNREADABLE && reason != NULL);
+    size_t len = told ? strcspn(meaning, ":") : strlen(meaning);
+    fprintf(out, "%.*s (answer %" PRIu32 ")", (int)len, meaning, answer);
     if (reason != NULL)
         fprintf(out, ": %s", reason);
 }
@@ -205,9 +221,25 @@ void json_asked_as(struct json *json, const char *key, uint32_t answer, const st
     free(reason);
 }
 
+void json_causes(struct json *json, uint32_t causes)
+{
+    if (causes == 0)
+        return;
+    json_open(json, "causes", '[');
+    for (enum cause cause = 0; cause < CAUSES; cause++)
+        if ((causes & cause_bit(cause)) != 0)
+            json_string(json, NULL, cause_names[cause]);
+    json_close(json, ']');
+}
+
 void json_asked(struct json *json, uint32_t answer, const struct asked *asked)
 {
+    struct opening opening;
     json_asked_as(json, "reason", answer, asked);
+    if (answer != HARPTIMBER_UNREADABLE)
+        return;
+    opening_read(&opening, asked->card);
+    json_causes(json, opening.causes);
 }
 
 void json_reason(struct json *json, uint32_t answer, const struct card *card, const char *name)

@@ -38,10 +38,13 @@ void show_answer(FILE *out, uint32_t answer, const char *meaning, const struct c
 /* Why such a call was answered so, in plain text; null if there is nothing to add. The caller frees it. */
 char *reason_of(uint32_t answer, const struct card *card, const char *name);
 
-/* The reason as a member of a JSON object: under some key, or `reason`. */
+/* The reason as a member of a JSON object: under some key; or as `reason`, and with answer 8 its `causes`. */
 void json_asked_as(struct json *json, const char *key, uint32_t answer, const struct asked *asked);
 void json_asked(struct json *json, uint32_t answer, const struct asked *asked);
 void json_reason(struct json *json, uint32_t answer, const struct card *card, const char *name);
+
+/* The causes by their names; no member if there is none. */
+void json_causes(struct json *json, uint32_t causes);
 
 /* Prints what the node address table says of a number. */
 void show_entry(FILE *out, struct harptimber_entry entry);

@@ -6,7 +6,19 @@ use crate::program::host;
 use crate::program::json::Json;
 
 /// The keys that each object has.
-const HEAD: [&str; 4] = ["command", "answer", "meaning", "reason"];
+const HEAD: [&str; 5] = ["command", "answer", "meaning", "reason", "causes"];
+
+/// What can be behind answer 8, by its names in JSON and in the order in which it is told.
+pub const CAUSES: [&str; 8] = [
+    "error_flag",
+    "needs_check_flag",
+    "large_nat_bitmap",
+    "maps",
+    "journal_place",
+    "journal_count",
+    "number_twice",
+    "sit_journal_count",
+];
 
 /// The keys that each command's JSON may have beside them.
 const KEYS: [(&str, &[&str]); 9] = [
@@ -181,6 +193,27 @@ pub fn meaning(command: &str, answer: u32) -> String {
     own.unwrap_or(usual).to_string()
 }
 
+/// The same in words with a reason behind it, which tells what it is of all that it could be.
+pub fn meaning_with_reason(command: &str, answer: u32) -> String {
+    let meaning = meaning(command, answer);
+    let short = meaning.split(": ").next().unwrap_or_default();
+    if [4, 8].contains(&answer) {
+        short.to_string()
+    } else {
+        meaning
+    }
+}
+
+/// The names of causes that the page explains, in its order.
+pub fn causes_on_page() -> Vec<String> {
+    let page = man_page();
+    let part = page.split("a list of these words:\n.RS\n").nth(1);
+    let part = part.and_then(|part| part.split("\n.RE\n").next());
+    let entries = part.expect("a list of causes").split(".TP\n.B ").skip(1);
+    let names = entries.map(|entry| entry.lines().next().unwrap_or_default());
+    names.map(str::to_string).collect()
+}
+
 /// A command's own words on JSON name each key, as often as it stands in another object, and nothing else.
 pub fn expect_keys_on_page(command: &str) {
     let keys = keys_of(&KEYS, command);
@@ -227,6 +260,7 @@ pub fn expect_head(json: &Json, command: &str, answer: u32) {
     assert_eq!(json["answer"].number(), u64::from(answer), "in {json:?}");
     assert_eq!(json["meaning"].text(), meaning(command, answer));
     expect_keys(json, &[&HEAD[..], keys_of(&KEYS, command)].concat());
+    expect_causes(json, answer);
     for (key, known) in INNER_KEYS {
         match json.get(key) {
             Some(Json::List(objects)) => objects.iter().for_each(|json| expect_keys(json, known)),
@@ -234,6 +268,19 @@ pub fn expect_head(json: &Json, command: &str, answer: u32) {
             None => (),
         }
     }
+}
+
+/// Answer 8 has them wherever it has a reason, and nothing else has.
+fn expect_causes(json: &Json, answer: u32) {
+    // With several names, compare has reasons in the objects of its list.
+    let has_reason = json.get("reason").is_some();
+    let causes = json.get("causes").map_or(&[][..], Json::list);
+    assert_eq!(!causes.is_empty(), answer == 8 && has_reason, "{json:?}");
+    let places = causes.iter().map(|cause| {
+        let place = CAUSES.iter().position(|known| *known == cause.text());
+        place.unwrap_or_else(|| panic!("{cause:?} isn't on the page"))
+    });
+    assert!(places.is_sorted_by(|before, after| before < after));
 }
 
 fn expect_keys(json: &Json, known: &[&str]) {

@@ -5,8 +5,10 @@ use std::collections::BTreeSet;
 use std::process::{Command, Stdio};
 
 use harptimber_tests::calls::lent::Lens;
+use harptimber_tests::cards::layout::checkpoint::CP_LARGE_NAT_BITMAP_FLAG;
 use harptimber_tests::cards::layout::dentry::LONGEST_NAME;
-use harptimber_tests::cards::layout::{BLOCK_SIZE, SEGMENT_BLOCKS};
+use harptimber_tests::cards::layout::nat::MAP_BYTES_PER_SEGMENT;
+use harptimber_tests::cards::layout::{journal, sit_journal, BLOCK_SIZE, SEGMENT_BLOCKS};
 use harptimber_tests::program::page::meaning;
 use harptimber_tests::program::{host, ran};
 use harptimber_tests::sizes::{BLOCKS_MOST, CARD_BLOCKS_MOST, NODES_MOST, SEGMENTS_MOST};
@@ -104,6 +106,28 @@ fn words() {
     for unknown in ["17", "UINT32_MAX"] {
         let statement = format!("puts(harptimber_answer_words({unknown}));");
         assert_eq!(printed(&statement), "unknown\n");
+    }
+}
+
+/// All that can be behind answer 8 stands above its number.
+#[test]
+fn unreadable() {
+    let header = std::fs::read_to_string(host().join("include/harptimber.h")).unwrap();
+    let before = header.split("    HARPTIMBER_UNREADABLE = 8,").next();
+    let comment = before.unwrap_or_default().rsplit("/*").next();
+    let words = comment.unwrap_or_default().replace('*', " ");
+    let words = words.split_whitespace().collect::<Vec<_>>().join(" ");
+    for part in [
+        "error (8 hex)".to_string(),
+        "needs check (10 hex, fsck to the tools)".to_string(),
+        format!("large_nat_bitmap ({CP_LARGE_NAT_BITMAP_FLAG:x} hex)"),
+        format!("{MAP_BYTES_PER_SEGMENT} bytes a segment"),
+        "the NAT journal's block doesn't lie in the pack".to_string(),
+        format!("more than {} entries", journal::MOST_ENTRIES),
+        "two for one number".to_string(),
+        format!("SIT journal counts more than {}", sit_journal::MOST_ENTRIES),
+    ] {
+        assert!(words.contains(&part), "no '{part}' in '{words}'");
     }
 }
 

@@ -14,7 +14,9 @@ use harptimber_tests::cards::random::sound_knobs;
 use harptimber_tests::cards::versions::CHOSEN;
 use harptimber_tests::node_lookup;
 use harptimber_tests::program::json::Json;
-use harptimber_tests::program::page::{expect_head, meaning, shown, status_of};
+use harptimber_tests::program::page::{
+    expect_head, meaning, meaning_with_reason, shown, status_of,
+};
 use harptimber_tests::program::special_build::SpecialBuild;
 use harptimber_tests::program::versions::words_on_choice;
 use harptimber_tests::program::{run, Ran, Words};
@@ -664,7 +666,8 @@ fn expect_reason(image: Image, answer: u32, reason: &str) {
     assert_eq!(json["reason"].text(), reason);
     let pull: Words = &[&"pull", &"--json", &disk.path(), &"name", &"0"];
     assert_eq!(run(pull).expect(2).json()["reason"].text(), reason);
-    let said = format!("{} (answer {answer}): {reason}\n", meaning("pull", answer));
+    let meaning = meaning_with_reason("pull", answer);
+    let said = format!("{meaning} (answer {answer}): {reason}\n");
     let lines: [Words; 2] = [&[&"info", &disk.path()], &[&"node", &disk.path(), &"3"]];
     for line in lines {
         let ran = run(line).expect(2);

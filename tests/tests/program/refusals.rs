@@ -15,7 +15,9 @@ use harptimber_tests::cards::layout::{Field, BLOCK_SIZE};
 use harptimber_tests::cards::lengths::lengths;
 use harptimber_tests::cards::on_disk::{OnDisk, Shared};
 use harptimber_tests::program::json::Json;
-use harptimber_tests::program::page::{counted, expect_head, expect_name, meaning, with_commas};
+use harptimber_tests::program::page::{
+    counted, expect_head, expect_name, meaning_with_reason, with_commas,
+};
 use harptimber_tests::program::{run, Words};
 use harptimber_tests::sizes::CARD_BLOCKS_MOST;
 use harptimber_tests::system::resize;
@@ -269,9 +271,7 @@ fn in_words() {
         for line in lines {
             let ran = run(line).expect(2);
             let text = format!("{}{}", ran.words(), ran.err);
-            // Of all that can be out of shape, only what is.
-            let meaning = meaning("pull", *answer);
-            let meaning = meaning.split(": ").next().unwrap();
+            let meaning = meaning_with_reason("pull", *answer);
             let part = format!(": {meaning} (answer {answer}){why}");
             let first = text.lines().next().unwrap();
             let behind = first.split_once(&part).map(|(_, behind)| behind);

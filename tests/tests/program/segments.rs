@@ -16,7 +16,7 @@ use harptimber_tests::cards::random_segments::{in_use, random_segments, RandomSe
 use harptimber_tests::cards::segments::{SegmentCard, Sit};
 use harptimber_tests::cards::versions::CHOSEN;
 use harptimber_tests::program::json::Json;
-use harptimber_tests::program::page::{expect_head, meaning, status_of};
+use harptimber_tests::program::page::{expect_head, meaning_with_reason, status_of};
 use harptimber_tests::program::segments::{hint, Segment, Segments};
 use harptimber_tests::program::special_build::SpecialBuild;
 use harptimber_tests::program::{
@@ -419,7 +419,11 @@ fn journal_counts() {
             let told = json.get("reason").map(Json::text);
             assert_eq!(told, (count > 6).then_some(reason.as_str()));
             let ran = run(&[&"segments", &path]).expect(status);
-            let words = format!(": {} (answer 8): {reason}\n", meaning("segments", 8));
+            let causes = json.get("causes").map(Json::list);
+            let cause = Json::Text("sit_journal_count".to_string());
+            assert_eq!(causes, (count > 6).then_some(&[cause][..]));
+            let meaning = meaning_with_reason("segments", 8);
+            let words = format!(": {meaning} (answer 8): {reason}\n");
             assert_eq!(ran.words().ends_with(&words), count > 6, "of {ran:?}");
             assert_eq!(ran.words().lines().count() == 1, count > 6, "of {ran:?}");
             let info = run(&[&"info", &"--json", &path]).expect(0).json();

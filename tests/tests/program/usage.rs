@@ -3,7 +3,7 @@
 use std::process::{Command, Stdio};
 
 use harptimber_tests::program::json::Json;
-use harptimber_tests::program::page::{expect_keys_on_page, meaning};
+use harptimber_tests::program::page::{causes_on_page, expect_keys_on_page, meaning, CAUSES};
 use harptimber_tests::program::{host, ran, run, Word, Words};
 
 /// Each command with as many words as it needs. The files aren't there: usage comes first.
@@ -339,6 +339,11 @@ fn man_page() {
         let line = format!(" {answer}   {}", meaning("pull", answer));
         assert!(answers.contains(&line), "no '{line}' in {answers}");
     }
+}
+
+#[test]
+fn causes() {
+    assert_eq!(causes_on_page(), CAUSES);
 }
 
 #[test]
