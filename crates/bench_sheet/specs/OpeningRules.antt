@@ -180,9 +180,9 @@ readable flags sitMap natMap = yes (mapsReadable (areas 2 2) (header 5 flags 16 
 abbrev fitting : ℕ → ℕ → ℕ
 fitting sit nat = yes (mapsReadable (areas sit nat) (header 5 0 16 5 (32 * sit) (32 * nat)))
 
--- the same with flags alone, which K9 looks at too
-abbrev marked : ℕ → ℕ
-marked flags = yes (headerReadable (areas 2 2) (header 5 flags 16 5 64 64))
+-- whether a pack with the flags and fitting maps is read, by K9's two flags too
+abbrev unmarked : ℕ → ℕ
+unmarked flags = yes (headerReadable (areas 2 2) (header 5 flags 16 5 64 64))
 
 -- entries of a NAT journal with the numbers
 abbrev entries : List ℕ → List ℕ
@@ -256,8 +256,9 @@ checkpointRules =
     ∷ ((yes (journalReadable (0 ∷ 1 ∷ [])) ∷ []) is (0 ∷ []))
     ∷ (opening (openPack (packCard 4 (different 38)) (areas 2 2) 512) is (256 ∷ 517 ∷ 0 ∷ []))
     ∷ (opening (openPack (packCard 4 (different 39)) (areas 2 2) 512) is (8 ∷ []))
-    -- K9: "Answer 8 also if the chosen pack's flags hold error (8) or needs-check (10 hex)": each, both, and all others but the large map
-    ∷ (List.map marked (0 ∷ 8 ∷ 0x10 ∷ 0x18 ∷ 0xFFFFFFFF ∷ 0xFFFFFBE7 ∷ []) is (1 ∷ 0 ∷ 0 ∷ 0 ∷ 0 ∷ 1 ∷ []))
+    -- K9: "Answer 8 also if the chosen pack's flags hold error (8) or needs-check (10 hex)": each alone, both, each with all others
+    -- but the large map, and those others
+    ∷ (List.map unmarked (0 ∷ 8 ∷ 0x10 ∷ 0x18 ∷ 0xFFFFFBEF ∷ 0xFFFFFBF7 ∷ 0xFFFFFBE7 ∷ []) is (1 ∷ 0 ∷ 0 ∷ 0 ∷ 0 ∷ 0 ∷ 1 ∷ []))
     ∷ (opening (openPack (packCard 0xC []) (areas 2 2) 512) ++ opening (openPack (packCard 0x14 []) (areas 2 2) 512) is (8 ∷ 8 ∷ []))
     -- "or the NAT journal names one number twice": side by side, and apart
     ∷ ((counted 2 (5 ∷ 6 ∷ []) ∷ counted 2 (5 ∷ 5 ∷ []) ∷ []) is (1 ∷ 0 ∷ []))

@@ -283,6 +283,7 @@ pub fn journal_of(image: &[u8], v: Volume) -> &[u8]
     &block[at..]
 }
 
+// A journal has room for its count and 38 entries.
 pub fn journal_readable(journal: &[u8]) -> bool
     requires { ⌜ 496 ≤ length (now journal) ⌝ }
     ensures { λ r. ⌜ r ≡ journalReadable (now (journal .entry)) ⌝ }

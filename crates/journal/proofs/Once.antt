@@ -90,6 +90,17 @@ module _ (width : ℕ) (journal : List ℕ) where
   unfolding namesTwice
   two-entries h = two-among (le16 journal 0) h
 
+  -- without an entry that has the number, the search finds none
+  pub no-entry : (number : ℕ) → ((i : ℕ) → i < le16 journal 0 → numberOf width journal i ≡ number → ⊥) → journalFind width journal number ≡ Absent
+  unfolding journalFind
+  no-entry number none = go (searchFrom width journal number (le16 journal 0) 0) refl
+    where
+      go : (s : Sought) → searchFrom width journal number (le16 journal 0) 0 ≡ s → s ≡ Absent
+      go (At at) f =
+          let w = found-entry width journal number (le16 journal 0) 0 at f in
+          absurd (none (w .entry) (omega (arith, w .below)) (w .named))
+      go Absent f = refl
+
   module _ (once : namesTwice width journal ≡ false) where
     -- "every entry with the number is the same one"
     pub same-entry : (i j : ℕ) → i < le16 journal 0 → j < le16 journal 0 → numberOf width journal i ≡ numberOf width journal j → i ≡ j

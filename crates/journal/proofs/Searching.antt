@@ -66,7 +66,6 @@ module _ (width : ℕ) (journal : List ℕ) (number : ℕ) where
   -- an entry that has the number and is one of them
   pub record Found (k i at : ℕ) : Type 0 where
     pub entry : ℕ
-    pub from : i ≤ entry
     pub below : entry < i + k
     pub starts : at ≡ entryStart width entry
     pub named : numberOf width journal entry ≡ number
@@ -77,11 +76,11 @@ module _ (width : ℕ) (journal : List ℕ) (number : ℕ) where
   found-entry (suc k) i at e =
       ⊎-elim (λ (t : eqb (numberOf width journal i) number ≡ true).
       let here : At (entryStart width i) ≡ At at = rw t at e in
-      record { entry = i; from = omega arith; below = omega arith; starts = cc; named = eqb-true _ _ t })
+      record { entry = i; below = omega arith; starts = cc; named = eqb-true _ _ t })
       (λ (t : eqb (numberOf width journal i) number ≡ false).
       let later : searchFrom width journal number k (i + 1) ≡ At at = rw t at e in
       let f = found-entry k (i + 1) at later in
-      record { entry = f .entry; from = omega (arith, f .from); below = omega (arith, f .below); starts = f .starts; named = f .named })
+      record { entry = f .entry; below = omega (arith, f .below); starts = f .starts; named = f .named })
       (either (eqb (numberOf width journal i) number))
 
   -- if there is one, the search finds one

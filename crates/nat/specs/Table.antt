@@ -46,7 +46,7 @@ entryIn block number = Entry (inodeAt block (9 * (number % 455))) (addressAt blo
 unfoldable pub inTable : Card → Volume → ℕ → TableAnswer
 inTable card v number = entryIn (card .block (tableAddress card v (tableBlock number))) number
 
--- "The first journal entry with the number decides. Otherwise table block .."
+-- the journal comes before the table: "Otherwise table block .."
 abbrev pub orTable : InJournal → TableAnswer → TableAnswer
 orTable (Held inode address) other = Entry inode address
 orTable Absent other = other

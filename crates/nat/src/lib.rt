@@ -46,7 +46,7 @@ fn address_at(bytes: &[u8], at: usize) -> u32
     field::get32(bytes, at + 5)
 }
 
-// The first of the journal's entries that has the number.
+// What a journal says of a number; it has room for its count and 38 entries.
 pub fn journal_entry(journal: &[u8], number: u32) -> InJournal
     requires { ⌜ (496 ≤ length (now journal)) × (le16 (now journal) 0 ≤ 38) ⌝ }
     ensures { λ r. ⌜ r ≡ inJournal (now (journal .entry)) number ⌝ }
