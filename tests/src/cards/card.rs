@@ -164,9 +164,7 @@ impl Card {
             entries.push(JournalEntry { nid, entry });
             self.image.set_nat_entry(nid, copy, elsewhere(entry));
         }
-        let (block, at) = self.pack.journal_place().expect("a journal");
-        let block = self.image.first_block(self.which_pack) + block;
-        self.image.put_journal(block, at, &entries);
+        self.image.set_journal(self.which_pack, &entries);
     }
 }
 

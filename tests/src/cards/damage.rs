@@ -42,9 +42,7 @@ impl Damage {
         let number = |field| image.get(first, field) as u32;
         let sizes = number(SIT_VER_BITMAP_BYTESIZE) + number(NAT_VER_BITMAP_BYTESIZE);
         self.maps.end = self.maps.start + sizes as usize;
-        let pack = image.pack(which);
-        let (block, at) = pack.journal_place().expect("a sound pack has a journal");
-        self.journals.push((first + block, at));
+        self.journals.push(image.journal_place(which));
     }
 
     /// Gives one number, in one or several of the blocks that have it, a new value. The checksums

@@ -109,8 +109,16 @@ pub mod checkpoint {
 
     pub const CP_UMOUNT_FLAG: u32 = 0x1;
     pub const CP_COMPACT_SUM_FLAG: u32 = 0x4;
+    pub const CP_ERROR_FLAG: u32 = 0x8;
+    pub const CP_FSCK_FLAG: u32 = 0x10;
     pub const CP_FASTBOOT_FLAG: u32 = 0x20;
     pub const CP_LARGE_NAT_BITMAP_FLAG: u32 = 0x400;
+
+    /// With any of these a pack isn't read.
+    pub const UNREAD: [u32; 3] = [CP_ERROR_FLAG, CP_FSCK_FLAG, CP_LARGE_NAT_BITMAP_FLAG];
+    pub const ALL_UNREAD: u32 = CP_ERROR_FLAG | CP_FSCK_FLAG | CP_LARGE_NAT_BITMAP_FLAG;
+    /// These say where the journals are.
+    pub const PLACING: u32 = CP_UMOUNT_FLAG | CP_COMPACT_SUM_FLAG | CP_FASTBOOT_FLAG;
 }
 
 /// The node address table.
@@ -183,6 +191,14 @@ pub mod journal {
     impl JournalEntry {
         pub fn stored(self) -> Vec<u8> {
             [&self.nid.to_le_bytes(), self.entry.stored().as_slice()].concat()
+        }
+
+        pub fn read(stored: &[u8]) -> JournalEntry {
+            let (nid, entry) = stored.split_at(NID.size);
+            JournalEntry {
+                nid: u32::from_le_bytes(nid.try_into().unwrap()),
+                entry: NatEntry::read(entry),
+            }
         }
     }
 }

@@ -252,7 +252,10 @@ fn beside_a_full_nat_journal() {
         ino: u32::MAX,
         block_addr: u32::MAX,
     };
-    let nat_journal = vec![journal::JournalEntry { nid: 1, entry }; journal::MOST_ENTRIES];
+    let numbers = 1..=journal::MOST_ENTRIES as u32;
+    let nat_journal: Vec<_> = numbers
+        .map(|nid| journal::JournalEntry { nid, entry })
+        .collect();
     for flags in FLAGS {
         let pack = Pack {
             journal: nat_journal.clone(),
