@@ -4,7 +4,9 @@ use std::ops::Range;
 
 use crate::cards::image::Image;
 use crate::cards::layout::checkpoint::*;
-use crate::cards::layout::{journal, superblock, Field};
+use crate::cards::layout::journal::{self, JournalEntry};
+use crate::cards::layout::nat::NatEntry;
+use crate::cards::layout::{superblock, Field};
 use crate::cards::random::pick;
 use crate::trial::Random;
 
@@ -92,13 +94,46 @@ impl Damage {
     }
 }
 
+/// Harms a pack that passes: it still does, and isn't read if it is chosen.
+pub type Harm = fn(&mut Image, usize);
+
+/// Each flag that says that a volume is damaged, both, and a number twice in the journal, which has to have room for
+/// two more.
+pub const HARMS: [Harm; 5] = [
+    |image, which| image.add_flags(image.first_block(which), CP_ERROR_FLAG),
+    |image, which| image.add_flags(image.first_block(which), CP_FSCK_FLAG),
+    |image, which| image.add_flags(image.first_block(which), CP_ERROR_FLAG | CP_FSCK_FLAG),
+    |image, which| add_twins(image, which, [9, 9]),
+    |image, which| add_twins(image, which, [9, 8]),
+];
+
+/// Entries for a number that is there in every table; nothing needs it.
+fn add_twins(image: &mut Image, which: usize, inodes: [u32; 2]) {
+    let twin = |ino| {
+        let entry = NatEntry {
+            version: 0,
+            ino,
+            block_addr: 0,
+        };
+        JournalEntry { nid: 9, entry }
+    };
+    let twins = inodes.map(twin);
+    let journal = [image.journal(which).as_slice(), &twins].concat();
+    image.set_journal(which, &journal);
+}
+
 /// Gives a card with one pack, its first, a fault for each answer from 8 down to 5. Returns the marks to
 /// undo to, one after the other, and the answer that each of them leads to.
 pub fn all_faults(image: &mut Image) -> [(usize, u32); 3] {
     let first = image.first_block(0);
     image.set_sealed(first, CKPT_FLAGS, u64::from(CP_LARGE_NAT_BITMAP_FLAG));
+    faults_before_8(image, 0)
+}
+
+/// The same from 7 on, beside a fault for 8.
+pub fn faults_before_8(image: &mut Image, which: usize) -> [(usize, u32); 3] {
     let unreadable = image.mark();
-    image.set(first, CHECKSUM_OFFSET, 0);
+    image.set(image.first_block(which), CHECKSUM_OFFSET, 0);
     let no_pack = image.mark();
     for copy in [0, 1] {
         image.set(copy, superblock::FEATURE, 1);

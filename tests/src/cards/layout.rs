@@ -117,8 +117,18 @@ pub mod checkpoint {
     /// With any of these a pack isn't read.
     pub const UNREAD: [u32; 3] = [CP_ERROR_FLAG, CP_FSCK_FLAG, CP_LARGE_NAT_BITMAP_FLAG];
     pub const ALL_UNREAD: u32 = CP_ERROR_FLAG | CP_FSCK_FLAG | CP_LARGE_NAT_BITMAP_FLAG;
-    /// These say where the journals are.
+    /// These say where the journals are; and each mix of them.
     pub const PLACING: u32 = CP_UMOUNT_FLAG | CP_COMPACT_SUM_FLAG | CP_FASTBOOT_FLAG;
+    pub const PLACINGS: [u32; 8] = [
+        0,
+        CP_UMOUNT_FLAG,
+        CP_FASTBOOT_FLAG,
+        CP_UMOUNT_FLAG | CP_FASTBOOT_FLAG,
+        CP_COMPACT_SUM_FLAG,
+        CP_COMPACT_SUM_FLAG | CP_UMOUNT_FLAG,
+        CP_COMPACT_SUM_FLAG | CP_FASTBOOT_FLAG,
+        CP_COMPACT_SUM_FLAG | CP_UMOUNT_FLAG | CP_FASTBOOT_FLAG,
+    ];
 }
 
 /// The node address table.

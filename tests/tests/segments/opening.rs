@@ -9,7 +9,7 @@ use harptimber_tests::cards::layout::superblock::{MAGIC, SEGMENT_COUNT_MAIN};
 use harptimber_tests::cards::segments::SegmentCard;
 use harptimber_tests::cards::versions::{CHOSEN, PAIRS};
 
-use crate::{journalled, knobs, FLAGS};
+use crate::{journalled, knobs};
 
 const TOTAL: u32 = 12;
 const START_SUM: u32 = 3;
@@ -49,7 +49,7 @@ fn flags() {
         let mut card = full_of_journals(which);
         let first = card.image.first_block(which);
         let mark = card.image.mark();
-        for flags in FLAGS {
+        for flags in PLACINGS {
             let (block, at) = if flags & CP_COMPACT_SUM_FLAG != 0 {
                 (START_SUM, IN_COMPACT_BLOCK)
             } else if flags != 0 {
