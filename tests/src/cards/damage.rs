@@ -4,7 +4,7 @@ use std::ops::Range;
 
 use crate::cards::image::Image;
 use crate::cards::layout::checkpoint::*;
-use crate::cards::layout::journal::{self, JournalEntry};
+use crate::cards::layout::journal::{self, JournalEntry, N_NATS};
 use crate::cards::layout::nat::NatEntry;
 use crate::cards::layout::{superblock, Field};
 use crate::cards::random::pick;
@@ -47,9 +47,40 @@ impl Damage {
         self.journals.push(image.journal_place(which));
     }
 
+    /// Gives one number a new value, sets a flag, or makes a twin in a journal.
+    pub fn strike(&self, image: &mut Image, random: &mut Random) {
+        match random.below(10) {
+            0 => self.strike_flags(image, random),
+            1 => self.strike_journal(image, random),
+            _ => self.strike_number(image, random),
+        }
+    }
+
+    /// Sets a flag in a checkpoint block, mostly one with which the pack isn't read.
+    fn strike_flags(&self, image: &mut Image, random: &mut Random) {
+        let any = 1 << random.below(32);
+        let flag = pick(random, &[CP_ERROR_FLAG, CP_FSCK_FLAG, any]);
+        image.add_flags(pick(random, &self.checkpoints), flag);
+    }
+
+    /// Copies an entry's number, or all of it, to a place in its journal: mostly to one that is counted.
+    fn strike_journal(&self, image: &mut Image, random: &mut Random) {
+        let most = journal::MOST_ENTRIES as u64;
+        let (block, at) = pick(random, &self.journals);
+        let counted = image.get(block, N_NATS.moved(at)).clamp(2, most);
+        let places = pick(random, &[counted, counted, most]);
+        let [from, to] = [places, places].map(|places| {
+            let place = random.below(places) as usize;
+            at + N_NATS.size + place * journal::ENTRY_SIZE
+        });
+        let len = pick(random, &[journal::NID.size, journal::ENTRY_SIZE]);
+        let copied = image.block(block)[from..from + len].to_vec();
+        image.put("twin", block, to, &copied);
+    }
+
     /// Gives one number, in one or several of the blocks that have it, a new value. The checksums
     /// of most checkpoint blocks are made right again.
-    pub fn strike(&self, image: &mut Image, random: &mut Random) {
+    fn strike_number(&self, image: &mut Image, random: &mut Random) {
         let places = self.places(random);
         let sure = pick(random, &places);
         let value = damaged(image, sure, random);
@@ -86,7 +117,7 @@ impl Damage {
     fn in_journals(&self, random: &mut Random) -> Vec<(u32, Field)> {
         let entry = random.below(journal::MOST_ENTRIES as u64) as usize;
         let field = match pick(random, journal::ALL) {
-            journal::N_NATS => journal::N_NATS,
+            N_NATS => N_NATS,
             field => field.moved(entry * journal::ENTRY_SIZE),
         };
         let place = |&(block, at): &(u32, usize)| (block, field.moved(at));

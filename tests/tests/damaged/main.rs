@@ -1,7 +1,10 @@
 //! Damaged volumes: a pack that is marked as one, or whose NAT journal names a number twice, isn't read.
 
 mod marks;
+mod orders;
 mod packs;
+mod random;
+mod sides;
 mod twins;
 
 use harptimber_tests::calls::compares::Kept;
