@@ -65,7 +65,10 @@ impl EveryCall {
         }
         let Call { name, index, .. } = kept.call;
         self.pulls.expect(image, name, index, answer);
-        self.reports.expect(image, &Report::refused(answer));
+        let refusal = Report::refused(answer);
+        self.reports.expect(image, &refusal);
+        // That a list is too short is told last.
+        self.reports.expect_in(image, image.bytes(), 0, &refusal);
         let (sound, damaged) = (kept.call.bytes, image.bytes());
         for (cards, side) in [
             ([sound, damaged], 2),

@@ -32,7 +32,7 @@ impl Damage {
             journals: Vec::new(),
             maps: SIT_NAT_VERSION_BITMAP..SIT_NAT_VERSION_BITMAP,
         };
-        for which in (0..2).filter(|&which| image.has_pack(which)) {
+        for which in image.packs() {
             damage.add_pack(image, which);
         }
         damage

@@ -189,6 +189,11 @@ impl Image {
         offset == checkpoint::CHECKSUM.at as u64
     }
 
+    /// The packs that are there.
+    pub fn packs(&self) -> impl Iterator<Item = usize> + '_ {
+        (0..2).filter(|&which| self.has_pack(which))
+    }
+
     /// The versions of the packs that are there.
     pub fn versions(&self) -> [Option<u64>; 2] {
         [0, 1].map(|which| {

@@ -174,6 +174,8 @@ pub mod nat {
 
 /// The NAT journal, wherever in its block it starts.
 pub mod journal {
+    use std::collections::BTreeSet;
+
     use super::nat::NatEntry;
 
     // The count, and the numbers of the first entry.
@@ -190,6 +192,12 @@ pub mod journal {
     /// Where a journal starts in a compact summary block, and in a plain one.
     pub const IN_COMPACT_BLOCK: usize = 0;
     pub const IN_PLAIN_BLOCK: usize = 3584;
+
+    /// Whether two entries have the same number.
+    pub fn names_one_twice(journal: &[JournalEntry]) -> bool {
+        let numbers: BTreeSet<u32> = journal.iter().map(|entry| entry.nid).collect();
+        numbers.len() < journal.len()
+    }
 
     /// A table entry that stands in the journal.
     #[derive(Clone, Copy, Debug, PartialEq, Eq)]

@@ -24,6 +24,18 @@ use harptimber_tests::trial::Random;
 
 const PACKS: [usize; 2] = [0, 1];
 
+/// Each kind of pack, in one of the two places.
+fn kinds() -> impl Iterator<Item = (usize, Pack)> {
+    PACKS.into_iter().cycle().zip(Pack::kinds())
+}
+
+/// The same in either.
+fn kinds_in_both() -> impl Iterator<Item = (usize, Pack)> {
+    PACKS
+        .into_iter()
+        .flat_map(|which| Pack::kinds().map(|pack| (which, pack)))
+}
+
 /// A block behind the first direct node of 923 addresses.
 const INDEX: u32 = 1000;
 

@@ -6,7 +6,7 @@ use harptimber_tests::cards::image::Image;
 use harptimber_tests::cards::knobs::Pack;
 use harptimber_tests::cards::layout::checkpoint::*;
 
-use crate::{Volume, PACKS};
+use crate::{kinds_in_both, Volume, PACKS};
 
 /// Each of the two flags, both, and either with the large map's.
 const MARKS: [u32; 5] = [
@@ -51,19 +51,17 @@ fn with_each_other_flag() {
 #[test]
 fn in_the_last_block() {
     let mut every = EveryCall::new("marks in a pack's last block");
-    for which in PACKS {
-        for pack in Pack::kinds() {
-            Volume::journalled(which, pack).try_changes(|image, sound| {
-                let (first, last) = (image.first_block(which), image.last_block(which));
-                for flags in MARKS {
-                    image.add_flags(last, flags);
-                    every.expect_read(sound, image);
-                    image.add_flags(first, flags);
-                    every.expect_refused(&sound.kept, image, 8);
-                    image.undo(0);
-                }
-            });
-        }
+    for (which, pack) in kinds_in_both() {
+        Volume::journalled(which, pack).try_changes(|image, sound| {
+            let (first, last) = (image.first_block(which), image.last_block(which));
+            for flags in MARKS {
+                image.add_flags(last, flags);
+                every.expect_read(sound, image);
+                image.add_flags(first, flags);
+                every.expect_refused(&sound.kept, image, 8);
+                image.undo(0);
+            }
+        });
     }
     every.finish(2 * 4 * 5 * 2, &[0, 8]);
 }
@@ -72,18 +70,17 @@ fn in_the_last_block() {
 #[test]
 fn without_their_checksum() {
     let mut every = EveryCall::new("marks without their checksum");
-    for which in PACKS {
-        for pack in Pack::kinds() {
-            let flags = pack.flags;
-            Volume::journalled(which, pack).try_changes(|image, sound| {
-                let blocks = [image.first_block(which), image.last_block(which)];
-                for (block, mark) in blocks.into_iter().flat_map(|b| MARKS.map(|mark| (b, mark))) {
+    for (which, pack) in kinds_in_both() {
+        let flags = pack.flags;
+        Volume::journalled(which, pack).try_changes(|image, sound| {
+            for block in [image.first_block(which), image.last_block(which)] {
+                for mark in MARKS {
                     image.set(block, CKPT_FLAGS, u64::from(flags | mark));
                     every.expect_refused(&sound.kept, image, 7);
                     image.undo(0);
                 }
-            });
-        }
+            }
+        });
     }
     every.finish(2 * 4 * 2 * 5, &[7]);
 }
@@ -92,10 +89,7 @@ fn without_their_checksum() {
 #[test]
 fn first_answer_that_applies() {
     let mut every = EveryCall::new("damaged volumes with several faults");
-    for (which, harm) in PACKS
-        .into_iter()
-        .flat_map(|which| HARMS.map(|harm| (which, harm)))
-    {
+    for (which, harm) in PACKS.into_iter().cycle().zip(HARMS) {
         Volume::new(which, Pack::compact(1)).try_changes(|image, sound| {
             harm(image, which);
             let faults = faults_before_8(image, which);
@@ -109,5 +103,5 @@ fn first_answer_that_applies() {
             every.expect_read(sound, image);
         });
     }
-    every.finish(2 * 5 * 6, &[0, 4, 5, 6, 7, 8]);
+    every.finish(5 * 6, &[0, 4, 5, 6, 7, 8]);
 }

@@ -8,7 +8,7 @@ use harptimber_tests::cards::knobs::Pack;
 use harptimber_tests::cards::layout::checkpoint::*;
 use harptimber_tests::cards::versions::{CHOSEN, PAIRS};
 
-use crate::{content, sit_twins, sound, Volume, INDEX, PACKS};
+use crate::{content, kinds_in_both, sit_twins, sound, Volume, INDEX, PACKS};
 
 /// A card with two packs of this kind, each of which leads to other data and another count; and what each does.
 fn two_packs(pack: Pack) -> (Image, [Content; 2]) {
@@ -112,10 +112,9 @@ fn for_each_choice(pack: Pack, mut tried: impl FnMut(Choice)) {
     }
 }
 
-#[test]
-fn compact_packs() {
-    let mut every = EveryCall::new("damaged packs, compact");
-    for_each_choice(Pack::compact(1), |mut choice| {
+fn expect_choices(name: &'static str, pack: Pack) {
+    let mut every = EveryCall::new(name);
+    for_each_choice(pack, |mut choice| {
         for harm in HARMS {
             choice.expect_harmed(&mut every, harm);
         }
@@ -125,25 +124,20 @@ fn compact_packs() {
 }
 
 #[test]
+fn compact_packs() {
+    expect_choices("damaged packs, compact", Pack::compact(1));
+}
+
+#[test]
 fn plain_packs() {
-    let mut every = EveryCall::new("damaged packs, plain");
-    for_each_choice(Pack::plain(1, CP_UMOUNT_FLAG), |mut choice| {
-        for harm in HARMS {
-            choice.expect_harmed(&mut every, harm);
-        }
-        choice.expect_marks(&mut every);
-    });
-    every.finish(PAIRS * (5 * 6 + 2 + 4), &[0, 7, 8]);
+    expect_choices("damaged packs, plain", Pack::plain(1, CP_UMOUNT_FLAG));
 }
 
 /// A pack that stands alone, in either place, of each kind.
 #[test]
 fn one_pack() {
     let mut every = EveryCall::new("damaged packs that stand alone");
-    for (which, pack) in PACKS
-        .into_iter()
-        .flat_map(|w| Pack::kinds().map(|pack| (w, pack)))
-    {
+    for (which, pack) in kinds_in_both() {
         Volume::journalled(which, pack).try_changes(|image, sound| {
             every.expect_read(sound, image);
             for harm in HARMS {

@@ -1,7 +1,5 @@
 //! Random cards, with journals of few numbers and damaged as volumes are.
 
-use std::collections::BTreeSet;
-
 use harptimber_tests::calls::compares::{Compares, Kept};
 use harptimber_tests::calls::lookups::Lookups;
 use harptimber_tests::calls::pulls::Pulls;
@@ -10,7 +8,7 @@ use harptimber_tests::cards::card::ROOT;
 use harptimber_tests::cards::damage::{Damage, HARMS};
 use harptimber_tests::cards::image::Image;
 use harptimber_tests::cards::knobs::Knobs;
-use harptimber_tests::cards::layout::journal::{JournalEntry, MOST_ENTRIES};
+use harptimber_tests::cards::layout::journal::{names_one_twice, JournalEntry, MOST_ENTRIES};
 use harptimber_tests::cards::layout::nat::ENTRIES_PER_BLOCK;
 use harptimber_tests::cards::random::{nat_entry, pick, sound_knobs};
 use harptimber_tests::cards::random_files::{any_target, random_files, RandomFiles};
@@ -30,11 +28,6 @@ fn few_numbers(random: &mut Random, past: u32) -> Vec<JournalEntry> {
         entry: nat_entry(random),
     };
     (0..entries).map(entry).collect()
-}
-
-fn names_one_twice(journal: &[JournalEntry]) -> bool {
-    let numbers: BTreeSet<u32> = journal.iter().map(|entry| entry.nid).collect();
-    numbers.len() < journal.len()
 }
 
 /// Looks up a number of the journal, or another.
@@ -98,7 +91,7 @@ fn journals_of_few_numbers() {
 
 /// Up to two harms to packs that are there, and up to two other damages to what a card is opened by.
 fn damage(image: &mut Image, opening: &Damage, random: &mut Random) {
-    let packs: Vec<usize> = (0..2).filter(|&which| image.has_pack(which)).collect();
+    let packs: Vec<usize> = image.packs().collect();
     for _ in 0..random.below(3) {
         let harm = pick(random, &HARMS);
         harm(image, pick(random, &packs));

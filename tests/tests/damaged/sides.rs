@@ -11,7 +11,7 @@ use harptimber_tests::cards::layout::superblock::SEGMENT_COUNT_MAIN;
 use harptimber_tests::cards::one_file::NAME;
 use harptimber_tests::Compared;
 
-use crate::{Volume, INDEX, PACKS};
+use crate::{kinds_in_both, Volume, INDEX};
 
 /// Data, a hole, a missing name, past the end.
 const CALLS: [(&[u8], u32); 4] = [(NAME, INDEX), (NAME, 7), (b"road", 0), (NAME, INDEX + 1)];
@@ -40,10 +40,7 @@ fn changes(kept: &Kept) -> [(fn(&mut Image, &Kept), Compared); 3] {
 #[test]
 fn damaged_between() {
     let mut compares = Compares::new("compare after damage");
-    for (which, pack) in PACKS
-        .into_iter()
-        .flat_map(|w| Pack::kinds().map(|pack| (w, pack)))
-    {
+    for (which, pack) in kinds_in_both() {
         Volume::new(which, pack).try_changes(|image, sound| {
             let kept = sound.kept.call.image;
             let pulls = CALLS.map(|(name, index)| Kept::new(kept, name, index));

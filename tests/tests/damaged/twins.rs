@@ -9,7 +9,7 @@ use harptimber_tests::cards::layout::checkpoint::CP_UMOUNT_FLAG;
 use harptimber_tests::cards::layout::journal::{JournalEntry, ENTRY_SIZE, MOST_ENTRIES, N_NATS};
 use harptimber_tests::cards::layout::nat;
 
-use crate::{Volume, PACKS};
+use crate::{kinds, kinds_in_both, Volume};
 
 /// The two places of each pair among so many.
 fn pairs(entries: usize) -> impl Iterator<Item = [usize; 2]> {
@@ -75,10 +75,7 @@ fn every_pair_of_a_plain_pack() {
 #[test]
 fn around_the_count() {
     let mut lookups = Lookups::new("twins around the journal's count");
-    for (which, pack) in PACKS
-        .into_iter()
-        .flat_map(|w| Pack::kinds().map(|pack| (w, pack)))
-    {
+    for (which, pack) in kinds_in_both() {
         let mut volume = Volume::new(which, pack);
         let journal = volume.journal(MOST_ENTRIES);
         volume.try_changes(|image, sound| {
@@ -101,8 +98,7 @@ fn around_the_count() {
 #[test]
 fn counts_of_one_number() {
     let mut every = EveryCall::new("one number, by the journal's count");
-    for (n, pack) in Pack::kinds().into_iter().enumerate() {
-        let which = n % 2;
+    for (which, pack) in kinds() {
         let volume = Volume::new(which, pack);
         let journal = [volume.entry(ROOT); MOST_ENTRIES];
         volume.try_changes(|image, sound| {
@@ -126,10 +122,7 @@ fn counts_of_one_number() {
 #[test]
 fn thirty_ninth_entry() {
     let mut every = EveryCall::new("twins behind a full journal");
-    for (which, pack) in PACKS
-        .into_iter()
-        .flat_map(|w| Pack::kinds().map(|pack| (w, pack)))
-    {
+    for (which, pack) in kinds_in_both() {
         let mut volume = Volume::new(which, pack);
         let journal = volume.journal(MOST_ENTRIES);
         let (twins, other) = ([journal[0], journal[37]], journalled(8, distinct_entry(8)));
@@ -162,8 +155,7 @@ fn numbers(volume: &Volume) -> [u32; 12] {
 fn any_number() {
     const PLACES: [[usize; 2]; 5] = [[0, 1], [0, 37], [36, 37], [5, 6], [11, 30]];
     let mut every = EveryCall::new("twins of any number");
-    for (n, pack) in Pack::kinds().into_iter().enumerate() {
-        let which = n % 2;
+    for (which, pack) in kinds() {
         let mut volume = Volume::new(which, pack);
         let full = volume.journal(MOST_ENTRIES);
         let once = numbers(&volume).map(|nid| volume.entry(nid));
@@ -193,8 +185,7 @@ fn any_number() {
 #[test]
 fn more_than_two() {
     let mut every = EveryCall::new("more than one twin");
-    for (n, pack) in Pack::kinds().into_iter().enumerate() {
-        let which = n % 2;
+    for (which, pack) in kinds() {
         let mut volume = Volume::new(which, pack);
         let full = volume.journal(MOST_ENTRIES);
         volume.try_changes(|image, sound| {
@@ -224,8 +215,7 @@ fn numbers_alike(most: u32) -> Vec<Vec<u32>> {
 #[test]
 fn numbers_that_differ_a_little() {
     let mut lookups = Lookups::new("numbers that differ a little");
-    for (n, pack) in Pack::kinds().into_iter().enumerate() {
-        let which = n % 2;
+    for (which, pack) in kinds() {
         Volume::new(which, pack).try_changes(|image, sound| {
             let (root, entry) = sound.content.entries[0];
             for numbers in numbers_alike(MOST_ENTRIES as u32) {
@@ -256,8 +246,7 @@ fn numbers_that_differ_a_little() {
 #[test]
 fn twins_that_differ_a_little() {
     let mut lookups = Lookups::new("twins that differ in a byte");
-    for (n, pack) in Pack::kinds().into_iter().enumerate() {
-        let which = n % 2;
+    for (which, pack) in kinds() {
         let volume = Volume::new(which, pack);
         let twins = [journalled(77, distinct_entry(7)); 2];
         volume.try_changes(|image, _| {
@@ -279,8 +268,7 @@ fn twins_that_differ_a_little() {
 #[test]
 fn entries_of_zeros() {
     let mut every = EveryCall::new("journal entries of zeros");
-    for (n, pack) in Pack::kinds().into_iter().enumerate() {
-        let which = n % 2;
+    for (which, pack) in kinds() {
         Volume::new(which, pack).try_changes(|image, sound| {
             let zeros = JournalEntry::read(&[0; ENTRY_SIZE]);
             for count in 0..=MOST_ENTRIES {

@@ -1,7 +1,6 @@
 //! Cards by the published tools aren't marked as damaged and have no number twice in a journal. Once they are, no call
 //! reads them. dump.f2fs shows the marks under their names.
 
-use std::collections::BTreeSet;
 use std::process::Command;
 
 use harptimber_tests::calls::compares::{Compares, Kept, SAME};
@@ -9,21 +8,17 @@ use harptimber_tests::calls::every_call::EveryCall;
 use harptimber_tests::cards::damage::HARMS;
 use harptimber_tests::cards::image::Image;
 use harptimber_tests::cards::layout::checkpoint::{CKPT_FLAGS, CP_ERROR_FLAG, CP_FSCK_FLAG};
+use harptimber_tests::cards::layout::journal::names_one_twice;
 use harptimber_tests::tools::outside::CardFile;
 use harptimber_tests::tools::published::{filled_with, formatted, run, File};
 
-fn packs(image: &Image) -> impl Iterator<Item = usize> + '_ {
-    (0..2).filter(|&which| image.has_pack(which))
-}
-
 fn expect_sound(image: &Image) {
-    for which in packs(image) {
+    for which in image.packs() {
         let flags = image.get(image.first_block(which), CKPT_FLAGS);
         let marks = u64::from(CP_ERROR_FLAG | CP_FSCK_FLAG);
         assert_eq!(flags & marks, 0, "flags of pack {which} of {image:?}");
         let journal = image.journal(which);
-        let numbers: BTreeSet<u32> = journal.iter().map(|entry| entry.nid).collect();
-        assert_eq!(numbers.len(), journal.len(), "{journal:?} of {image:?}");
+        assert!(!names_one_twice(&journal), "{journal:?} of {image:?}");
     }
 }
 
@@ -59,7 +54,7 @@ fn with_each_harm() {
         let kept = Kept::new(sound, NAME, 0);
         let mut image = sound.clone();
         for harm in HARMS {
-            for which in packs(sound) {
+            for which in sound.packs() {
                 harm(&mut image, which);
                 match which == sound.pack_in_use() {
                     true => every.expect_refused(&kept, &image, 8),
