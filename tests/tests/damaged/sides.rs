@@ -16,18 +16,18 @@ use crate::{kinds_in_both, Volume, INDEX};
 /// Data, a hole, a missing name, past the end.
 const CALLS: [(&[u8], u32); 4] = [(NAME, INDEX), (NAME, 7), (b"road", 0), (NAME, INDEX + 1)];
 
-/// A byte of the data, and where the main area ends: what a compare sees on a card that opens.
-fn changes(kept: &Kept) -> [(fn(&mut Image, &Kept), Compared); 3] {
-    let data = *kept.outcome.blocks().last().expect("a block");
+/// Changes a card in which this block is listed.
+type Change = fn(&mut Image, u32);
+
+/// None, a byte of a listed block, and where the main area ends; and what a compare says of each where both cards open.
+fn changes(listed: u32) -> [(Change, Compared); 3] {
+    let byte: Change = |image, listed| {
+        let old = image.block(listed)[9];
+        image.put("byte", listed, 9, &[!old]);
+    };
     [
         (|_, _| (), SAME),
-        (
-            |image, kept| {
-                let block = *kept.outcome.blocks().last().expect("a block");
-                image.put("byte", block, 9, &[!image.block(block)[9]]);
-            },
-            changed(3, data),
-        ),
+        (byte, changed(3, listed)),
         (
             |image, _| image.set(0, SEGMENT_COUNT_MAIN, 0),
             changed(1, 0),
@@ -46,8 +46,9 @@ fn damaged_between() {
             let pulls = CALLS.map(|(name, index)| Kept::new(kept, name, index));
             for (n, kept) in pulls.iter().enumerate() {
                 assert_eq!(kept.outcome.pulled.answer, n as u32);
-                for (change, paper) in changes(kept) {
-                    change(image, kept);
+                let listed = kept.outcome.blocks()[0];
+                for (change, paper) in changes(listed) {
+                    change(image, listed);
                     compares.expect(kept, image, paper);
                     for harm in HARMS {
                         let mark = image.mark();
