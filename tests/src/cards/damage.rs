@@ -15,6 +15,9 @@ const BOUNDS: [u64; 16] = [
     1, 2, 3, 4, 5, 7, 8, 38, 39, 64, 191, 192, 512, 513, 4091, 4092,
 ];
 
+/// Of all that is consulted little leads to 6.
+const FEATURES: [Field; 2] = [superblock::FEATURE, superblock::CP_PAYLOAD];
+
 /// Where a sound image can be damaged.
 pub struct Damage {
     /// First and last blocks of the packs.
@@ -49,11 +52,13 @@ impl Damage {
 
     /// Gives one number a new value, sets a flag, or makes a twin in a journal.
     pub fn strike(&self, image: &mut Image, random: &mut Random) {
-        match random.below(10) {
-            0 => self.strike_flags(image, random),
-            1 => self.strike_journal(image, random),
-            _ => self.strike_number(image, random),
-        }
+        let places = match random.below(12) {
+            0 => return self.strike_flags(image, random),
+            1 => return self.strike_journal(image, random),
+            2 => in_each(&[0, 1], pick(random, &FEATURES)),
+            _ => self.places(random),
+        };
+        self.strike_numbers(image, places, random);
     }
 
     /// Sets a flag in a checkpoint block, mostly one with which the pack isn't read.
@@ -80,8 +85,7 @@ impl Damage {
 
     /// Gives one number, in one or several of the blocks that have it, a new value. The checksums
     /// of most checkpoint blocks are made right again.
-    fn strike_number(&self, image: &mut Image, random: &mut Random) {
-        let places = self.places(random);
+    fn strike_numbers(&self, image: &mut Image, places: Vec<(u32, Field)>, random: &mut Random) {
         let sure = pick(random, &places);
         let value = damaged(image, sure, random);
         for place in places {
