@@ -117,8 +117,8 @@ fn counts_of_one_number() {
     every.finish(4 * 45, &[0, 8]);
 }
 
-/// Behind a full journal stands one more, of which as much is written as is behind no other number. Counted, it makes
-/// the journal too long, whether it is a twin or not.
+/// Behind a full journal stands one more entry, as far as the SIT journal of a compact pack leaves room. Counted, it
+/// makes the journal too long, whether it is a twin or not.
 #[test]
 fn thirty_ninth_entry() {
     let mut every = EveryCall::new("twins behind a full journal");
@@ -203,7 +203,7 @@ fn more_than_two() {
     every.finish(4 * 37, &[8]);
 }
 
-/// Journals in which any two numbers differ in the same byte alone, or in one or two bits.
+/// Numbers of which any two differ in one byte alone, in each of the four, or in two bits; ROOT isn't among them.
 fn numbers_alike(most: u32) -> Vec<Vec<u32>> {
     let bytes = (0..4).map(|byte| (1..=most).map(|n| 0x0102_0304 ^ n << (8 * byte)).collect());
     let bits =
@@ -219,17 +219,10 @@ fn numbers_that_differ_a_little() {
         Volume::new(which, pack).try_changes(|image, sound| {
             let (root, entry) = sound.content.entries[0];
             for numbers in numbers_alike(MOST_ENTRIES as u32) {
-                let of = |nid: u32| {
-                    journalled(
-                        nid,
-                        if nid == root {
-                            entry
-                        } else {
-                            distinct_entry(1)
-                        },
-                    )
-                };
-                let mut journal: Vec<_> = numbers.into_iter().map(of).collect();
+                let numbers = numbers.into_iter();
+                let mut journal: Vec<_> = numbers
+                    .map(|nid| journalled(nid, distinct_entry(1)))
+                    .collect();
                 image.set_journal(which, &journal);
                 lookups.expect_entry(image, root, entry);
                 journal[0] = *journal.last().unwrap();
@@ -264,7 +257,7 @@ fn twins_that_differ_a_little() {
     lookups.finish(4 * 9 * 256, &[8]);
 }
 
-/// An entry for 0 isn't one that is missing: two of zeros alone are twins, one beside the count's own zeros isn't.
+/// Entries of zeros name the number 0: one of them is read, more aren't.
 #[test]
 fn entries_of_zeros() {
     let mut every = EveryCall::new("journal entries of zeros");
