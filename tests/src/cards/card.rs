@@ -108,6 +108,18 @@ impl Card {
             }
         }
     }
+
+    /// As many of them, each once.
+    pub fn free_numbers(&mut self, count: usize) -> Vec<u32> {
+        let mut numbers = Vec::new();
+        while numbers.len() < count {
+            let number = self.free_number();
+            if !numbers.contains(&number) {
+                numbers.push(number);
+            }
+        }
+        numbers
+    }
 }
 
 /// Blocks of the main area in no order, spread over all of it if there are many. The first and the last are left to

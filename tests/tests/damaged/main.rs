@@ -94,12 +94,8 @@ impl Volume {
     fn journal(&mut self, entries: usize) -> Vec<JournalEntry> {
         let card = &mut self.scene.card;
         let mut numbers: Vec<u32> = card.nodes().map(|(_, node)| node.nid).collect();
-        while numbers.len() < entries {
-            let number = card.free_number();
-            if !numbers.contains(&number) {
-                numbers.push(number);
-            }
-        }
+        numbers.extend(card.free_numbers(entries.saturating_sub(numbers.len())));
+        // The root's isn't the first.
         numbers.rotate_left(2);
         let numbers = &numbers[..entries];
         numbers.iter().map(|&nid| self.entry(nid)).collect()

@@ -243,7 +243,7 @@ fn size_4097() {
 fn journal_counts() {
     let mut pulls = Pulls::new("pull by journal count");
     let Scene { mut card, .. } = scene(&mut pulls);
-    let mut numbers: Vec<u32> = (0..MOST_ENTRIES - 1).map(|_| card.free_number()).collect();
+    let mut numbers = card.free_numbers(MOST_ENTRIES - 1);
     numbers.push(ROOT);
     card.journal(&numbers);
     let (block, at) = card.image.journal_place(card.which_pack);
