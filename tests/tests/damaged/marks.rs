@@ -5,6 +5,7 @@ use harptimber_tests::cards::damage::{faults_before_8, HARMS};
 use harptimber_tests::cards::image::Image;
 use harptimber_tests::cards::knobs::Pack;
 use harptimber_tests::cards::layout::checkpoint::*;
+use harptimber_tests::cards::layout::superblock::{CP_PAYLOAD, FEATURE, MAGIC};
 
 use crate::{kinds_in_both, Volume, PACKS};
 
@@ -104,4 +105,25 @@ fn first_answer_that_applies() {
         });
     }
     every.finish(5 * 6, &[0, 4, 5, 6, 7, 8]);
+}
+
+/// With one other fault, which comes before the damage though the pack still passes.
+#[test]
+fn beside_another_fault() {
+    let mut every = EveryCall::new("damaged volumes with another fault");
+    let faults = [(MAGIC, 0, 5), (FEATURE, 1, 6), (CP_PAYLOAD, 1, 6)];
+    for (which, harm) in PACKS.into_iter().cycle().zip(HARMS) {
+        Volume::new(which, Pack::compact(1)).try_changes(|image, sound| {
+            harm(image, which);
+            let harmed = image.mark();
+            for (field, value, answer) in faults {
+                for copy in [0, 1] {
+                    image.set(copy, field, value);
+                }
+                every.expect_refused(&sound.kept, image, answer);
+                image.undo(harmed);
+            }
+        });
+    }
+    every.finish(5 * 3, &[5, 6]);
 }
