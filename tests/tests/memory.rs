@@ -5,14 +5,16 @@ use std::ffi::OsStr;
 use std::process::Command;
 
 use harptimber_tests::calls::guard_script::Script;
+use harptimber_tests::calls::lookups::{distinct_entry, journalled};
 use harptimber_tests::calls::pulls::{lists, Call};
 use harptimber_tests::cards::card::{Card, ROOT};
-use harptimber_tests::cards::damage::Damage;
+use harptimber_tests::cards::damage::{Damage, HARMS};
 use harptimber_tests::cards::directory::{in_slot, Dentry};
 use harptimber_tests::cards::image::Image;
 use harptimber_tests::cards::knobs::{Knobs, Pack};
 use harptimber_tests::cards::layout::dentry::{NAME_LEN, NR_DENTRY_IN_BLOCK};
 use harptimber_tests::cards::layout::inode::{ADDRESSES, I_MODE};
+use harptimber_tests::cards::layout::journal::MOST_ENTRIES;
 use harptimber_tests::cards::layout::sit::SitEntry;
 use harptimber_tests::cards::layout::{BLOCK_SIZE, SEGMENT_BLOCKS};
 use harptimber_tests::cards::random::pick;
@@ -162,6 +164,28 @@ impl Tight {
         self.card.image.undo(0);
     }
 
+    /// Damaged volumes, and a full journal: as it is, and with its first number once more at its end.
+    fn damaged(&mut self, script: &mut Script) {
+        let sound = self.card.image.clone();
+        let image = &mut self.card.image;
+        for harm in HARMS {
+            harm(image, 0);
+            assert_eq!(script.pull(&sound, image, NAME, ADDRESSES), 8);
+            image.undo(0);
+        }
+        let past = self.card.node_numbers;
+        let numbers = past..past + MOST_ENTRIES as u32;
+        let mut journal: Vec<_> = numbers
+            .map(|nid| journalled(nid, distinct_entry(0)))
+            .collect();
+        for (last, answer) in [(u32::MAX, 0), (past, 8)] {
+            journal[MOST_ENTRIES - 1].nid = last;
+            image.set_journal(0, &journal);
+            assert_eq!(script.pull(&sound, image, NAME, ADDRESSES), answer);
+            image.undo(0);
+        }
+    }
+
     /// Entries in the last slots of a directory block at the image's end, that fit and that don't.
     fn slots(&mut self, script: &mut Script) {
         let sound = self.card.image.clone();
@@ -222,6 +246,7 @@ fn tight_card(script: &mut Script, mut tight: Tight) {
     tight.pulls(script);
     tight.slots(script);
     tight.no_blocks(script);
+    tight.damaged(script);
     tight.ends(script);
 }
 

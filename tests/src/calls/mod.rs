@@ -2,6 +2,7 @@
 
 pub mod answers;
 pub mod compares;
+pub mod every_call;
 pub mod guard_script;
 pub mod lent;
 pub mod lookups;

@@ -108,6 +108,18 @@ impl Card {
             }
         }
     }
+
+    /// As many of them, each once.
+    pub fn free_numbers(&mut self, count: usize) -> Vec<u32> {
+        let mut numbers = Vec::new();
+        while numbers.len() < count {
+            let number = self.free_number();
+            if !numbers.contains(&number) {
+                numbers.push(number);
+            }
+        }
+        numbers
+    }
 }
 
 /// Blocks of the main area in no order, spread over all of it if there are many. The first and the last are left to
@@ -164,9 +176,7 @@ impl Card {
             entries.push(JournalEntry { nid, entry });
             self.image.set_nat_entry(nid, copy, elsewhere(entry));
         }
-        let (block, at) = self.pack.journal_place().expect("a journal");
-        let block = self.image.first_block(self.which_pack) + block;
-        self.image.put_journal(block, at, &entries);
+        self.image.set_journal(self.which_pack, &entries);
     }
 }
 

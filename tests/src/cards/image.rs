@@ -7,8 +7,9 @@ use std::path::Path;
 
 use crate::cards::knobs::{Areas, Knobs, Pack};
 use crate::cards::layout::checkpoint::SIT_NAT_VERSION_BITMAP;
+use crate::cards::layout::journal::{self, JournalEntry, N_NATS};
 use crate::cards::layout::nat::{NatEntry, ENTRIES_PER_BLOCK, MAP_BYTES_PER_SEGMENT};
-use crate::cards::layout::{checkpoint, footer, journal, nat, superblock};
+use crate::cards::layout::{checkpoint, footer, nat, superblock};
 use crate::cards::layout::{Field, BLOCK_SIZE, SEGMENT_BLOCKS};
 use crate::cards::sparse::Sparse;
 use crate::cards::versions;
@@ -188,6 +189,11 @@ impl Image {
         offset == checkpoint::CHECKSUM.at as u64
     }
 
+    /// The packs that are there.
+    pub fn packs(&self) -> impl Iterator<Item = usize> + '_ {
+        (0..2).filter(|&which| self.has_pack(which))
+    }
+
     /// The versions of the packs that are there.
     pub fn versions(&self) -> [Option<u64>; 2] {
         [0, 1].map(|which| {
@@ -288,10 +294,36 @@ impl Image {
         }
     }
 
-    pub fn put_journal(&mut self, block: u32, at: usize, entries: &[journal::JournalEntry]) {
-        self.set(block, journal::N_NATS.moved(at), entries.len() as u64);
+    pub fn put_journal(&mut self, block: u32, at: usize, entries: &[JournalEntry]) {
+        self.set(block, N_NATS.moved(at), entries.len() as u64);
         let stored: Vec<u8> = entries.iter().flat_map(|entry| entry.stored()).collect();
-        self.put("journal entries", block, at + journal::N_NATS.size, &stored);
+        self.put("journal entries", block, at + N_NATS.size, &stored);
+    }
+
+    /// The block of a pack's NAT journal, and the journal's first byte there.
+    pub fn journal_place(&self, which: usize) -> (u32, usize) {
+        let (block, at) = self.pack(which).journal_place().expect("a journal");
+        (self.first_block(which) + block, at)
+    }
+
+    /// The counted entries of a pack's NAT journal.
+    pub fn journal(&self, which: usize) -> Vec<JournalEntry> {
+        let (block, at) = self.journal_place(which);
+        let count = self.get(block, N_NATS.moved(at)) as usize;
+        let entries = self.block(block)[at + N_NATS.size..].chunks_exact(journal::ENTRY_SIZE);
+        entries.take(count).map(JournalEntry::read).collect()
+    }
+
+    /// Writes a pack's NAT journal, with as many entries.
+    pub fn set_journal(&mut self, which: usize, entries: &[JournalEntry]) {
+        let (block, at) = self.journal_place(which);
+        self.put_journal(block, at, entries);
+    }
+
+    /// Sets flags of a checkpoint block beside those that it has.
+    pub fn add_flags(&mut self, block: u32, flags: u32) {
+        let old = self.get(block, checkpoint::CKPT_FLAGS);
+        self.set_sealed(block, checkpoint::CKPT_FLAGS, old | u64::from(flags));
     }
 }
 

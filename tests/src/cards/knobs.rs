@@ -53,6 +53,17 @@ impl Pack {
         }
     }
 
+    /// With these flags and enough blocks for them.
+    pub fn flagged(flags: u32) -> Pack {
+        match flags & CP_COMPACT_SUM_FLAG {
+            0 => Pack::plain(1, flags),
+            _ => Pack {
+                flags,
+                ..Pack::compact(1)
+            },
+        }
+    }
+
     /// One of each kind, with its journals elsewhere than the others have them.
     pub fn kinds() -> [Pack; 4] {
         [

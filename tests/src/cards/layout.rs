@@ -109,8 +109,26 @@ pub mod checkpoint {
 
     pub const CP_UMOUNT_FLAG: u32 = 0x1;
     pub const CP_COMPACT_SUM_FLAG: u32 = 0x4;
+    pub const CP_ERROR_FLAG: u32 = 0x8;
+    pub const CP_FSCK_FLAG: u32 = 0x10;
     pub const CP_FASTBOOT_FLAG: u32 = 0x20;
     pub const CP_LARGE_NAT_BITMAP_FLAG: u32 = 0x400;
+
+    /// With any of these a pack isn't read.
+    pub const UNREAD: [u32; 3] = [CP_ERROR_FLAG, CP_FSCK_FLAG, CP_LARGE_NAT_BITMAP_FLAG];
+    pub const ALL_UNREAD: u32 = CP_ERROR_FLAG | CP_FSCK_FLAG | CP_LARGE_NAT_BITMAP_FLAG;
+    /// These say where the journals are; and each mix of them.
+    pub const PLACING: u32 = CP_UMOUNT_FLAG | CP_COMPACT_SUM_FLAG | CP_FASTBOOT_FLAG;
+    pub const PLACINGS: [u32; 8] = [
+        0,
+        CP_UMOUNT_FLAG,
+        CP_FASTBOOT_FLAG,
+        CP_UMOUNT_FLAG | CP_FASTBOOT_FLAG,
+        CP_COMPACT_SUM_FLAG,
+        CP_COMPACT_SUM_FLAG | CP_UMOUNT_FLAG,
+        CP_COMPACT_SUM_FLAG | CP_FASTBOOT_FLAG,
+        CP_COMPACT_SUM_FLAG | CP_UMOUNT_FLAG | CP_FASTBOOT_FLAG,
+    ];
 }
 
 /// The node address table.
@@ -156,6 +174,8 @@ pub mod nat {
 
 /// The NAT journal, wherever in its block it starts.
 pub mod journal {
+    use std::collections::BTreeSet;
+
     use super::nat::NatEntry;
 
     // The count, and the numbers of the first entry.
@@ -173,6 +193,12 @@ pub mod journal {
     pub const IN_COMPACT_BLOCK: usize = 0;
     pub const IN_PLAIN_BLOCK: usize = 3584;
 
+    /// Whether two entries have the same number.
+    pub fn names_one_twice(journal: &[JournalEntry]) -> bool {
+        let numbers: BTreeSet<u32> = journal.iter().map(|entry| entry.nid).collect();
+        numbers.len() < journal.len()
+    }
+
     /// A table entry that stands in the journal.
     #[derive(Clone, Copy, Debug, PartialEq, Eq)]
     pub struct JournalEntry {
@@ -183,6 +209,14 @@ pub mod journal {
     impl JournalEntry {
         pub fn stored(self) -> Vec<u8> {
             [&self.nid.to_le_bytes(), self.entry.stored().as_slice()].concat()
+        }
+
+        pub fn read(stored: &[u8]) -> JournalEntry {
+            let (nid, entry) = stored.split_at(NID.size);
+            JournalEntry {
+                nid: u32::from_le_bytes(nid.try_into().unwrap()),
+                entry: NatEntry::read(entry),
+            }
         }
     }
 }

@@ -3,7 +3,7 @@
 use std::ops::RangeInclusive;
 
 use crate::cards::knobs::{Knobs, Pack};
-use crate::cards::layout::checkpoint::{CP_COMPACT_SUM_FLAG, CP_LARGE_NAT_BITMAP_FLAG};
+use crate::cards::layout::checkpoint::{ALL_UNREAD, CP_COMPACT_SUM_FLAG};
 use crate::cards::layout::journal::{JournalEntry, MOST_ENTRIES};
 use crate::cards::layout::nat::NatEntry;
 use crate::cards::layout::SEGMENT_BLOCKS;
@@ -84,11 +84,10 @@ fn sound_packs(random: &mut Random) -> [Option<Pack>; 2] {
 }
 
 fn sound_pack(random: &mut Random, version: u64) -> Pack {
-    // Any flags but the one that makes a pack unreadable.
-    let flags = random.number() as u32 & !CP_LARGE_NAT_BITMAP_FLAG;
+    // Any flags but those that make a pack unreadable.
+    let flags = random.number() as u32 & !ALL_UNREAD;
     let compact = flags & CP_COMPACT_SUM_FLAG != 0;
     let total = between(random, if compact { 3 } else { 8 }, SEGMENT_BLOCKS);
-    let entries = between(random, 0, MOST_ENTRIES as u32);
     Pack {
         total,
         flags,
@@ -98,12 +97,24 @@ fn sound_pack(random: &mut Random, version: u64) -> Pack {
             random.number() as u32
         },
         nat_map: random.bytes(256),
-        journal: (0..entries).map(|_| journal_entry(random)).collect(),
+        journal: sound_journal(random),
         ..Pack::compact(version)
     }
 }
 
-/// Mostly for one of a few numbers, so that some have several entries.
+/// Up to full, mostly with small numbers. Each stands there once.
+fn sound_journal(random: &mut Random) -> Vec<JournalEntry> {
+    let entries = between(random, 0, MOST_ENTRIES as u32) as usize;
+    let mut journal: Vec<JournalEntry> = Vec::new();
+    while journal.len() < entries {
+        let next = journal_entry(random);
+        if journal.iter().all(|entry| entry.nid != next.nid) {
+            journal.push(next);
+        }
+    }
+    journal
+}
+
 fn journal_entry(random: &mut Random) -> JournalEntry {
     let any = random.number() as u32;
     let small = random.below(40) as u32;

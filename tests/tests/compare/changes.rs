@@ -1,6 +1,6 @@
 //! Compare after a pull: one change at a time to the new card.
 
-use harptimber_tests::calls::compares::{changed, Compares, Kept, SAME};
+use harptimber_tests::calls::compares::{changed, refused, Compares, Kept, SAME};
 use harptimber_tests::calls::lookups::journalled;
 use harptimber_tests::cards::image::Image;
 use harptimber_tests::cards::knobs::{Knobs, Pack};
@@ -176,9 +176,9 @@ fn table_entries() {
     compares.finish(4 * 4 * 2 * 9, &[(15, 0, 0), (16, 0, 2)]);
 }
 
-/// Entries that the new card's journal has: for a listed number the same words or others, behind an
-/// entry that decides, and for numbers that aren't listed.
-fn journals(nid: u32, unlisted: u32, table: NatEntry) -> Vec<(Vec<JournalEntry>, bool)> {
+/// Entries that the new card's journal has: for a listed number the same words or others, and for numbers
+/// that aren't listed. With two for one number it isn't read.
+fn journals(nid: u32, unlisted: u32, table: NatEntry) -> Vec<(Vec<JournalEntry>, Compared)> {
     let same = journalled(
         nid,
         NatEntry {
@@ -202,15 +202,20 @@ fn journals(nid: u32, unlisted: u32, table: NatEntry) -> Vec<(Vec<JournalEntry>,
         },
     );
     let elsewhere = [0, unlisted, u32::MAX].map(|nid| journalled(nid, table));
+    let behind = |entries: &[JournalEntry]| [&elsewhere, entries].concat();
+    let (other, twice) = (changed(2, nid), refused(8, 2));
     vec![
-        (vec![same], true),
-        (vec![other_ino], false),
-        (vec![other_address], false),
-        (vec![same, other_ino, other_address], true),
-        (vec![other_address, same], false),
-        (elsewhere.to_vec(), true),
-        ([elsewhere.as_slice(), &[same]].concat(), true),
-        ([elsewhere.as_slice(), &[other_ino, same]].concat(), false),
+        (vec![same], SAME),
+        (vec![other_ino], other),
+        (vec![other_address], other),
+        (vec![same, other_ino, other_address], twice),
+        (vec![other_address, same], twice),
+        (vec![same, same], twice),
+        (elsewhere.to_vec(), SAME),
+        (behind(&[same]), SAME),
+        (behind(&[other_ino]), other),
+        (behind(&[other_ino, same]), twice),
+        (behind(&elsewhere[1..2]), twice),
     ]
 }
 
@@ -222,16 +227,14 @@ fn journal_entries() {
     } = cards(&mut compares.trial.random);
     let unlisted = scene.card.free_number();
     let card = &mut scene.card;
-    let (block, at) = card.pack.journal_place().expect("a journal");
-    let block = card.image.first_block(card.which_pack) + block;
     for kept in &pulls(&kept) {
         for nid in kept.outcome.nodes() {
             let table = card
                 .image
                 .nat_entry(nid, card.pack.nat_copy(nid / ENTRIES_PER_BLOCK));
-            for (entries, same) in journals(nid, unlisted, table) {
-                card.image.put_journal(block, at, &entries);
-                compares.expect(kept, &card.image, if same { SAME } else { changed(2, nid) });
+            for (entries, paper) in journals(nid, unlisted, table) {
+                card.image.set_journal(card.which_pack, &entries);
+                compares.expect(kept, &card.image, paper);
                 card.image.undo(0);
             }
         }
@@ -240,7 +243,7 @@ fn journal_entries() {
         compares.expect(kept, &card.image, SAME);
         card.image.undo(0);
     }
-    compares.finish(4 * 8 + 4, &[(15, 0, 0), (16, 0, 2)]);
+    compares.finish(4 * 11 + 4, &[(8, 2, 0), (15, 0, 0), (16, 0, 2)]);
 }
 
 /// Where the main area starts or ends. The second copy of the superblock isn't used.

@@ -21,12 +21,11 @@ fn with_journal(compact: bool, journal: Vec<JournalEntry>) -> (Image, u32, Field
             false => Pack::plain(1, CP_UMOUNT_FLAG),
         }
     };
-    let (block, at) = pack.journal_place().unwrap();
     let image = Image::new(&Knobs {
         junk: Some(1),
         ..Knobs::sound().with_pack(0, pack)
     });
-    let block = image.first_block(0) + block;
+    let (block, at) = image.journal_place(0);
     (image, block, N_NATS.moved(at))
 }
 
@@ -72,25 +71,6 @@ fn counts_past_the_most() {
         }
     }
     lookups.finish(2 * (1 + 262 + 24 + 1), &[0, 8]);
-}
-
-#[test]
-fn first_of_two_entries() {
-    let mut lookups = Lookups::new("node lookup with two journal entries");
-    for compact in [true, false] {
-        let (mut image, block, count) = with_journal(compact, Vec::new());
-        for first in 0..MOST_ENTRIES {
-            for second in first + 1..MOST_ENTRIES {
-                let mut journal = full();
-                journal[second].nid = journal[first].nid;
-                image.put_journal(block, count.at, &journal);
-                let number = FIRST + first as u32;
-                lookups.expect_entry(&image, number, distinct_entry(first as u32));
-                image.undo(0);
-            }
-        }
-    }
-    lookups.finish(2 * 38 * 37 / 2, &[0]);
 }
 
 /// A number out of range is 9, also if the journal has it.

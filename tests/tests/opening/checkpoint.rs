@@ -194,7 +194,7 @@ fn total_without_its_last_block() {
 fn other_numbers_of_the_last_block() {
     let mut lookups = Lookups::new("node lookup by other numbers of the last block");
     let others = [
-        (CKPT_FLAGS, u64::from(CP_LARGE_NAT_BITMAP_FLAG)),
+        (CKPT_FLAGS, u64::from(ALL_UNREAD)),
         (CP_PACK_TOTAL_BLOCK_COUNT, 1),
         (CP_PACK_START_SUM, 0),
         (SIT_VER_BITMAP_BYTESIZE, 1),
@@ -370,10 +370,12 @@ fn unreadable_pack() {
     let mut lookups = Lookups::new("node lookup with an unreadable pack");
     let mut image = with_two([0, 0]);
     for (versions, chosen) in CHOSEN {
-        for which in PACKS {
+        for (which, unread) in PACKS
+            .into_iter()
+            .flat_map(|which| UNREAD.map(|flag| (which, flag)))
+        {
             image.set_versions(versions);
-            let first = image.first_block(which);
-            image.set_sealed(first, CKPT_FLAGS, u64::from(CP_LARGE_NAT_BITMAP_FLAG));
+            image.add_flags(image.first_block(which), unread);
             if which == chosen {
                 lookups.expect(&image, NUMBER, 8);
             } else {
@@ -382,7 +384,7 @@ fn unreadable_pack() {
             image.undo(0);
         }
     }
-    lookups.finish(PAIRS * 2, &[0, 8]);
+    lookups.finish(PAIRS * 2 * 3, &[0, 8]);
 }
 
 /// Packs start at the checkpoint address of the copy used, wherever that is.

@@ -55,8 +55,7 @@ const JOURNALS: [(u32, (u32, usize)); 8] = [
 #[test]
 fn flags() {
     let mut lookups = Lookups::new("node lookup by checkpoint flags");
-    let consulted = CP_UMOUNT_FLAG | CP_COMPACT_SUM_FLAG | CP_FASTBOOT_FLAG;
-    let free = !(consulted | CP_LARGE_NAT_BITMAP_FLAG);
+    let free = !(PLACING | ALL_UNREAD);
     let bits = (0..32).map(|bit| free & (1 << bit));
     let others: Vec<u32> = bits.chain([free]).collect();
     for which in PACKS {
@@ -67,14 +66,15 @@ fn flags() {
                 let all = flags | other;
                 image.set_sealed(first, CKPT_FLAGS, u64::from(all));
                 lookups.expect_entry(&image, NUMBER, journal_entry_at(block, at));
-                let large = all | CP_LARGE_NAT_BITMAP_FLAG;
-                image.set_sealed(first, CKPT_FLAGS, u64::from(large));
-                lookups.expect(&image, NUMBER, 8);
+                for unread in UNREAD {
+                    image.set_sealed(first, CKPT_FLAGS, u64::from(all | unread));
+                    lookups.expect(&image, NUMBER, 8);
+                }
                 image.undo(mark);
             }
         }
     }
-    lookups.finish(2 * 2 * 8 * 33, &[0, 8]);
+    lookups.finish(2 * 8 * 33 * (1 + 3), &[0, 8]);
 }
 
 #[test]

@@ -1,6 +1,7 @@
 //! Cards that the published tools write, and readers from elsewhere.
 
 mod accident;
+mod damaged;
 mod files;
 mod lookups;
 mod outside_readers;

@@ -243,11 +243,10 @@ fn size_4097() {
 fn journal_counts() {
     let mut pulls = Pulls::new("pull by journal count");
     let Scene { mut card, .. } = scene(&mut pulls);
-    let mut numbers: Vec<u32> = (0..MOST_ENTRIES - 1).map(|_| card.free_number()).collect();
+    let mut numbers = card.free_numbers(MOST_ENTRIES - 1);
     numbers.push(ROOT);
     card.journal(&numbers);
-    let (block, at) = card.pack.journal_place().expect("a journal");
-    let block = card.image.first_block(card.which_pack) + block;
+    let (block, at) = card.image.journal_place(card.which_pack);
     pulls.expect(&card.image, NAME, 0, 0);
     for (count, answer) in [(39, 8), (37, 11), (0, 11), (38, 0)] {
         card.image.set(block, N_NATS.moved(at), count);

@@ -9,13 +9,14 @@ use harptimber_tests::cards::damage::all_faults;
 use harptimber_tests::cards::directory::Dentry;
 use harptimber_tests::cards::image::Image;
 use harptimber_tests::cards::knobs::{Knobs, Pack};
+use harptimber_tests::cards::layout::checkpoint::PLACINGS;
 use harptimber_tests::cards::layout::sit::SitEntry;
 use harptimber_tests::cards::layout::{journal, BLOCK_SIZE};
 use harptimber_tests::cards::lengths::{lengths, LENGTHS};
 use harptimber_tests::cards::segments::{SegmentCard, Sit};
 use harptimber_tests::trial::Random;
 
-use crate::{journalled, knobs, pack, FLAGS};
+use crate::{journalled, knobs};
 
 /// A card of which every second segment, from 0 on, is off.
 fn half_off(main_segments: u32) -> (SegmentCard, Report) {
@@ -170,7 +171,7 @@ const NAME: &[u8] = b"road.bin";
 
 /// A card with one file of one block; and that block.
 fn with_file(flags: u32) -> (Card, u32) {
-    let knobs = Knobs::sound().with_pack(0, pack(flags));
+    let knobs = Knobs::sound().with_pack(0, Pack::flagged(flags));
     let mut card = Card::new(knobs, Random::new(1));
     card.add_root(0, 1);
     let ino = card.add_file(0, 4096);
@@ -186,7 +187,7 @@ fn other_calls() {
     let mut pulls = Pulls::new("pull with any SIT journal");
     let mut lookups = Lookups::new("node lookup with any SIT journal");
     let mut compares = Compares::new("compare with any SIT journal");
-    for flags in FLAGS {
+    for flags in PLACINGS {
         let (mut card, data) = with_file(flags);
         let (block, count) = Sit::of(&card.image).journal_count();
         card.image.set(block, count, 0);

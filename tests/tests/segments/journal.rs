@@ -2,7 +2,7 @@
 
 use harptimber_tests::calls::segments::{Report, Reports};
 use harptimber_tests::cards::knobs::{Knobs, Pack};
-use harptimber_tests::cards::layout::checkpoint::{CP_COMPACT_SUM_FLAG, CP_UMOUNT_FLAG};
+use harptimber_tests::cards::layout::checkpoint::{CP_COMPACT_SUM_FLAG, CP_UMOUNT_FLAG, PLACINGS};
 use harptimber_tests::cards::layout::journal;
 use harptimber_tests::cards::layout::nat::NatEntry;
 use harptimber_tests::cards::layout::sit::SitEntry;
@@ -11,7 +11,7 @@ use harptimber_tests::cards::random::shuffle;
 use harptimber_tests::cards::segments::SegmentCard;
 use harptimber_tests::sizes::SEGMENTS_MOST;
 
-use crate::{journalled, knobs, pack, FLAGS};
+use crate::{journalled, knobs};
 
 /// More than a table block has.
 const SEGMENTS: u32 = 60;
@@ -23,7 +23,7 @@ const KINDS: [u32; 2] = [CP_COMPACT_SUM_FLAG | CP_UMOUNT_FLAG, CP_UMOUNT_FLAG];
 
 /// Empty segments by the table.
 fn card(flags: u32) -> SegmentCard {
-    SegmentCard::new(&knobs(SEGMENTS, pack(flags)))
+    SegmentCard::new(&knobs(SEGMENTS, Pack::flagged(flags)))
 }
 
 /// Segments of a full journal, in no order: entry n has 2^n valid blocks and a wrong count.
@@ -49,7 +49,7 @@ fn report_of(entries: &[u32]) -> Report {
 #[test]
 fn entries_up_to_the_count() {
     let mut reports = Reports::new("segment report by journal count");
-    for flags in FLAGS {
+    for flags in PLACINGS {
         let mut card = card(flags);
         card.put_journal(&full());
         for count in 0..=MOST {
@@ -65,7 +65,7 @@ fn entries_up_to_the_count() {
 #[test]
 fn counts_past_the_most() {
     let mut reports = Reports::new("segment report by too great journal counts");
-    for flags in FLAGS {
+    for flags in PLACINGS {
         let mut card = card(flags);
         card.put_journal(&full());
         let powers = (3..16).flat_map(|bit| [1 << bit, (1 << bit) + 1, (1 << bit) + 6]);
@@ -217,7 +217,7 @@ fn segments_at_borders() {
     let journal =
         [440, 54, 110, 439, 55, 109].map(|segno| journalled(segno, SitEntry::counted(512, 511)));
     for flags in KINDS {
-        let mut card = SegmentCard::new(&knobs(441, pack(flags)));
+        let mut card = SegmentCard::new(&knobs(441, Pack::flagged(flags)));
         card.put_journal(&journal);
         let off = [54, 55, 109, 110, 439, 440];
         reports.expect(&card.image, &Report::of(&off, 6 * 511));
@@ -234,7 +234,7 @@ fn segments_of_the_largest_card() {
     for flags in KINDS {
         let mut card = SegmentCard::new(&Knobs {
             ssa_segments: 0,
-            ..knobs(SEGMENTS_MOST, pack(flags))
+            ..knobs(SEGMENTS_MOST, Pack::flagged(flags))
         });
         card.put_journal(&journal);
         let off = [504, 505, 8_139, 8_140, 8_184];
@@ -252,12 +252,15 @@ fn beside_a_full_nat_journal() {
         ino: u32::MAX,
         block_addr: u32::MAX,
     };
-    let nat_journal = vec![journal::JournalEntry { nid: 1, entry }; journal::MOST_ENTRIES];
-    for flags in FLAGS {
+    let numbers = 1..=journal::MOST_ENTRIES as u32;
+    let nat_journal: Vec<_> = numbers
+        .map(|nid| journal::JournalEntry { nid, entry })
+        .collect();
+    for flags in PLACINGS {
         let pack = Pack {
             journal: nat_journal.clone(),
             sit_journal: Some(full()),
-            ..pack(flags)
+            ..Pack::flagged(flags)
         };
         let mut card = SegmentCard::new(&knobs(SEGMENTS, pack));
         reports.expect(&card.image, &report_of(&[0, 1, 2, 3, 4, 5]));

@@ -9,7 +9,7 @@ use harptimber_tests::cards::layout::superblock::{MAGIC, SEGMENT_COUNT_MAIN};
 use harptimber_tests::cards::segments::SegmentCard;
 use harptimber_tests::cards::versions::{CHOSEN, PAIRS};
 
-use crate::{journalled, knobs, FLAGS};
+use crate::{journalled, knobs};
 
 const TOTAL: u32 = 12;
 const START_SUM: u32 = 3;
@@ -44,13 +44,12 @@ fn segment_at(block: u32, at: usize) -> u32 {
 #[test]
 fn flags() {
     let mut reports = Reports::new("segment report by checkpoint flags");
-    let consulted = CP_UMOUNT_FLAG | CP_COMPACT_SUM_FLAG | CP_FASTBOOT_FLAG;
-    let free = !(consulted | CP_LARGE_NAT_BITMAP_FLAG);
+    let free = !(PLACING | ALL_UNREAD);
     for which in [0, 1] {
         let mut card = full_of_journals(which);
         let first = card.image.first_block(which);
         let mark = card.image.mark();
-        for flags in FLAGS {
+        for flags in PLACINGS {
             let (block, at) = if flags & CP_COMPACT_SUM_FLAG != 0 {
                 (START_SUM, IN_COMPACT_BLOCK)
             } else if flags != 0 {
@@ -63,14 +62,16 @@ fn flags() {
                 let all = u64::from(flags | other);
                 card.image.set_sealed(first, CKPT_FLAGS, all);
                 reports.expect(&card.image, &paper);
-                let large = all | u64::from(CP_LARGE_NAT_BITMAP_FLAG);
-                card.image.set_sealed(first, CKPT_FLAGS, large);
-                reports.expect(&card.image, &Report::refused(8));
+                for unread in UNREAD {
+                    card.image
+                        .set_sealed(first, CKPT_FLAGS, all | u64::from(unread));
+                    reports.expect(&card.image, &Report::refused(8));
+                }
                 card.image.undo(mark);
             }
         }
     }
-    reports.finish(2 * 8 * 4 * 2, &[0, 8]);
+    reports.finish(2 * 8 * 4 * (1 + 3), &[0, 8]);
 }
 
 /// Every total that passes, with each kind of summaries: the journal goes along with the pack's end, or

@@ -161,7 +161,7 @@ fn bytes_anywhere() {
     let mut reports = Reports::new("segment report with bytes changed anywhere");
     for _ in 0..reports.trial.times(20) {
         let mut image = card(&mut reports.trial.random).card.image;
-        let packs: Vec<usize> = (0..2).filter(|&which| image.has_pack(which)).collect();
+        let packs: Vec<usize> = image.packs().collect();
         let metadata = u64::from(image.areas.main) * BLOCK_SIZE as u64;
         for _ in 0..50 {
             let random = &mut reports.trial.random;
