@@ -138,14 +138,19 @@ static void show_malformed(FILE *out, const struct stop *stop)
 /* How long the file is. */
 static void show_end(FILE *out, const struct stop *stop, const struct card *card)
 {
-    uint64_t size = disk_inode_of(disk_block(card, stop->address)).size;
+    const uint8_t *inode = disk_block(card, stop->address);
+    uint64_t size = disk_inode_of(inode).size;
     if (size == 0) {
         fputs("it is empty", out);
         return;
     }
     fputs("it has ", out);
     show_count(out, size, "byte");
-    fprintf(out, ", so that its last block is %" PRIu64, (size - 1) / BLOCK_SIZE);
+    uint64_t last = (size - 1) / BLOCK_SIZE;
+    if (last <= last_index_of(inode))
+        fprintf(out, ", so that its last block is %" PRIu64, last);
+    else
+        fprintf(out, ", but no place for a block behind %" PRIu32, last_index_of(inode));
 }
 
 void show_stop(FILE *out, const struct stop *stop, const struct card *card)

@@ -79,6 +79,18 @@ uint32_t addresses_of(const uint8_t *inode)
     return (disk_inode_of(inode).inline_flags & DISK_INLINE_XATTR) != 0 ? 873 : 923;
 }
 
+/* Behind the inode's own addresses come those of two direct nodes, two indirect ones and a double one. */
+uint32_t last_index_of(const uint8_t *inode)
+{
+    enum { IN_NODE = 1018 };
+    return addresses_of(inode) + 2 * IN_NODE + 2 * IN_NODE * IN_NODE + IN_NODE * IN_NODE * IN_NODE - 1;
+}
+
+static bool is_past_end(const uint8_t *inode, uint32_t index)
+{
+    return index > last_index_of(inode) || (uint64_t)index * BLOCK_SIZE >= disk_inode_of(inode).size;
+}
+
 /* A block of the file with this inode; null if it is a hole, or where the walk stops. */
 static const uint8_t *file_block(struct walk *walk, uint32_t number, const uint8_t *inode, uint32_t index)
 {
@@ -208,7 +220,7 @@ struct stop walk_pull(const struct card *card, const uint8_t *name, size_t len, 
         return walk.stop;
     walk.stop.in_root = false;
     inode = read_inode(&walk, number);
-    if (inode != NULL && (uint64_t)index * BLOCK_SIZE >= disk_inode_of(inode).size)
+    if (inode != NULL && is_past_end(inode, index))
         walk.stop.answer = HARPTIMBER_PAST_END;
     else if (inode != NULL)
         file_block(&walk, number, inode, index);

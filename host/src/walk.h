@@ -40,6 +40,9 @@ struct stop walk_pull(const struct card *card, const uint8_t *name, size_t len, 
 /* How many addresses an inode holds. */
 uint32_t addresses_of(const uint8_t *inode);
 
+/* The last block that has a place in the file with this inode, however long it says that it is. */
+uint32_t last_index_of(const uint8_t *inode);
+
 /* A node on the way to a block's address. */
 struct step {
     uint32_t place, slot;

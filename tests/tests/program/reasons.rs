@@ -20,6 +20,7 @@ use harptimber_tests::cards::one_file::{Scene, Setting, NAME};
 use harptimber_tests::cards::random_files::{any_target, random_files, RandomFiles};
 use harptimber_tests::cards::tree;
 use harptimber_tests::cards::walk_damage::strike_either;
+use harptimber_tests::program::compare_words::grouped;
 use harptimber_tests::program::page::{expect_head, meaning};
 use harptimber_tests::program::special_build::SpecialBuild;
 use harptimber_tests::program::{run, Ran, Words};
@@ -342,6 +343,26 @@ fn past_the_end() {
         stage.expect(1, 3, &reason, |scene| {
             scene.card.image.set(inode, I_SIZE, size)
         });
+    }
+}
+
+/// A size of more blocks than a file has places for, whose last the addresses of the inode tell.
+#[test]
+fn past_the_last_place() {
+    let mut stage = Stage::new();
+    let inode = stage.scene.file_block();
+    for (inline, last) in [(0, 1_057_053_438u32), (INLINE_XATTR, 1_057_053_388)] {
+        for blocks in [u64::from(last) + 2, 1 << 50] {
+            let size = blocks * BLOCK_SIZE as u64;
+            let bytes = grouped(size);
+            let reason = format!("it has {bytes} bytes, but no place for a block behind {last}");
+            let fields = [(I_INLINE, inline), (I_SIZE, size)];
+            stage.expect(last + 1, 3, &reason, |scene| {
+                for (field, number) in fields {
+                    scene.card.image.set(inode, field, number);
+                }
+            });
+        }
     }
 }
 
