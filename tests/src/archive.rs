@@ -1,0 +1,122 @@
+//! Safe wrappers over the archive's C functions. `bench/before` has them a second time, over an earlier archive whose
+//! functions are called earlier_* there.
+
+use super::{Compared, Entry, Hashed, Place, Pulled, Segments};
+
+#[cfg_attr(not(feature = "before"), link(name = "harptimber", kind = "static"))]
+#[cfg_attr(feature = "before", link(name = "earlier", kind = "static"))]
+extern "C" {
+    #[cfg_attr(feature = "before", link_name = "earlier_name_hash")]
+    fn harptimber_name_hash(name: *const u8, name_len: usize) -> Hashed;
+    #[cfg_attr(feature = "before", link_name = "earlier_file_place")]
+    fn harptimber_file_place(addresses: u32, index: u32) -> Place;
+    #[cfg_attr(feature = "before", link_name = "earlier_node_lookup")]
+    fn harptimber_node_lookup(image: *const u8, image_len: usize, number: u32) -> Entry;
+    #[cfg_attr(feature = "before", link_name = "earlier_pull")]
+    fn harptimber_pull(
+        image: *const u8,
+        image_len: usize,
+        name: *const u8,
+        name_len: usize,
+        index: u32,
+        block: *mut u8,
+        block_len: usize,
+        nodes: *mut u8,
+        nodes_len: usize,
+        blocks: *mut u8,
+        blocks_len: usize,
+    ) -> Pulled;
+    #[cfg_attr(feature = "before", link_name = "earlier_compare")]
+    fn harptimber_compare(
+        kept: *const u8,
+        kept_len: usize,
+        fresh: *const u8,
+        fresh_len: usize,
+        nodes: *const u8,
+        nodes_len: usize,
+        node_count: u32,
+        blocks: *const u8,
+        blocks_len: usize,
+        block_count: u32,
+    ) -> Compared;
+    #[cfg_attr(feature = "before", link_name = "earlier_segment_report")]
+    fn harptimber_segment_report(
+        image: *const u8,
+        image_len: usize,
+        list: *mut u8,
+        list_len: usize,
+    ) -> Segments;
+}
+
+pub fn name_hash(name: &[u8]) -> Hashed {
+    // SAFETY: a slice's pointer is never null, and its bytes can be read.
+    unsafe { harptimber_name_hash(name.as_ptr(), name.len()) }
+}
+
+pub fn file_place(addresses: u32, index: u32) -> Place {
+    // SAFETY: only numbers cross.
+    unsafe { harptimber_file_place(addresses, index) }
+}
+
+pub fn node_lookup(image: &[u8], number: u32) -> Entry {
+    // SAFETY: a slice's pointer is never null, and its bytes can be read.
+    unsafe { harptimber_node_lookup(image.as_ptr(), image.len(), number) }
+}
+
+pub fn pull(
+    image: &[u8],
+    name: &[u8],
+    index: u32,
+    block: &mut [u8],
+    nodes: &mut [u8],
+    blocks: &mut [u8],
+) -> Pulled {
+    // SAFETY: a slice's pointer is never null, the bytes of all five can be read and those of the
+    // last three written, and slices of which some are lent for writing don't overlap.
+    unsafe {
+        harptimber_pull(
+            image.as_ptr(),
+            image.len(),
+            name.as_ptr(),
+            name.len(),
+            index,
+            block.as_mut_ptr(),
+            block.len(),
+            nodes.as_mut_ptr(),
+            nodes.len(),
+            blocks.as_mut_ptr(),
+            blocks.len(),
+        )
+    }
+}
+
+pub fn compare(
+    kept: &[u8],
+    fresh: &[u8],
+    nodes: &[u8],
+    node_count: u32,
+    blocks: &[u8],
+    block_count: u32,
+) -> Compared {
+    // SAFETY: a slice's pointer is never null, and the bytes of all four can be read.
+    unsafe {
+        harptimber_compare(
+            kept.as_ptr(),
+            kept.len(),
+            fresh.as_ptr(),
+            fresh.len(),
+            nodes.as_ptr(),
+            nodes.len(),
+            node_count,
+            blocks.as_ptr(),
+            blocks.len(),
+            block_count,
+        )
+    }
+}
+
+pub fn segment_report(image: &[u8], list: &mut [u8]) -> Segments {
+    // SAFETY: a slice's pointer is never null, the bytes of both can be read and the list's written,
+    // and the list doesn't overlap the image.
+    unsafe { harptimber_segment_report(image.as_ptr(), image.len(), list.as_mut_ptr(), list.len()) }
+}
