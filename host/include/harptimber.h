@@ -85,7 +85,7 @@ enum harptimber_answer {
      * at least one of these:
      *   - the pack's first block has the flag error (8 hex), needs check (10 hex, fsck to the tools) or
      *     large_nat_bitmap (400 hex);
-     *   - its SIT or its NAT map hasn't 32 bytes a segment of its area, or together they are too long for it;
+     *   - its SIT or its NAT map hasn't 32 bytes a segment of its area, or together they are too long for that block;
      *   - the NAT journal's block doesn't lie in the pack; or the journal counts more than 38 entries, or has
      *     two for one number, be they equal or not;
      *   - for harptimber_segment_report also: the SIT journal counts more than 6 entries.

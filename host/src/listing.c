@@ -13,7 +13,7 @@
 /* A directory with more names than this isn't read to its end. */
 enum { MOST_NAMES = 1000000 };
 
-enum { NODE_SLOTS = 1018, INODE_NODES = 5 };
+enum { INODE_NODES = 5 };
 
 /* Goes on behind something that is wrong, unless there was too much of it already. */
 static void go_on(struct listing *listing)

@@ -207,9 +207,9 @@ static void judge_maps(struct opening *opening, const uint8_t *superblock, const
     uint64_t nat_wanted = 32 * (uint64_t)disk_area_segments(superblock, DISK_NAT);
     if (sit != sit_wanted)
         caused(opening, CAUSE_MAPS, "sit_ver_bitmap_bytesize is %" PRIu64 ", not %" PRIu64, sit, sit_wanted);
-    else if (nat != nat_wanted)
+    if (nat != nat_wanted)
         caused(opening, CAUSE_MAPS, "nat_ver_bitmap_bytesize is %" PRIu64 ", not %" PRIu64, nat, nat_wanted);
-    else if (192 + sit + nat > CHECKSUM_AT)
+    if (192 + sit + nat > CHECKSUM_AT)
         caused(opening, CAUSE_MAPS, "the maps end at byte %" PRIu64 " of their block, behind 4092", 192 + sit + nat);
 }
 

@@ -82,8 +82,8 @@ uint32_t addresses_of(const uint8_t *inode)
 /* Behind the inode's own addresses come those of two direct nodes, two indirect ones and a double one. */
 uint32_t last_index_of(const uint8_t *inode)
 {
-    enum { IN_NODE = 1018 };
-    return addresses_of(inode) + 2 * IN_NODE + 2 * IN_NODE * IN_NODE + IN_NODE * IN_NODE * IN_NODE - 1;
+    enum { DIRECT = NODE_SLOTS, INDIRECT = NODE_SLOTS * DIRECT, DOUBLE = NODE_SLOTS * INDIRECT };
+    return addresses_of(inode) + 2 * DIRECT + 2 * INDIRECT + DOUBLE - 1;
 }
 
 static bool is_past_end(const uint8_t *inode, uint32_t index)

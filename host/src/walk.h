@@ -37,6 +37,9 @@ const uint8_t *walk_address(struct walk *walk, uint32_t address, uint32_t index)
 /* Walks as a pull does, to its end or to where it stops. */
 struct stop walk_pull(const struct card *card, const uint8_t *name, size_t len, uint32_t index);
 
+/* How many addresses, or numbers of nodes, a node has that is no inode. */
+enum { NODE_SLOTS = 1018 };
+
 /* How many addresses an inode holds. */
 uint32_t addresses_of(const uint8_t *inode);
 

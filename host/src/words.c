@@ -117,14 +117,18 @@ static void show_out_of_shape(FILE *out, const struct asked *asked)
 }
 
 /*
- * Whether fsck.f2fs -f makes the card readable again. Asked by its own flag for a check, it makes one and clears that flag and
- * the error flag. Else it writes nothing where it finds nothing wrong, as with an error flag alone or a number that is there
+ * What fsck.f2fs -f does about the causes, if it does no harm. Asked by its own flag for a check, it makes one and clears that flag
+ * and the error flag. Else it writes nothing where it finds nothing wrong, as with an error flag alone or a number that is there
  * twice; and of entries that differ it may take the one that loses the file.
  */
-static bool fsck_helps(uint32_t causes)
+static void show_fsck(FILE *out, uint32_t causes)
 {
-    uint32_t cleared = cause_bit(CAUSE_ERROR_FLAG) | cause_bit(CAUSE_NEEDS_CHECK_FLAG);
-    return (causes & cause_bit(CAUSE_NEEDS_CHECK_FLAG)) != 0 && (causes & ~cleared) == 0;
+    uint32_t error = cause_bit(CAUSE_ERROR_FLAG), check = cause_bit(CAUSE_NEEDS_CHECK_FLAG);
+    if (causes == check || causes == (check | error))
+        fprintf(out, "; fsck.f2fs -f checks it and clears %s; it writes to the card, so keep a copy",
+                causes == check ? "the flag" : "both flags");
+    else if (causes == error)
+        fputs("; fsck.f2fs -f clears it only if it finds something to mend; it writes to the card then, so keep a copy", out);
 }
 
 /* Why a card doesn't open. */
@@ -132,10 +136,10 @@ static void show_unopened(FILE *out, const struct card *card, uint32_t answer)
 {
     struct opening opening;
     opening_read(&opening, card);
-    fputs(opening.answer == answer ? opening.why : "", out);
-    if (opening.answer == answer && fsck_helps(opening.causes))
-        fprintf(out, "; fsck.f2fs -f checks it and clears %s; it writes to the card, so keep a copy",
-                (opening.causes & cause_bit(CAUSE_ERROR_FLAG)) != 0 ? "both flags" : "the flag");
+    if (opening.answer == answer) {
+        fputs(opening.why, out);
+        show_fsck(out, opening.causes);
+    }
     bool marked = opening.copies[0].marked || opening.copies[1].marked;
     if (answer == HARPTIMBER_NO_SUPERBLOCK && !show_disk(out, card) && !marked)
         fputs("; perhaps it is another file system", out);

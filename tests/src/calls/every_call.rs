@@ -27,7 +27,7 @@ pub struct Sound<'a> {
 }
 
 pub struct EveryCall {
-    pub lookups: Lookups,
+    lookups: Lookups,
     pulls: Pulls,
     reports: Reports,
     compares: Compares,

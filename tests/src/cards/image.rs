@@ -320,6 +320,12 @@ impl Image {
         self.put_journal(block, at, entries);
     }
 
+    /// Counts other entries of a pack's NAT journal, which stay as they are.
+    pub fn set_journal_count(&mut self, which: usize, count: usize) {
+        let (block, at) = self.journal_place(which);
+        self.set(block, N_NATS.moved(at), count as u64);
+    }
+
     /// Sets flags of a checkpoint block beside those that it has.
     pub fn add_flags(&mut self, block: u32, flags: u32) {
         let old = self.get(block, checkpoint::CKPT_FLAGS);

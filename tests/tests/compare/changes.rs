@@ -193,11 +193,10 @@ fn journals(nid: u32, unlisted: u32, table: NatEntry) -> Vec<(Vec<JournalEntry>,
             ..table
         },
     );
-    let address = table.block_addr ^ 1;
     let other_address = journalled(
         nid,
         NatEntry {
-            block_addr: address,
+            block_addr: table.block_addr ^ 1,
             ..table
         },
     );

@@ -3,7 +3,6 @@
 use harptimber_tests::calls::every_call::EveryCall;
 use harptimber_tests::calls::lookups::{distinct_entry, journalled, Lookups};
 use harptimber_tests::cards::card::ROOT;
-use harptimber_tests::cards::image::Image;
 use harptimber_tests::cards::knobs::Pack;
 use harptimber_tests::cards::layout::checkpoint::CP_UMOUNT_FLAG;
 use harptimber_tests::cards::layout::journal::{JournalEntry, ENTRY_SIZE, MOST_ENTRIES, N_NATS};
@@ -32,11 +31,6 @@ fn with_twin(
         false => journalled(nid, journal[second].entry),
     };
     journal
-}
-
-fn set_count(image: &mut Image, which: usize, count: usize) {
-    let (block, at) = image.journal_place(which);
-    image.set(block, N_NATS.moved(at), count as u64);
 }
 
 /// Of 2, 3 and 38 entries, with equal and unequal twins, for every call.
@@ -83,9 +77,9 @@ fn around_the_count() {
             for (pair, equal) in pairs(MOST_ENTRIES).zip([true, false].into_iter().cycle()) {
                 image.set_journal(which, &with_twin(&journal, pair, equal));
                 lookups.expect(image, number, 8);
-                set_count(image, which, pair[1] + 1);
+                image.set_journal_count(which, pair[1] + 1);
                 lookups.expect(image, number, 8);
-                set_count(image, which, pair[1]);
+                image.set_journal_count(which, pair[1]);
                 lookups.expect_entry(image, number, entry);
                 image.undo(0);
             }
@@ -104,12 +98,12 @@ fn counts_of_one_number() {
         volume.try_changes(|image, sound| {
             image.set_journal(which, &journal);
             for count in [0, 1] {
-                set_count(image, which, count);
+                image.set_journal_count(which, count);
                 every.expect_read(sound, image);
             }
             // By the count alone it would be 8 from 39 on.
             for count in (2..=41).chain([255, 256, 65_535]) {
-                set_count(image, which, count);
+                image.set_journal_count(which, count);
                 every.expect_refused(&sound.kept, image, 8);
             }
         });
@@ -133,9 +127,9 @@ fn thirty_ninth_entry() {
                 let behind = at + N_NATS.size + MOST_ENTRIES * ENTRY_SIZE;
                 image.put("39th entry", block, behind, &entry.stored()[..11]);
                 every.expect_read(sound, image);
-                set_count(image, which, MOST_ENTRIES + 1);
+                image.set_journal_count(which, MOST_ENTRIES + 1);
                 every.expect_refused(&sound.kept, image, 8);
-                set_count(image, which, MOST_ENTRIES);
+                image.set_journal_count(which, MOST_ENTRIES);
             }
         });
     }

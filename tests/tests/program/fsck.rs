@@ -6,15 +6,15 @@ use std::path::PathBuf;
 use std::process::Command;
 
 use harptimber_tests::cards::image::Image;
-use harptimber_tests::cards::layout::checkpoint::{CKPT_FLAGS, CP_COMPACT_SUM_FLAG};
-use harptimber_tests::cards::layout::journal::{JournalEntry, N_NATS};
+use harptimber_tests::cards::layout::checkpoint::*;
+use harptimber_tests::cards::layout::journal::JournalEntry;
 use harptimber_tests::cards::layout::slots::I_ADDR;
 use harptimber_tests::cards::on_disk::OnDisk;
 use harptimber_tests::program::{run, Ran};
 use harptimber_tests::tools::published::{self, contents, filled_with, formatted, Scratch};
 use harptimber_tests::trial::Random;
 
-use crate::unread::{causes, count_place, entry, ERROR, FSCK};
+use crate::unread::{causes, entry};
 
 const NAME: &[u8] = b"road.bin";
 
@@ -62,9 +62,7 @@ impl Published {
     /// In the journal of the pack in use.
     fn put_journal(&mut self, entries: &[JournalEntry]) {
         let which = self.image.pack_in_use();
-        let (block, field) = count_place(&self.image, which);
-        let at = field.at - N_NATS.at;
-        self.image.put_journal(block, at, entries);
+        self.image.set_journal(which, entries);
     }
 
     fn save(&self) -> PathBuf {
@@ -121,7 +119,7 @@ fn needs_check() {
             }
             assert_eq!(card.image.pack_in_use(), which);
             let mark = card.image.mark();
-            for bits in [FSCK, FSCK | ERROR] {
+            for bits in [CP_FSCK_FLAG, CP_FSCK_FLAG | CP_ERROR_FLAG] {
                 set_flags(&mut card.image, which, |flags| flags | bits);
                 let path = card.save();
                 assert!(is_advised(&path), "no advice");
@@ -141,7 +139,7 @@ fn needs_check_of_an_empty_card() {
     let which = image.pack_in_use();
     let flags = image.pack(which).flags;
     assert!(flags & CP_COMPACT_SUM_FLAG != 0, "flags {flags:#x}");
-    set_flags(&mut image, which, |flags| flags & !NAT_BITS | FSCK);
+    set_flags(&mut image, which, |flags| flags & !NAT_BITS | CP_FSCK_FLAG);
     let disk = OnDisk::new(image);
     assert!(is_advised(&disk.path()), "no advice");
     fsck(&disk.path()).expect(0);
@@ -154,7 +152,7 @@ fn needs_check_of_a_damaged_card() {
     let mut card = Published::new();
     let inode = card.road_entry().entry.block_addr;
     let which = card.image.pack_in_use();
-    set_flags(&mut card.image, which, |flags| flags | FSCK);
+    set_flags(&mut card.image, which, |flags| flags | CP_FSCK_FLAG);
     for (address, kept) in [(None, true), (Some(77), false)] {
         if let Some(address) = address {
             card.image.set(inode, I_ADDR, address);
@@ -178,16 +176,25 @@ fn expect_left(card: &Published, expected: &[&str]) {
     assert_eq!(causes(&json), expected, "in {json:?}");
 }
 
-/// By an error flag alone fsck.f2fs doesn't go.
+/// Of an error flag alone fsck.f2fs takes no notice. If it has something else to mend, it clears that, too.
 #[test]
 fn error_alone() {
-    let mut card = Published::new().without_nat_bits();
-    let which = card.image.pack_in_use();
-    set_flags(&mut card.image, which, |flags| flags | ERROR);
-    expect_left(&card, &["error_flag"]);
+    let mark = |mut card: Published| {
+        let which = card.image.pack_in_use();
+        set_flags(&mut card.image, which, |flags| flags | CP_ERROR_FLAG);
+        card
+    };
+    expect_left(&mark(Published::new().without_nat_bits()), &["error_flag"]);
+    // What it has noted beside the pack isn't of these bytes.
+    let card = mark(Published::new());
+    let path = card.save();
+    assert!(!is_advised(&path), "advice");
+    fsck(&path).expect(0);
+    run(&[&"info", &path]).expect(0);
+    assert!(card.has_road(&path), "the file's bytes");
 }
 
-/// Nor by a number that is there twice; and beside that, a check that is asked for doesn't help.
+/// Nor of a number that is there twice; and beside that, a check that is asked for doesn't help.
 #[test]
 fn equal_entries() {
     let mut card = Published::new().without_nat_bits();
@@ -195,7 +202,7 @@ fn equal_entries() {
     card.put_journal(&[road, road]);
     expect_left(&card, &["number_twice"]);
     let which = card.image.pack_in_use();
-    set_flags(&mut card.image, which, |flags| flags | FSCK);
+    set_flags(&mut card.image, which, |flags| flags | CP_FSCK_FLAG);
     let path = card.save();
     assert!(!is_advised(&path), "advice");
     fsck(&path).expect(0);

@@ -352,10 +352,14 @@ fn past_the_last_place() {
     let mut stage = Stage::new();
     let inode = stage.scene.file_block();
     for (inline, last) in [(0, 1_057_053_438u32), (INLINE_XATTR, 1_057_053_388)] {
-        for blocks in [u64::from(last) + 2, 1 << 50] {
+        let most = u64::from(last) + 1;
+        for blocks in [most, most + 1, 1 << 50] {
             let size = blocks * BLOCK_SIZE as u64;
-            let bytes = grouped(size);
-            let reason = format!("it has {bytes} bytes, but no place for a block behind {last}");
+            let end = match blocks == most {
+                true => format!("so that its last block is {last}"),
+                false => format!("but no place for a block behind {last}"),
+            };
+            let reason = format!("it has {} bytes, {end}", grouped(size));
             let fields = [(I_INLINE, inline), (I_SIZE, size)];
             stage.expect(last + 1, 3, &reason, |scene| {
                 for (field, number) in fields {

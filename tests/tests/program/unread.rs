@@ -6,9 +6,8 @@ use std::path::PathBuf;
 use harptimber_tests::cards::image::Image;
 use harptimber_tests::cards::knobs::{Knobs, Pack};
 use harptimber_tests::cards::layout::checkpoint::*;
-use harptimber_tests::cards::layout::journal::{self, JournalEntry, MOST_ENTRIES, N_NATS};
+use harptimber_tests::cards::layout::journal::{self, names_one_twice, JournalEntry, MOST_ENTRIES};
 use harptimber_tests::cards::layout::nat::NatEntry;
-use harptimber_tests::cards::layout::Field;
 use harptimber_tests::cards::on_disk::OnDisk;
 use harptimber_tests::cards::random::pick;
 use harptimber_tests::node_lookup;
@@ -22,17 +21,25 @@ use harptimber_tests::trial::Random;
 
 const NAME: &[u8] = b"road.bin";
 
-// The flags by which F2FS marks a volume as damaged: CP_ERROR_FLAG and CP_FSCK_FLAG.
-pub(crate) const ERROR: u32 = 0x8;
-pub(crate) const FSCK: u32 = 0x10;
-
 const ERROR_WORDS: &str = "its error flag (0x8) is set";
 const FSCK_WORDS: &str = "its fsck flag (0x10) is set: the card needs a check";
 const LARGE_WORDS: &str = "large_nat_bitmap is set, which isn't read";
 
-/// What is said where fsck.f2fs helps.
-fn hint(cleared: &str) -> String {
-    format!("; fsck.f2fs -f checks it and clears {cleared}; it writes to the card, so keep a copy")
+/// What fsck.f2fs does, of an error flag alone and where the card needs a check.
+const HINT_OF_ERROR: &str =
+    "; fsck.f2fs -f clears it only if it finds something to mend; it writes to the card then, so keep a copy";
+const HINT_OF_CHECK: &str =
+    "; fsck.f2fs -f checks it and clears the flag; it writes to the card, so keep a copy";
+const HINT_OF_BOTH: &str =
+    "; fsck.f2fs -f checks it and clears both flags; it writes to the card, so keep a copy";
+
+fn hint(causes: &[&str]) -> &'static str {
+    match causes {
+        ["error_flag"] => HINT_OF_ERROR,
+        ["needs_check_flag"] => HINT_OF_CHECK,
+        ["error_flag", "needs_check_flag"] => HINT_OF_BOTH,
+        _ => "",
+    }
 }
 
 pub(crate) fn entry(nid: u32, version: u8, ino: u32, block_addr: u32) -> JournalEntry {
@@ -52,12 +59,6 @@ fn entries(count: usize) -> Vec<JournalEntry> {
 
 fn with_pack(which: usize, pack: Pack) -> Image {
     Image::new(&Knobs::sound().with_pack(which, pack))
-}
-
-/// The block of a pack's NAT journal, and the journal's count there.
-pub(crate) fn count_place(image: &Image, which: usize) -> (u32, Field) {
-    let (block, at) = image.pack(which).journal_place().expect("a journal");
-    (image.first_block(which) + block, N_NATS.moved(at))
 }
 
 pub(crate) fn causes(json: &Json) -> Vec<&str> {
@@ -129,29 +130,25 @@ fn expect_several(kept: &PathBuf, new: &PathBuf, expected: &[&str], reason: &str
 /// Each flag alone and both, in either pack and in each kind of pack.
 #[test]
 fn flags() {
-    let large = CP_LARGE_NAT_BITMAP_FLAG;
     let both = [ERROR_WORDS, FSCK_WORDS].join("; ");
-    let cases: [(u32, &[&str], String); 4] = [
-        (ERROR, &["error_flag"], ERROR_WORDS.to_string()),
+    let cases: [(u32, &[&str], &str); 4] = [
+        (CP_ERROR_FLAG, &["error_flag"], ERROR_WORDS),
+        (CP_FSCK_FLAG, &["needs_check_flag"], FSCK_WORDS),
         (
-            FSCK,
-            &["needs_check_flag"],
-            format!("{FSCK_WORDS}{}", hint("the flag")),
-        ),
-        (
-            ERROR | FSCK,
+            CP_ERROR_FLAG | CP_FSCK_FLAG,
             &["error_flag", "needs_check_flag"],
-            format!("{both}{}", hint("both flags")),
+            &both,
         ),
-        (large, &["large_nat_bitmap"], LARGE_WORDS.to_string()),
+        (CP_LARGE_NAT_BITMAP_FLAG, &["large_nat_bitmap"], LARGE_WORDS),
     ];
     for pack in Pack::kinds() {
-        for (which, (bits, causes, reason)) in
+        for (which, (bits, causes, words)) in
             (0..2).flat_map(|which| cases.iter().map(move |case| (which, case)))
         {
             let mut pack = pack.clone();
             pack.flags |= bits;
-            expect_unread(with_pack(which, pack), causes, reason);
+            let reason = format!("{words}{}", hint(causes));
+            expect_unread(with_pack(which, pack), causes, &reason);
         }
     }
 }
@@ -159,7 +156,7 @@ fn flags() {
 /// No other flag keeps a card from being read, be they all set.
 #[test]
 fn other_flags() {
-    let refused = ERROR | FSCK | CP_LARGE_NAT_BITMAP_FLAG;
+    let refused = CP_ERROR_FLAG | CP_FSCK_FLAG | CP_LARGE_NAT_BITMAP_FLAG;
     let alone = (0..32).map(|bit| 1 << bit).filter(|bit| bit & refused == 0);
     for flags in alone.chain([!refused]) {
         let pack = Pack {
@@ -176,7 +173,7 @@ fn flags_of_the_last_block() {
     for which in 0..2 {
         let mut image = with_pack(which, Pack::compact(1));
         let last = image.last_block(which);
-        image.set_sealed(last, CKPT_FLAGS, u64::from(ERROR | FSCK));
+        image.set_sealed(last, CKPT_FLAGS, u64::from(CP_ERROR_FLAG | CP_FSCK_FLAG));
         expect_info(&OnDisk::new(image), None);
     }
 }
@@ -197,8 +194,7 @@ fn maps_and_journals() {
         }
         for count in [39, 65535] {
             let mut image = with_pack(which, pack.clone());
-            let (block, field) = count_place(&image, which);
-            image.set(block, field, count);
+            image.set_journal_count(which, count);
             let reason = format!("the NAT journal counts {count} entries, at most 38 fit");
             expect_unread(image, &["journal_count"], &reason);
         }
@@ -298,9 +294,9 @@ fn places_of_two() {
                 };
                 let mut disk = OnDisk::new(with_pack(0, pack));
                 expect_info(&disk, Some(&reason));
-                let (block, field) = count_place(&disk.image, 0);
+                let (block, _) = disk.image.journal_place(0);
                 for (count, reason) in [(other, None), (other + 1, Some(&*reason))] {
-                    disk.image.set(block, field, count as u64);
+                    disk.image.set_journal_count(0, count);
                     disk.write_blocks(&[block]);
                     expect_info(&disk, reason);
                 }
@@ -346,46 +342,48 @@ fn first_of_pairs() {
     }
 }
 
-/// A pack with some of the causes, each of which adds its own words; fsck.f2fs is named only where no other one is in the way.
+/// Causes that don't exclude each other, each with its words.
+const TOGETHER: [(&str, &str); 5] = [
+    ("error_flag", ERROR_WORDS),
+    ("needs_check_flag", FSCK_WORDS),
+    ("large_nat_bitmap", LARGE_WORDS),
+    (
+        "maps",
+        "sit_ver_bitmap_bytesize is 63, not 64; nat_ver_bitmap_bytesize is 65, not 64",
+    ),
+    (
+        "number_twice",
+        "the NAT journal names node 7 twice, in its entries 0 and 1, which are equal",
+    ),
+];
+
+/// A card with some of them.
+fn with_causes(has: impl Fn(usize) -> bool) -> Image {
+    let mut pack = Pack::compact(1);
+    let flags = [CP_ERROR_FLAG, CP_FSCK_FLAG, CP_LARGE_NAT_BITMAP_FLAG];
+    for (cause, flag) in flags.into_iter().enumerate() {
+        pack.flags |= if has(cause) { flag } else { 0 };
+    }
+    pack.journal = vec![entry(7, 0, 7, 3600); if has(4) { 2 } else { 1 }];
+    let mut image = with_pack(0, pack);
+    if has(3) {
+        let first = image.first_block(0);
+        image.set_sealed(first, SIT_VER_BITMAP_BYTESIZE, 63);
+        image.set_sealed(first, NAT_VER_BITMAP_BYTESIZE, 65);
+    }
+    image
+}
+
+/// Each adds its own words; fsck.f2fs is named only where no other one is in the way.
 #[test]
 fn several_causes() {
-    let all = [
-        ("error_flag", ERROR_WORDS),
-        ("needs_check_flag", FSCK_WORDS),
-        ("large_nat_bitmap", LARGE_WORDS),
-        ("maps", "nat_ver_bitmap_bytesize is 65, not 64"),
-        (
-            "number_twice",
-            "the NAT journal names node 7 twice, in its entries 0 and 1, which are equal",
-        ),
-    ];
-    for chosen in 0..1 << all.len() {
+    expect_info(&OnDisk::new(with_causes(|_| false)), None);
+    for chosen in 1..1 << TOGETHER.len() {
         let has = |cause: usize| chosen >> cause & 1 == 1;
-        let mut pack = Pack::compact(1);
-        for (cause, flag) in [ERROR, FSCK, CP_LARGE_NAT_BITMAP_FLAG]
-            .into_iter()
-            .enumerate()
-        {
-            pack.flags |= if has(cause) { flag } else { 0 };
-        }
-        pack.journal = vec![entry(7, 0, 7, 3600); if has(4) { 2 } else { 1 }];
-        let mut image = with_pack(0, pack);
-        if has(3) {
-            image.set_sealed(image.first_block(0), NAT_VER_BITMAP_BYTESIZE, 65);
-        }
-        let causes: Vec<_> = (0..all.len()).filter(|&cause| has(cause)).collect();
-        let (names, words): (Vec<&str>, Vec<&str>) = causes.iter().map(|&cause| all[cause]).unzip();
-        let helps = match names[..] {
-            ["needs_check_flag"] => hint("the flag"),
-            ["error_flag", "needs_check_flag"] => hint("both flags"),
-            _ => String::new(),
-        };
-        let reason = format!("{}{helps}", words.join("; "));
-        if chosen == 0 {
-            expect_info(&OnDisk::new(image), None);
-        } else {
-            expect_unread(image, &names, &reason);
-        }
+        let causes = (0..TOGETHER.len()).filter(|&cause| has(cause));
+        let (names, words): (Vec<&str>, Vec<&str>) = causes.map(|cause| TOGETHER[cause]).unzip();
+        let reason = format!("{}{}", words.join("; "), hint(&names));
+        expect_unread(with_causes(has), &names, &reason);
     }
 }
 
@@ -393,7 +391,12 @@ fn several_causes() {
 #[test]
 fn other_pack() {
     for used in 0..2 {
-        for bits in [ERROR, FSCK, ERROR | FSCK, CP_LARGE_NAT_BITMAP_FLAG] {
+        for bits in [
+            CP_ERROR_FLAG,
+            CP_FSCK_FLAG,
+            CP_ERROR_FLAG | CP_FSCK_FLAG,
+            CP_LARGE_NAT_BITMAP_FLAG,
+        ] {
             let other = Pack {
                 journal: vec![entry(7, 0, 7, 3600); 2],
                 flags: CP_COMPACT_SUM_FLAG | CP_UMOUNT_FLAG | bits,
@@ -419,7 +422,7 @@ fn other_pack() {
 #[test]
 fn no_falling_back() {
     for used in 0..2 {
-        for bits in [ERROR, FSCK, ERROR | FSCK] {
+        for bits in [CP_ERROR_FLAG, CP_FSCK_FLAG, CP_ERROR_FLAG | CP_FSCK_FLAG] {
             let mut packs = [Pack::compact(2), Pack::compact(1)].map(Some);
             packs[0].as_mut().unwrap().flags |= bits;
             packs.rotate_right(used);
@@ -438,8 +441,8 @@ fn expect_flags(path: &PathBuf, bits: [u32; 2], used: usize, answer: u32) {
         let named = [
             (CP_UMOUNT_FLAG, "unmount"),
             (CP_COMPACT_SUM_FLAG, "compacted_summary"),
-            (ERROR, "error"),
-            (FSCK, "fsck"),
+            (CP_ERROR_FLAG, "error"),
+            (CP_FSCK_FLAG, "fsck"),
             (CP_LARGE_NAT_BITMAP_FLAG, "large_nat_bitmap"),
         ];
         let flags = bits | CP_UMOUNT_FLAG | CP_COMPACT_SUM_FLAG;
@@ -476,7 +479,7 @@ fn info_of_a_refused_card() {
     let mut image = with_pack(1, Pack::compact(1));
     let sound = OnDisk::new(image.clone());
     let first = image.first_block(1);
-    let flags = CP_COMPACT_SUM_FLAG | CP_UMOUNT_FLAG | FSCK;
+    let flags = CP_COMPACT_SUM_FLAG | CP_UMOUNT_FLAG | CP_FSCK_FLAG;
     image.set_sealed(first, CKPT_FLAGS, u64::from(flags));
     let disk = OnDisk::new(image);
     let [sound, marked] = [(&sound, 0), (&disk, 2)].map(|(disk, status)| {
@@ -495,16 +498,14 @@ fn info_of_a_refused_card() {
 fn causes_of(pack: &Pack, count: usize) -> Vec<&'static str> {
     let place = pack.journal_place().is_some();
     let counted = place && count <= MOST_ENTRIES;
-    let numbers: Vec<u32> = pack.journal.iter().map(|entry| entry.nid).collect();
-    let again = |i: usize| numbers[..i].contains(&numbers[i]);
     let found = [
-        pack.flags & ERROR != 0,
-        pack.flags & FSCK != 0,
+        pack.flags & CP_ERROR_FLAG != 0,
+        pack.flags & CP_FSCK_FLAG != 0,
         pack.flags & CP_LARGE_NAT_BITMAP_FLAG != 0,
         false,
         !place,
         place && count > MOST_ENTRIES,
-        counted && (0..count).any(again),
+        counted && names_one_twice(&pack.journal[..count]),
         false,
     ];
     let each = CAUSES.iter().zip(found);
@@ -523,7 +524,7 @@ fn random_pack(random: &mut Random) -> Pack {
     ] {
         flags ^= if random.below(2) == 0 { bit } else { 0 };
     }
-    for bit in [ERROR, FSCK, CP_LARGE_NAT_BITMAP_FLAG] {
+    for bit in [CP_ERROR_FLAG, CP_FSCK_FLAG, CP_LARGE_NAT_BITMAP_FLAG] {
         flags |= if random.below(4) == 0 { bit } else { 0 };
     }
     let numbers = pick(random, &[20, 200, 2000, u64::from(u32::MAX)]);
@@ -552,8 +553,7 @@ fn random_packs(seed: u64, packs: u32, run: impl Fn(Words) -> Ran) {
         let which = turn as usize % 2;
         let mut image = with_pack(which, pack.clone());
         if pack.journal_place().is_some() {
-            let (block, field) = count_place(&image, which);
-            image.set(block, field, count as u64);
+            image.set_journal_count(which, count);
         }
         let disk = OnDisk::new(image);
         let expected = causes_of(&pack, count);
@@ -588,9 +588,9 @@ fn random_causes_sanitized() {
 fn library_against_causes() {
     let build = SpecialBuild::with_any_answer();
     let mut marked = Pack::compact(1);
-    marked.flags |= FSCK;
+    marked.flags |= CP_FSCK_FLAG;
     for pack in [Pack::compact(1), marked] {
-        let own = if pack.flags & FSCK == 0 { 0 } else { 8 };
+        let own = if pack.flags & CP_FSCK_FLAG == 0 { 0 } else { 8 };
         let disk = OnDisk::new(with_pack(0, pack));
         for answer in [0, 5, 7, 8] {
             let told = own == 8 && answer == 8;
