@@ -33,6 +33,14 @@ static void on_look(int number, siginfo_t *info, void *context)
     mprotect(held, BLOCK_SIZE, PROT_READ);
 }
 
+/* Whoever runs the tests behind nohup, or in the background, has the program ignore some of these; a test sends each of them. */
+__attribute__((constructor)) static void end_by_signals(void)
+{
+    static const int signals[] = {SIGHUP, SIGINT, SIGQUIT, SIGTERM};
+    for (size_t i = 0; i < sizeof signals / sizeof *signals; i++)
+        signal(signals[i], SIG_DFL);
+}
+
 static unsigned long number_of(const char *variable)
 {
     return strtoul(getenv(variable), NULL, 10);
