@@ -117,9 +117,9 @@ static void show_out_of_shape(FILE *out, const struct asked *asked)
 }
 
 /*
- * What fsck.f2fs -f does about the causes, if it does no harm. Asked by its own flag for a check, it makes one and clears that flag
- * and the error flag. Else it writes nothing where it finds nothing wrong, as with an error flag alone or a number that is there
- * twice; and of entries that differ it may take the one that loses the file.
+ * What fsck.f2fs -f does about the two flags. Asked by its own flag for a check, it makes one and clears both. Else it writes nothing
+ * where it finds nothing wrong, as with an error flag alone. Of a number that is there twice nothing is said: of entries that
+ * differ it may take the one that loses the file.
  */
 static void show_fsck(FILE *out, uint32_t causes)
 {
