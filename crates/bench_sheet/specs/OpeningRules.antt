@@ -13,14 +13,12 @@ use Rattle.field.specs.Choice.{choose}
 use Rattle.list.specs.Lists.{bytesOf}
 use Rattle.journal.specs.Journal.{searchFrom, twiceAmong, namesTwice}
 use Rattle.superblock.specs.declared.Areas.{Areas}
-use Rattle.superblock.specs.declared.Found.{Found}
 use Rattle.superblock.specs.declared.Found.the-variants as f
 use Rattle.superblock.specs.Shape.{inShape}
 use Rattle.superblock.specs.Superblock.{superblockOf, logsPass, unitsPass, countsPass, areasPass, endsPass, fieldsPass, passes}
 use Rattle.superblock.specs.Areas.{found}
 use Rattle.checkpoint.specs.declared.Checkpoint.{Checkpoint}
 use Rattle.checkpoint.specs.declared.Chosen.the-variants.{Nothing}
-use Rattle.checkpoint.specs.declared.Volume.{Volume}
 use Rattle.checkpoint.specs.declared.Opening.{Opening}
 use Rattle.checkpoint.specs.declared.Opening.the-variants.{Opened, Refused}
 use Rattle.checkpoint.specs.Checkpoint.{checkpointOf}

@@ -9,7 +9,6 @@ use lib.Dec.{eqb}
 use Rattle.field.specs.Number.{le16, le32, le64}
 use Rattle.field.specs.Map.{topBit, lowBit}
 use Rattle.field.specs.Bytes.{sameAt}
-use Rattle.field.specs.Card.{Card}
 use Rattle.field.specs.Choice.{choose}
 use Rattle.list.specs.Lists.{bytesOf, insert}
 use Rattle.place.specs.Place.{placeOf}

@@ -1,5 +1,5 @@
 -- The ways that opening goes: what the code follows, and what the laws on opened volumes stand on.
-use mathlib.Core.Path.{_≡_, refl}
+use mathlib.Core.Path.{_≡_}
 use mathlib.Core.Bool.{Bool, true, false, _&&_}
 use mathlib.Core.List.{List}
 use Prim.Native.Nat.{ℕ}

@@ -1,5 +1,4 @@
 -- What a pack's flags say, and where its NAT journal is, by the pack's header.
-use mathlib.Core.List.{List}
 use mathlib.Core.Bool.{Bool, _&&_, _||_}
 use Prim.Native.Nat.{ℕ, _-_, _/_, _%_}
 use lib.Dec.{eqb, leb}

@@ -31,6 +31,7 @@ searchFrom width journal number (suc k) i =
 unfoldable pub journalFind : ℕ → List ℕ → ℕ → Sought
 journalFind width journal number = searchFrom width journal number (le16 journal 0) 0
 
+-- a search came to an entry
 abbrev pub isFound : Sought → Bool
 isFound (At at) = true
 isFound Absent = false

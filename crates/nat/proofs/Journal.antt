@@ -1,6 +1,6 @@
 -- K9: the journal of an opened volume names no number twice. So whatever entry of it has a number says what the volume says of it, and
 -- if none has it the table does: a reader may search the journal in any order.
-use mathlib.Core.Path.{_≡_, _∙_, ap}
+use mathlib.Core.Path.{_≡_, ap}
 use mathlib.Core.Bool.{true}
 use mathlib.Core.List.{List}
 use Prim.Native.Nat.{ℕ, _+_, _<_}
