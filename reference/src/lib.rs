@@ -8,6 +8,7 @@
 pub mod hash;
 pub mod checksum;
 pub mod place;
+pub mod levels;
 pub mod bytes;
 pub mod open;
 pub mod lookup;

@@ -76,10 +76,16 @@ impl Place {
 /// "4 unless A is 873 or 923, 3 past the last index, else 0 with the place numbers and slots on
 /// the way"
 pub fn file_place(addresses: u32, index: u32) -> Place {
+    directory_place(addresses, u64::from(index))
+}
+
+/// The same for a block of a directory: the indexes of its hash levels pass 32 bits. Past the last
+/// one "nothing is looked up or read".
+pub fn directory_place(addresses: u32, index: u64) -> Place {
     if addresses != ADDRESSES_WITH_XATTR && addresses != ADDRESSES {
         return Place::BadAddresses;
     }
-    match way_to(u64::from(addresses), u64::from(index)) {
+    match way_to(u64::from(addresses), index) {
         Some(way) => Place::Way(way),
         None => Place::Past,
     }
@@ -177,6 +183,20 @@ mod tests {
             assert_eq!(file_place(addresses, 0), Place::BadAddresses);
             assert_eq!(file_place(addresses, 0).numbers().answer, 4);
         }
+    }
+
+    #[test]
+    fn directory_indexes_pass_32_bits() {
+        for (addresses, last) in [(923, 1_057_053_438), (873, 1_057_053_388)] {
+            assert_eq!(directory_place(addresses, 0), file_place(addresses, 0));
+            assert_eq!(directory_place(addresses, last), file_place(addresses, last as u32));
+            // The later ones would be 0, 1 and the last index if cut to 32 bits.
+            for past in [last + 1, 1 << 32, (1 << 32) + 1, (1 << 32) + last, u64::MAX] {
+                assert_eq!(directory_place(addresses, past), Place::Past, "index {past}");
+            }
+        }
+        assert_eq!(directory_place(922, 0), Place::BadAddresses);
+        assert_eq!(directory_place(922, 1 << 32), Place::BadAddresses);
     }
 
     #[test]

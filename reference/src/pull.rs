@@ -4,9 +4,10 @@ use std::collections::BTreeSet;
 
 use crate::bytes::{le16, le32, le64, BLOCK_SIZE};
 use crate::hash::{is_name, raw_hash};
+use crate::levels::{hash_levels, HashLevel};
 use crate::lookup::lookup_in;
 use crate::open::{is_image_length, open, Volume};
-use crate::place::{file_place, Place, Way, ADDRESSES, ADDRESSES_WITH_XATTR};
+use crate::place::{directory_place, file_place, Place, Way, ADDRESSES, ADDRESSES_WITH_XATTR};
 
 const ROOT: u32 = 3;
 const DIRECTORY: u16 = 4;
@@ -131,14 +132,11 @@ impl Inode<'_> {
         Ok(())
     }
 
-    /// "Depth over 63 or directory level not 0: 12."
-    fn directory_depth(&self) -> Result<u32, u32> {
-        let depth = le32(self.block, 72);
+    /// The hash levels of a directory, or 12 for its depth or level: "depth 72, directory level 347
+    /// (one byte)". A file's level isn't consulted.
+    fn hash_levels(&self) -> Result<Vec<HashLevel>, u32> {
         let level = self.block.get(347).copied().unwrap_or(0);
-        if depth > 63 || level != 0 {
-            return Err(12);
-        }
-        Ok(depth)
+        hash_levels(level, le32(self.block, 72))
     }
 }
 
@@ -260,57 +258,47 @@ impl<'a> Walk<'a> {
     fn search_root(&mut self, name: &[u8]) -> Result<u32, u32> {
         let root = self.read_inode(ROOT)?;
         root.expect_kind(DIRECTORY)?;
-        let depth = root.directory_depth()?;
+        let levels = root.hash_levels()?;
         // "Then size 0: 2; size isn't consulted otherwise."
         if root.size() == 0 {
             return Err(2);
         }
-        let hash = raw_hash(name);
-        // "Search levels 0 to depth − 1, in each the bucket hash mod buckets, its blocks in
-        // order, slots rising, stopping at the first match."
-        for level in (0..depth).map(level) {
-            let bucket = u64::from(hash) % level.buckets;
-            let first = level.start + bucket * level.bucket_blocks;
-            for index in first..first + level.bucket_blocks {
-                let Some(block) = self.directory_block(&root, index)? else {
-                    continue;
-                };
-                if let Some(inode) = search_block(block, name, hash)? {
-                    return Ok(inode);
-                }
+        self.search(&root, &levels, name, raw_hash(name))
+    }
+
+    /// The name in these hash levels: "in each the bucket hash mod buckets, its blocks in order,
+    /// slots rising, stopping at the first match".
+    fn search(
+        &mut self,
+        directory: &Inode<'a>,
+        levels: &[HashLevel],
+        name: &[u8],
+        hash: u32,
+    ) -> Result<u32, u32> {
+        for index in levels.iter().flat_map(|level| level.searched(hash)) {
+            let Some(block) = self.directory_block(directory, index)? else {
+                continue;
+            };
+            if let Some(inode) = search_block(block, name, hash)? {
+                return Ok(inode);
             }
         }
         Err(2)
     }
 
     /// "A hole is an empty block, with only the nodes on the way to it looked up and read; so is
-    /// an index past the last place, for which nothing is looked up or read."
-    fn directory_block(&mut self, root: &Inode<'a>, index: u64) -> Result<Option<&'a [u8]>, u32> {
-        let Ok(index) = u32::try_from(index) else {
-            return Ok(None);
-        };
-        match file_place(root.addresses(), index) {
-            Place::Way(way) => self.read_data(root, &way),
+    /// an index past the last place, for which nothing is looked up or read." A hash level may lie
+    /// partly before the last place and partly past it, and so may a bucket.
+    fn directory_block(
+        &mut self,
+        directory: &Inode<'a>,
+        index: u64,
+    ) -> Result<Option<&'a [u8]>, u32> {
+        match directory_place(directory.addresses(), index) {
+            Place::Way(way) => self.read_data(directory, &way),
             Place::BadAddresses | Place::Past => Ok(None),
         }
     }
-}
-
-/// One level of a directory's hash table.
-struct Level {
-    /// Index of its first block.
-    start: u64,
-    buckets: u64,
-    bucket_blocks: u64,
-}
-
-/// "level n below 31 has 2^n buckets of 2 blocks, others 2^30 of 4"
-fn level(n: u32) -> Level {
-    let shape = |n: u32| if n < 31 { (1u64 << n, 2) } else { (1 << 30, 4) };
-    let (buckets, bucket_blocks) = shape(n);
-    // Each level starts where the one before ends.
-    let start = (0..n).map(shape).map(|(buckets, blocks)| buckets * blocks).sum();
-    Level { start, buckets, bucket_blocks }
 }
 
 /// The inode number of the first matching dentry in a directory block.
@@ -396,13 +384,6 @@ mod tests {
     }
 
     #[test]
-    fn levels_start_where_the_sheet_says() {
-        assert_eq!([0, 1, 2, 3].map(|n| level(n).start), [0, 2, 6, 14]);
-        assert_eq!(level(29).start, 1_073_741_822);
-        assert_eq!((level(31).buckets, level(31).bucket_blocks), (1 << 30, 4));
-    }
-
-    #[test]
     fn byte_80_is_slot_7_of_a_directory() {
         assert!(slot_is_used(&[0x80], 7));
         assert!((0..7).all(|slot| !slot_is_used(&[0x80], slot)));
@@ -472,7 +453,7 @@ mod tests {
     #[test]
     fn kinds_not_read() {
         assert_eq!(answer(&sample(0), b".", 0).answer, 12);
-        for (block, at, value) in [(4098, 3, 2), (4098, 3, 0x20), (4096, 3, 4), (4096, 347, 1)] {
+        for (block, at, value) in [(4098, 3, 2), (4098, 3, 0x20), (4096, 3, 4), (4096, 347, 31)] {
             let mut sample = sample(4097);
             sample.bytes[block * 4096 + at] = value;
             assert_eq!(answer(&sample, NAME, 0).answer, 12);
@@ -480,6 +461,206 @@ mod tests {
         let mut sample = sample(4097);
         sample.put32(4096, 72, 64);
         assert_eq!(answer(&sample, NAME, 0).answer, 12);
+    }
+
+    /// The sample with this directory level and depth, and no blocks in the root.
+    fn leveled(level: u8, depth: u32) -> Sample {
+        let mut sample = sample(4097);
+        sample.put(4096, 347, &[level]);
+        sample.put32(4096, 72, depth);
+        sample.put32(4096, 360, 0);
+        sample
+    }
+
+    /// Puts one block of the root at `address`; the nodes on the way are 20 to 22, at 4300 to 4302.
+    fn put_root_block(sample: &mut Sample, way: &Way, address: u32) {
+        let (mut node, mut numbers, mut addresses) = (4096, 4052, 360);
+        for (number, steps) in (20..).zip(way.steps().windows(2)) {
+            sample.put32(node, numbers + 4 * steps[0].slot as usize, number);
+            sample.put_node(number, 3, steps[1].place, 4280 + number);
+            (node, numbers, addresses) = (4280 + number as usize, 0, 0);
+        }
+        let slot = way.steps().last().unwrap().slot as usize;
+        sample.put32(node, addresses + 4 * slot, address);
+    }
+
+    /// The outcome of a search in the root for the name under any hash, with nodes and blocks.
+    fn searched(sample: &Sample, hash: u32) -> (Result<u32, u32>, Vec<u32>, Vec<u32>) {
+        let mut walk = Walk::new(open(&sample.bytes).unwrap());
+        let root = walk.read_inode(ROOT).unwrap();
+        let levels = root.hash_levels().unwrap();
+        let found = walk.search(&root, &levels, NAME, hash);
+        (found, walk.nodes.into_iter().collect(), walk.blocks.into_iter().collect())
+    }
+
+    #[test]
+    fn level_30_is_read_and_31_is_12() {
+        for (level, answer) in [(0, 2), (1, 2), (29, 2), (30, 2), (31, 12), (32, 12), (255, 12)] {
+            // "Then size 0: 2": the level comes before it, at any depth.
+            for (depth, size) in [(0, 4096), (0, 0), (1, 4096), (1, 0), (63, 4096), (63, 0)] {
+                let mut sample = leveled(level, depth);
+                sample.put64(4096, 16, size);
+                let mut lent = Lent::new();
+                let pulled = lent.pull(&sample, NAME, 0);
+                let expected = Pulled { answer, byte_count: 0, node_count: 1, block_count: 1 };
+                assert_eq!(pulled, expected, "level {level} depth {depth} size {size}");
+                assert_eq!(numbers(&lent.nodes, 1), [3]);
+                assert_eq!(numbers(&lent.blocks, 1), [4096]);
+                assert!(lent.block.iter().all(|&byte| byte == 0xAA));
+            }
+        }
+    }
+
+    #[test]
+    fn depth_64_is_12_with_any_level() {
+        for level in [0, 1, 30, 31, 255] {
+            let mut sample = leveled(level, 64);
+            assert_eq!(answer(&sample, NAME, 0).answer, 12);
+            sample.put64(4096, 16, 0);
+            assert_eq!(answer(&sample, NAME, 0).answer, 12);
+        }
+    }
+
+    #[test]
+    fn bytes_beside_the_level_are_no_level() {
+        for at in [346, 348] {
+            let mut sample = sample(4097);
+            sample.put(4096, at, &[0xFF]);
+            assert_eq!(answer(&sample, NAME, 0).answer, 1);
+        }
+    }
+
+    #[test]
+    fn the_level_of_a_file_is_not_consulted() {
+        let mut sample = sample(4097);
+        sample.put32(4098, 364, DATA as u32);
+        let [data, hole, past] = [1, 0, 2].map(|index| answer(&sample, NAME, index));
+        assert_eq!([data.answer, hole.answer, past.answer], [0, 1, 3]);
+        for level in [1, 30, 31, 255] {
+            sample.put(4098, 347, &[level]);
+            assert_eq!([1, 0, 2].map(|index| answer(&sample, NAME, index)), [data, hole, past]);
+        }
+    }
+
+    /// Level 2: hash level 0 has 4 buckets in blocks 0 to 7, hash level 1 has 8 in blocks 8 to 23,
+    /// hash level 2 has 16 in blocks 24 to 55. Block i lies at 4200 + i.
+    #[test]
+    fn a_directory_with_level_2() {
+        let hash = raw_hash(NAME);
+        let [first, second, third] = [2 * (hash % 4), 8 + 2 * (hash % 8), 24 + 2 * (hash % 16)];
+        let read = [first, first + 1, second, second + 1, third, third + 1];
+        for index in 0..56 {
+            let mut sample = leveled(2, 3);
+            for index in 0..56 {
+                sample.put32(4096, 360 + 4 * index as usize, 4200 + index);
+            }
+            sample.put_dentry(4200 + index as usize, 0, hash, 7, NAME);
+            let mut lent = Lent::new();
+            let pulled = lent.pull(&sample, NAME, 0);
+            // Up to the block with the name, or all six and no file.
+            let found = read.iter().position(|&candidate| candidate == index);
+            assert_eq!(pulled.answer, if found.is_some() { 1 } else { 2 }, "block {index}");
+            let mut blocks = vec![4096];
+            if found.is_some() {
+                blocks.push(4098);
+            }
+            blocks.extend(read.iter().take(found.map_or(6, |at| at + 1)).map(|i| 4200 + i));
+            assert_eq!(pulled.block_count, blocks.len() as u32);
+            assert_eq!(numbers(&lent.blocks, pulled.block_count), blocks);
+            let nodes = if found.is_some() { vec![3, 7] } else { vec![3] };
+            assert_eq!(numbers(&lent.nodes, pulled.node_count), nodes);
+        }
+    }
+
+    /// At depth 1: hash level 0 has 2^level buckets of 2 blocks.
+    #[test]
+    fn names_with_each_level() {
+        let names = [b"a", b"b", b"c"];
+        let mut past = 0;
+        for (level, name) in (0..31).flat_map(|level| names.map(|name| (level, name))) {
+            let hash = raw_hash(name);
+            let index = 2 * u64::from(hash % (1 << level));
+            let mut sample = leveled(level, 1);
+            let Place::Way(way) = directory_place(ADDRESSES, index) else {
+                // Past the last index, which can be with levels 29 and 30 only.
+                assert!(level >= 29);
+                past += 1;
+                let missing = Pulled { answer: 2, byte_count: 0, node_count: 1, block_count: 1 };
+                assert_eq!(answer(&sample, name, 0), missing);
+                continue;
+            };
+            put_root_block(&mut sample, &way, 4097);
+            sample.put(4097, 0, &[0; 4096]);
+            sample.put_dentry(4097, 0, hash, 7, name);
+            let pulled = answer(&sample, name, 0);
+            // The nodes on the way, and root, file and dentry block.
+            let steps = way.steps().len() as u32;
+            assert_eq!((pulled.answer, pulled.node_count), (1, steps + 1), "level {level}");
+            assert_eq!(pulled.block_count, steps + 2);
+            // One level more leads elsewhere if the hash has that bit.
+            if level < 30 && hash & 1 << level != 0 {
+                sample.put(4096, 347, &[level + 1]);
+                assert_eq!(answer(&sample, name, 0).answer, 2, "level {level} and one");
+            }
+        }
+        assert!(past > 0);
+    }
+
+    /// The buckets around the last index, 1,057,053,438 with 923 addresses and 1,057,053,388 with
+    /// 873, at depth 63. Both indexes are the last slot of the last leaf.
+    #[test]
+    fn part_of_a_hash_level_before_the_last_index() {
+        // In hash level 0 of levels 29 and 30 half the last index: 528,526,719 and 528,526,694.
+        // With level 23, hash level 6 starts at 2^24 × 63 = 1,056,964,608; half of what is left is
+        // 44,415 and 44,390. Hash levels 1 to 5 lead to holes below the double node there.
+        for (level, inline, bucket, on_the_way) in [
+            (29, 0, 528_526_719, 1),
+            (30, 0, 528_526_719, 1),
+            (29, 1, 528_526_694, 1),
+            (30, 1, 528_526_694, 1),
+            (23, 0, 44_415, 2),
+            (23, 1, 44_390, 2),
+        ] {
+            let mut sample = leveled(level, 63);
+            sample.put(4096, 3, &[inline]);
+            // Double node 2041, its child 2042 + 1019 × 1017, the leaf 2043 + 1019 × 1017 + 1017.
+            sample.put32(4096, 4052 + 4 * 4, 20);
+            sample.put_node(20, 3, 2041, 4300);
+            sample.put32(4300, 4 * 1017, 21);
+            sample.put_node(21, 3, 1_038_365, 4301);
+            sample.put32(4301, 4 * 1017, 22);
+            sample.put_node(22, 3, 1_039_383, 4302);
+            sample.put32(4302, 4 * 1017, 4303);
+            sample.put_dentry(4303, 0, bucket, 7, NAME);
+            let (nodes, blocks) = ([3, 20, 21, 22], [4096, 4300, 4301, 4302, 4303]);
+            let full = |found| (found, nodes.to_vec(), blocks.to_vec());
+            assert_eq!(searched(&sample, bucket), full(Ok(7)), "level {level}");
+            // One bucket earlier: holes below the same leaf.
+            let holes = (Err(2), nodes.to_vec(), blocks[..4].to_vec());
+            assert_eq!(searched(&sample, bucket - 1), holes, "level {level}");
+            // One bucket later: past the last index, so nothing more than on the way to the holes.
+            let (some_nodes, some_blocks) = (&nodes[..on_the_way], &blocks[..on_the_way]);
+            let past = (Err(2), some_nodes.to_vec(), some_blocks.to_vec());
+            assert_eq!(searched(&sample, bucket + 1), past, "level {level}");
+            // Without the name there the rest of the bucket and of the levels is past.
+            sample.put32(4303, 30, bucket + 1);
+            assert_eq!(searched(&sample, bucket), full(Err(2)), "level {level}");
+        }
+    }
+
+    /// Level 2, hash 5: hash level 31 starts at 2^33 − 8, so its bucket 5 has the blocks 2^33 + 12
+    /// to 2^33 + 15. Cut to 32 bits these would be 12 to 15, which no hash level searches for 5:
+    /// hash level 0 takes 2 and 3, hash level 1 takes 18 and 19, the others later ones.
+    #[test]
+    fn indexes_are_not_cut_to_32_bits() {
+        let mut sample = leveled(2, 63);
+        for index in 12..16 {
+            sample.put32(4096, 360 + 4 * index, 4300 + index as u32);
+            sample.put_dentry(4300 + index, 0, 5, 7, NAME);
+        }
+        assert_eq!(searched(&sample, 5), (Err(2), vec![3], vec![4096]));
+        sample.put32(4096, 360 + 4 * 19, 4312);
+        assert_eq!(searched(&sample, 5), (Ok(7), vec![3], vec![4096, 4312]));
     }
 
     #[test]
