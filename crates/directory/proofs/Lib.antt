@@ -1,4 +1,3 @@
 pub mod Slots
-pub mod Levels
 pub mod Sizes
 pub mod Turns

@@ -2,17 +2,17 @@
 -- later ones none. Each block that it reads lies in the main area.
 use Prim.Native.Nat.{ℕ, zero, suc, _+_, _-_, _*_, _≤_, _<_}
 use native.Mathlib.Omega.{arith}
-use mathlib.Core.Path.{_≡_, refl, sym, subst}
+use mathlib.Core.Path.{refl, sym, subst}
 use mathlib.Core.Logic.{⊎-elim}
 use Rattle.place.specs.Place.{lastIndex}
-use Rattle.walk.specs.Walk.{Walk, done, Outcome, ok, ends}
+use Rattle.walk.specs.Walk.{Walk, Outcome, ends}
 use Rattle.walk.proofs.Sizes.{within-then, within-le}
 use Rattle.node.specs.Block.{Fetched, hole, held}
 use Rattle.node.proofs.Sizes.{Small, block-within, block-past}
+use Rattle.hash_level.specs.Level.{blocksOf, bucketOf}
+use Rattle.hash_level.proofs.Levels.{blocks-low, early-or-late, bucket-past}
 use Rattle.directory.specs.Slot.{Wanted, Sought, absent, found, malformed, inBlock}
-use Rattle.directory.specs.Level.{blocksOf, bucketOf}
 use Rattle.directory.specs.Find.{Directory, fetchWalk, afterSlots, afterBlock, bucketWalk, levelsWalk, findWalk}
-use Rattle.directory.proofs.Levels.{blocks-low, early-or-late, bucket-past}
 
 -- how many blocks are left to fetch from a level on
 abbrev left : ℕ → ℕ
@@ -20,16 +20,10 @@ left level = 2 * (29 - level)
 
 module _ (d : Directory) where
   fetch-within : (index : ℕ) → Small (d .bounds) 3 4 (fetchWalk d index)
-  unfolding fetchWalk
   fetch-within index = block-within (d .bounds) (d .ino) (d .inode) (d .addresses) index
 
-  module _ (index : ℕ) (h : lastIndex (d .addresses) < index) where
-    pub fetch-past : fetchWalk d index ≡ done (ok hole)
-    unfolding fetchWalk
-    fetch-past = block-past (d .bounds) (d .ino) (d .inode) (d .addresses) index h
-
-    fetch-none : Small (d .bounds) 0 0 (fetchWalk d index)
-    fetch-none = subst (Small (d .bounds) 0 0) (sym fetch-past) (ends tt)
+  fetch-none : (index : ℕ) → lastIndex (d .addresses) < index → Small (d .bounds) 0 0 (fetchWalk d index)
+  fetch-none index h = subst (Small (d .bounds) 0 0) (sym (block-past (d .bounds) (d .ino) (d .inode) (d .addresses) index h)) (ends tt)
 
   module _ (w : Wanted) where
     slots-within : {ns bs : ℕ} {rest : Walk (Outcome ℕ)} → Small (d .bounds) ns bs rest → (o : Sought) → Small (d .bounds) ns bs (afterSlots rest o)
@@ -48,7 +42,7 @@ module _ (d : Directory) where
     bucket-within level zero k h = within-le _ _ (omega arith) (omega arith) h
     bucket-within level (suc n) k h =
         within-le _ _ (omega arith) (omega arith)
-        (within-then _ (fetch-within (bucketOf level (w .hash) + k)) (λ x _. after-within (bucket-within level n (k + 1) h) x))
+        (within-then _ (fetch-within (bucketOf (d .level) level (w .hash) + k)) (λ x _. after-within (bucket-within level n (k + 1) h) x))
 
     module _ (few : d .addresses ≤ 923) where
       bucket-none : {ns bs : ℕ} {rest : Walk (Outcome ℕ)} (level n k : ℕ) → 29 ≤ level → Small (d .bounds) ns bs rest
@@ -56,9 +50,9 @@ module _ (d : Directory) where
       unfolding bucketWalk
       bucket-none level zero k late h = h
       bucket-none level (suc n) k late h =
-          let far = bucket-past level (w .hash) few late in
+          let far = bucket-past (d .level) level (w .hash) few late in
           within-le _ _ (omega arith) (omega arith)
-          (within-then _ (fetch-none (bucketOf level (w .hash) + k) (omega arith)) (λ x _. after-within (bucket-none level n (k + 1) late h) x))
+          (within-then _ (fetch-none (bucketOf (d .level) level (w .hash) + k) (omega arith)) (λ x _. after-within (bucket-none level n (k + 1) late h) x))
 
       levels-within : (n level : ℕ) → Small (d .bounds) (3 * left level) (4 * left level) (levelsWalk d w n level)
       unfolding levelsWalk

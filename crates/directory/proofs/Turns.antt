@@ -9,8 +9,8 @@ use Rattle.walk.specs.Walk.{View, Walk, done, Outcome, ok, stop, andThen, Lists
 use Rattle.walk.proofs.Reached.{Reached, reached-start, reached-to, reached-on, reached-then, reached-stop, reached-done, reached-all}
 use Rattle.walk.proofs.Fits.{fits-at, fits-first}
 use Rattle.node.specs.Block.{Fetched, hole, held}
+use Rattle.hash_level.specs.Level.{blocksOf, bucketOf}
 use Rattle.directory.specs.Slot.{Wanted, Sought, absent, found, malformed, inBlock}
-use Rattle.directory.specs.Level.{blocksOf, firstOf, bucketOf}
 use Rattle.directory.specs.Find.{Directory, fetchWalk, afterSlots, afterBlock, bucketWalk, levelsWalk, findWalk}
 
 -- the search from a level on, and from a block of a level's bucket on
@@ -20,9 +20,8 @@ levelsLeft d w depth level = levelsWalk d w (depth - level) level
 abbrev pub bucketLeft : Directory → Wanted → ℕ → ℕ → ℕ → Walk (Outcome ℕ)
 bucketLeft d w depth level k = bucketWalk d w level (levelsLeft d w depth (level + 1)) (blocksOf level - k) k
 
-pub record Levels (v : View) (d : Directory) (w : Wanted) (depth : ℕ) (s : Lists) (level first : ℕ) (t : Lists) : Type 0 where
+pub record Levels (v : View) (d : Directory) (w : Wanted) (depth : ℕ) (s : Lists) (level : ℕ) (t : Lists) : Type 0 where
   pub at : Reached v (findWalk d w depth) s (levelsLeft d w depth level) t
-  pub starts : first ≡ firstOf level
 
 pub record Bucket (v : View) (d : Directory) (w : Wanted) (depth level : ℕ) (s : Lists) (k : ℕ) (t : Lists) : Type 0 where
   pub at : Reached v (bucketLeft d w depth level 0) s (bucketLeft d w depth level k) t
@@ -43,7 +42,7 @@ module _ (d : Directory) (w : Wanted) (depth level : ℕ) where
       rw p
 
   bucket-step : (k : ℕ) → k < blocksOf level
-      → bucketLeft d w depth level k ≡ andThen (fetchWalk d (bucketOf level (w .hash) + k)) (afterBlock w (bucketLeft d w depth level (k + 1)))
+      → bucketLeft d w depth level k ≡ andThen (fetchWalk d (bucketOf (d .level) level (w .hash) + k)) (afterBlock w (bucketLeft d w depth level (k + 1)))
   unfolding bucketWalk
   bucket-step k h =
       let p : blocksOf level - k ≡ suc (blocksOf level - (k + 1)) = omega arith in
@@ -65,16 +64,16 @@ module _ (w : Wanted) (rest : Walk (Outcome ℕ)) where
   after-held block o e = ap (afterSlots rest) e
 
 -- ---- the loop over levels
-pub levels-start : {v : View} {s : Lists} (d : Directory) (w : Wanted) (depth : ℕ) → Levels v d w depth s 0 0 s
-unfolding findWalk firstOf
+pub levels-start : {v : View} {s : Lists} (d : Directory) (w : Wanted) (depth : ℕ) → Levels v d w depth s 0 s
+unfolding findWalk
 levels-start {v = v} {s = s} d w depth =
     let p : depth - 0 ≡ depth = omega arith in
-    record { at = rw p (reached-start v _ s); starts = refl }
+    record { at = rw p (reached-start v _ s) }
 
 pub bucket-start : {v : View} (d : Directory) (w : Wanted) (depth level : ℕ) {s : Lists} → Bucket v d w depth level s 0 s
 bucket-start d w depth level = record { at = reached-start _ _ _ }
 
-module _ {v : View} {d : Directory} {w : Wanted} {depth level first : ℕ} {s t : Lists} (go : Levels v d w depth s level first t) where
+module _ {v : View} {d : Directory} {w : Wanted} {depth level : ℕ} {s t : Lists} (go : Levels v d w depth s level t) where
   pub levels-end : depth ≤ level → Walked v (findWalk d w depth) s (stop 2) t
   levels-end h = reached-done (reached-to (go .at) (levels-over d w depth level h))
 
@@ -88,25 +87,25 @@ module _ {v : View} {d : Directory} {w : Wanted} {depth level first : ℕ} {s t 
 
     module _ {k : ℕ} {u : Lists} (turn : Bucket v d w depth level t k u) where
       -- the bucket's next block fits, as the search does
-      pub block-fits : k < blocksOf level → {i : ℕ} → i ≡ bucketOf level (w .hash) + k → Fits v (findWalk d w depth) s → Fits v (fetchWalk d i) u
+      pub block-fits : k < blocksOf level → {i : ℕ} → i ≡ bucketOf (d .level) level (w .hash) + k → Fits v (findWalk d w depth) s → Fits v (fetchWalk d i) u
       block-fits more e fits =
           let here = reached-to (reached-on at-bucket (turn .at)) (bucket-step d w depth level k more) in
           subst (λ (j : ℕ). Fits v (fetchWalk d j) u) (sym e) (fits-first _ (fits-at fits here))
 
       -- the bucket is done: on to the next level
-      pub levels-next : blocksOf level ≤ k → {next : ℕ} → next ≡ firstOf (level + 1) → Levels v d w depth s (level + 1) next u
-      levels-next over e = record { at = reached-to (reached-on at-bucket (turn .at)) (bucket-over d w depth level k over); starts = e }
+      pub levels-next : blocksOf level ≤ k → Levels v d w depth s (level + 1) u
+      levels-next over = record { at = reached-to (reached-on at-bucket (turn .at)) (bucket-over d w depth level k over) }
 
 -- ---- the loop over the blocks of a bucket: block k was fetched
 module _ {v : View} {d : Directory} {w : Wanted} {depth level k : ℕ} {s t : Lists} (turn : Bucket v d w depth level s k t) (more : k < blocksOf level)
-    {i : ℕ} (e : i ≡ bucketOf level (w .hash) + k) {x : Outcome Fetched} {u : Lists} (step : Walked v (fetchWalk d i) t x u) where
+    {i : ℕ} (e : i ≡ bucketOf (d .level) level (w .hash) + k) {x : Outcome Fetched} {u : Lists} (step : Walked v (fetchWalk d i) t x u) where
   abbrev rest : Walk (Outcome ℕ)
   rest = bucketLeft d w depth level (k + 1)
 
-  fetched : Walked v (fetchWalk d (bucketOf level (w .hash) + k)) t x u
+  fetched : Walked v (fetchWalk d (bucketOf (d .level) level (w .hash) + k)) t x u
   fetched = subst (λ (j : ℕ). Walked v (fetchWalk d j) t x u) e step
 
-  at-fetch : Reached v (bucketLeft d w depth level 0) s (andThen (fetchWalk d (bucketOf level (w .hash) + k)) (afterBlock w rest)) t
+  at-fetch : Reached v (bucketLeft d w depth level 0) s (andThen (fetchWalk d (bucketOf (d .level) level (w .hash) + k)) (afterBlock w rest)) t
   at-fetch = reached-to (turn .at) (bucket-step d w depth level k more)
 
   pub bucket-stop : {answer : ℕ} → x ≡ stop answer → Walked v (bucketLeft d w depth level 0) s (stop answer) u

@@ -7,26 +7,27 @@ use Rattle.checkpoint.specs.declared.Volume.{Volume}
 use Rattle.node.specs.declared.File.{File}
 use Rattle.node.specs.Node.{Bounds, boundsOf}
 use Rattle.node.specs.Block.{Fetched, hole, held, blockWalk}
+use Rattle.hash_level.specs.Level.{blocksOf, bucketOf}
 use Rattle.directory.specs.declared.Entry.{Entry}
 use Rattle.directory.specs.declared.Entry.the-variants.{Found, Stop}
 use Rattle.directory.specs.Slot.{Wanted, Sought, absent, found, malformed, inBlock}
-use Rattle.directory.specs.Level.{blocksOf, bucketOf}
 
--- a directory: the main area bounds, its inode's number and bytes, and how many addresses the inode holds
+-- a directory: the main area bounds, its inode's number and bytes, how many addresses the inode holds, and its directory level
 pub record Directory : Type 0 where
   pub bounds : Bounds
   pub ino : ℕ
   pub inode : List ℕ
   pub addresses : ℕ
+  pub level : ℕ
 
-abbrev pub directory : Bounds → ℕ → List ℕ → ℕ → Directory
-directory m ino inode A = record { bounds = m; ino = ino; inode = inode; addresses = A }
+abbrev pub directory : Bounds → ℕ → List ℕ → ℕ → ℕ → Directory
+directory m ino inode A dir = record { bounds = m; ino = ino; inode = inode; addresses = A; level = dir }
 
 -- the directory that the code has as a file of an opened card
-abbrev pub directoryOf : Card → Volume → File → Directory
-directoryOf card v file = directory (boundsOf v) (file .ino) (card .block (file .inode)) (file .addresses)
+abbrev pub directoryOf : Card → Volume → File → ℕ → Directory
+directoryOf card v file dir = directory (boundsOf v) (file .ino) (card .block (file .inode)) (file .addresses) dir
 
-unfoldable pub fetchWalk : Directory → ℕ → Walk (Outcome Fetched)
+abbrev pub fetchWalk : Directory → ℕ → Walk (Outcome Fetched)
 fetchWalk d index = blockWalk (d .bounds) (d .ino) (d .inode) (d .addresses) index
 
 -- "stopping at the first match"; 14 is "malformed directory slot"
@@ -44,7 +45,7 @@ afterBlock w rest (held block) = afterSlots rest (inBlock block w)
 unfoldable pub bucketWalk : Directory → Wanted → ℕ → Walk (Outcome ℕ) → ℕ → ℕ → Walk (Outcome ℕ)
 bucketWalk d w level rest zero k = rest
 bucketWalk d w level rest (suc n) k =
-    andThen (fetchWalk d (bucketOf level (w .hash) + k)) (afterBlock w (bucketWalk d w level rest n (k + 1)))
+    andThen (fetchWalk d (bucketOf (d .level) level (w .hash) + k)) (afterBlock w (bucketWalk d w level rest n (k + 1)))
 
 -- n levels from a level on; 2 is "no such name"
 unfoldable pub levelsWalk : Directory → Wanted → ℕ → ℕ → Walk (Outcome ℕ)

@@ -1,5 +1,5 @@
-// A name sought in a directory: its slots, its hash levels, and the nested search.
-// What each means is in specs/: Slot, Level, Find.
+// A name sought in a directory: its slots, and the nested search over hash levels, blocks and slots.
+// What each means is in specs/: Slot, Find.
 ghost use mathlib.Core.Path.{_≡_};
 ghost use Prim.Native.Nat.{_<_, _≤_};
 ghost use lib.ListN.{length};
@@ -7,10 +7,12 @@ ghost use Rattle.field.specs.Map.{lowBit};
 ghost use Rattle.field.specs.Card.{cardOf};
 ghost use Rattle.checkpoint.specs.Volume.{VolumeIn};
 ghost use Rattle.walk.specs.Walk.{imageView, lists, Walked, Fits};
+ghost use Rattle.node.specs.Node.{boundsOf};
+ghost use Rattle.node.specs.Block.{blockWalk};
 ghost use Rattle.node.specs.Found.{dataOf, DataIn, FileIn};
+ghost use Rattle.hash_level.specs.Table.{IsTable};
 ghost use Rattle.directory.specs.Slot.{wanted, slotAt};
-ghost use Rattle.directory.specs.Level.{bucketsOf, blocksOf, firstOf, levelOf};
-ghost use Rattle.directory.specs.Find.{directoryOf, fetchWalk, findWalk, entryOf};
+ghost use Rattle.directory.specs.Find.{directoryOf, findWalk, entryOf};
 
 // What one slot of a directory block holds: nothing, the name's inode number, another entry and how many slots it has, or an
 // entry that doesn't fit.
@@ -19,13 +21,6 @@ pub enum Slot {
     Match(u32),
     Other(usize),
     Malformed,
-}
-
-// The bucket of a hash in a level: how many blocks it has and the first of them, and the first block of the level after.
-pub struct Level {
-    pub count: usize,
-    pub bucket: usize,
-    pub after: usize,
 }
 
 // The inode number in the name's entry, or the answer that ends the walk.
@@ -76,38 +71,6 @@ fn slot_at(block: &[u8], slot: usize, hash: u32, name: &[u8]) -> Slot
     Slot::Other(slots)
 }
 
-fn buckets_in(level: usize) -> usize
-    ensures { λ r. ⌜ r ≡ bucketsOf level ⌝ }
-{
-    if level < 31 {
-        return 1usize << (level as u32);
-    }
-    1073741824
-}
-
-fn blocks_in(level: usize) -> usize
-    ensures { λ r. ⌜ r ≡ blocksOf level ⌝ }
-{
-    if level < 31 {
-        return 2;
-    }
-    4
-}
-
-// The bucket of a hash in the level that starts at block `first`.
-fn level_at(level: usize, first: usize, hash: u32) -> Level
-    requires { ⌜ (level < 63) × (first ≡ firstOf level) ⌝ }
-    ensures { λ r. ⌜ r ≡ levelOf level hash ⌝ }
-{
-    let buckets = buckets_in(level);
-    let count = blocks_in(level);
-    Level {
-        count,
-        bucket: first + (hash as usize) % buckets * count,
-        after: first + buckets * count,
-    }
-}
-
 // The block of an index of a directory. Past the last index there is none.
 fn fetch(
     image: &[u8],
@@ -118,11 +81,13 @@ fn fetch(
     file: node::File,
     index: usize,
 ) -> node::DataStep
-    requires { ⌜ Fits (imageView (now image) v) (fetchWalk (directoryOf (cardOf (now image)) v file) index)
+    requires { ⌜ Fits (imageView (now image) v)
+        (blockWalk (boundsOf v) (file .ino) (cardOf (now image) .block (file .inode)) (file .addresses) index)
         (lists (now nodes) (now blocks) counts) ⌝ }
     requires { ⌜ VolumeIn (cardOf (now image)) v ⌝ }
     requires { ⌜ FileIn (cardOf (now image)) file ⌝ }
-    ensures { λ r. ⌜ Walked (imageView (now (image .entry)) v) (fetchWalk (directoryOf (cardOf (now (image .entry))) v file) index)
+    ensures { λ r. ⌜ Walked (imageView (now (image .entry)) v)
+        (blockWalk (boundsOf v) (file .ino) (cardOf (now (image .entry)) .block (file .inode)) (file .addresses) index)
         (lists (now (nodes .entry)) (now (blocks .entry)) counts) (dataOf (cardOf (now (image .entry))) (r .data))
         (lists (now (nodes .exit)) (now (blocks .exit)) (r .counts)) ⌝ }
     ensures { λ r. ⌜ DataIn (cardOf (now (image .entry))) (r .data) ⌝ }
@@ -137,36 +102,37 @@ fn fetch(
     node::data_block(image, v, nodes, blocks, counts, file, index as u32)
 }
 
-// The name sought in a directory: levels 0 to depth - 1, in each the blocks of the hash's bucket in order, in each block its
-// slots rising, until the first match or the first answer that ends the walk.
-pub fn find(
+// The name sought in a directory, by the table of its directory level: levels 0 to depth - 1, in each the blocks of the hash's
+// bucket in order, in each block its slots rising, until the first match or the first answer that ends the walk.
+fn find_by(
     image: &[u8],
     v: checkpoint::Volume,
     nodes: &mut [u8],
     blocks: &mut [u8],
     counts: walk::Counts,
     file: node::File,
+    dir: usize,
+    firsts: &[u64; 63],
     depth: usize,
     hash: u32,
     name: &[u8],
 ) -> EntryStep
-    requires { ⌜ Fits (imageView (now image) v) (findWalk (directoryOf (cardOf (now image)) v file) (wanted hash (now name)) depth)
+    requires { ⌜ Fits (imageView (now image) v) (findWalk (directoryOf (cardOf (now image)) v file dir) (wanted hash (now name)) depth)
         (lists (now nodes) (now blocks) counts) ⌝ }
     requires { ⌜ VolumeIn (cardOf (now image)) v ⌝ }
-    requires { ⌜ FileIn (cardOf (now image)) file × (depth ≤ 63) ⌝ }
+    requires { ⌜ FileIn (cardOf (now image)) file × (depth ≤ 63) × (dir < 31) × IsTable dir (now firsts) ⌝ }
     ensures { λ r. ⌜ Walked (imageView (now (image .entry)) v)
-        (findWalk (directoryOf (cardOf (now (image .entry))) v file) (wanted hash (now (name .entry))) depth)
+        (findWalk (directoryOf (cardOf (now (image .entry))) v file dir) (wanted hash (now (name .entry))) depth)
         (lists (now (nodes .entry)) (now (blocks .entry)) counts) (entryOf (r .entry))
         (lists (now (nodes .exit)) (now (blocks .exit)) (r .counts)) ⌝ }
 {
     let mut listed = counts;
     let mut level: usize = 0;
-    let mut first: usize = 0;
     let entry = 'levels: loop {
         if depth <= level {
             break 'levels Entry::Stop(answer::NO_NAME);
         }
-        let here = level_at(level, first, hash);
+        let here = hash_level::level_at(firsts, dir, level, hash);
         let count = here.count;
         let bucket = here.bucket;
         let mut k: usize = 0;
@@ -195,11 +161,37 @@ pub fn find(
                 }
             }
         }
-        first = here.after;
         level += 1;
     };
     EntryStep {
         entry,
         counts: listed,
     }
+}
+
+// The same, by the directory's level. Its table is taken once.
+pub fn find(
+    image: &[u8],
+    v: checkpoint::Volume,
+    nodes: &mut [u8],
+    blocks: &mut [u8],
+    counts: walk::Counts,
+    file: node::File,
+    dir: usize,
+    depth: usize,
+    hash: u32,
+    name: &[u8],
+) -> EntryStep
+    requires { ⌜ Fits (imageView (now image) v)
+        (findWalk (directoryOf (cardOf (now image)) v file dir) (wanted hash (now name)) depth)
+        (lists (now nodes) (now blocks) counts) ⌝ }
+    requires { ⌜ VolumeIn (cardOf (now image)) v ⌝ }
+    requires { ⌜ FileIn (cardOf (now image)) file × (depth ≤ 63) × (dir < 31) ⌝ }
+    ensures { λ r. ⌜ Walked (imageView (now (image .entry)) v)
+        (findWalk (directoryOf (cardOf (now (image .entry))) v file dir) (wanted hash (now (name .entry))) depth)
+        (lists (now (nodes .entry)) (now (blocks .entry)) counts) (entryOf (r .entry))
+        (lists (now (nodes .exit)) (now (blocks .exit)) (r .counts)) ⌝ }
+{
+    let firsts = hash_level::first_blocks(dir);
+    find_by(image, v, nodes, blocks, counts, file, dir, &firsts, depth, hash, name)
 }

@@ -18,9 +18,9 @@ inodeOf block =
 unfoldable pub notInline : ℕ → Bool
 notInline inline = eqb (inline / 2 % 2) 0 && eqb (inline / 4 % 2) 0 && eqb (inline / 32 % 2) 0
 
--- "The root must be a directory .., else 12"; "Depth over 63 or directory level not 0: 12."
+-- "The root must be a directory .., else 12"; "Depth over 63 ..: 12"; "refusal 12 for a level now starts at 31"
 unfoldable pub isDirectory : Inode → Bool
-isDirectory i = eqb (i .mode / 4096) 4 && notInline (i .inline) && leb (i .depth) 63 && eqb (i .level) 0
+isDirectory i = eqb (i .mode / 4096) 4 && notInline (i .inline) && leb (i .depth) 63 && ltb (i .level) 31
 
 -- ".. and the file regular .., else 12"
 unfoldable pub isRegular : Inode → Bool

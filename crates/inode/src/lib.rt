@@ -37,7 +37,7 @@ fn not_inline(inline: u8) -> bool
 pub fn is_directory(i: Inode) -> bool
     ensures { λ r. ⌜ r ≡ isDirectory i ⌝ }
 {
-    (i.mode / 4096 == 4) & not_inline(i.inline) & (i.depth <= 63) & (i.level == 0)
+    (i.mode / 4096 == 4) & not_inline(i.inline) & (i.depth <= 63) & (i.level < 31)
 }
 
 pub fn is_regular(i: Inode) -> bool

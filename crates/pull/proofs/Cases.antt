@@ -46,7 +46,7 @@ module _ (m : Bounds) (name inode : List ℕ) {i : Inode} (read : i ≡ inodeOf 
   root-empty r z = rw (← read, r, eq-eqb _ _ z)
 
   pub root-search : (A hash : ℕ) → isDirectory i ≡ true → (i .size ≡ 0 → ⊥) → A ≡ addressesIn i → hash ≡ hashOf name
-      → atRoot m name inode ≡ findWalk (directory m rootIno inode A) (wanted hash name) (i .depth)
+      → atRoot m name inode ≡ findWalk (directory m rootIno inode A (i .level)) (wanted hash name) (i .depth)
   unfolding atRoot
   root-search A hash r z a h = rw (← read, r, ne-eqb _ _ z, a, h)
 

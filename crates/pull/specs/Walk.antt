@@ -43,7 +43,8 @@ unfoldable pub atRoot : Bounds → List ℕ → List ℕ → Walk (Outcome ℕ)
 atRoot m name inode =
     choose (isDirectory (inodeOf inode))
     (choose (eqb (inodeOf inode .size) 0) (done (stop 2))
-    (findWalk (directory m rootIno inode (addressesIn (inodeOf inode))) (wanted (hashOf name) name) (inodeOf inode .depth)))
+    (findWalk (directory m rootIno inode (addressesIn (inodeOf inode)) (inodeOf inode .level)) (wanted (hashOf name) name)
+    (inodeOf inode .depth)))
     (done (stop 12))
 
 -- the inode number of a name in the root directory

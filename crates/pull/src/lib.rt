@@ -154,9 +154,10 @@ fn find_from_inode(
         inode: at,
         addresses: inode::addresses_in(i),
     };
+    let dir = i.level as usize;
     let depth = i.depth as usize;
     let hash = name_hash::hash(name);
-    directory::find(image, v, nodes, blocks, counts, file, depth, hash, name)
+    directory::find(image, v, nodes, blocks, counts, file, dir, depth, hash, name)
 }
 
 // The inode number of a name in the root directory.

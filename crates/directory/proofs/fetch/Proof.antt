@@ -1,7 +1,6 @@
 -- `fetch` meets its contract: an index past the last asks nothing.
 use Rattle.walk.proofs.Reached.{reached-start, reached-to, reached-done}
-use Rattle.directory.specs.Find.{fetchWalk}
-use Rattle.directory.proofs.Sizes.{fetch-past}
+use Rattle.node.proofs.Sizes.{block-past}
 use borrow.Author.Needs.{needs}
 use Rattle.directory.proofs.fetch.Statement.{statement}
 use Rattle.directory.proofs.fetch.Tie as tie
@@ -14,13 +13,12 @@ add-last c = search needs
 
 returns : tie.Need-returns
 returns c =
-    (reached-done (reached-to (reached-start _ _ _) (fetch-past _ _ (c .if1 .taken))), tt)
+    (reached-done (reached-to (reached-start _ _ _) (block-past _ _ _ _ _ (c .if1 .taken))), tt)
 
 cast-data-block : tie.Need-cast-data-block
 cast-data-block c = search needs
 
 data-block-requires : tie.Need-data-block-requires
-unfolding fetchWalk
 data-block-requires c κs =
     let s = c .before .before .before .before .before .before .before in
     s .pre
@@ -32,7 +30,6 @@ same-length-2 : tie.Need-same-length-2
 same-length-2 c = search needs
 
 returns-2 : tie.Need-returns-2
-unfolding fetchWalk
 returns-2 c =
     c .before .before .before .before .data-block .ensures
 

@@ -5,7 +5,7 @@ use borrow.Author.Tests.{not-true, not-false}
 use Rattle.field.specs.Card.{cardOf}
 use Rattle.field.proofs.Blocks.{length-of-block}
 use Rattle.inode.specs.Inode.{inodeOf, isDirectory}
-use Rattle.inode.proofs.Counting.{shallow}
+use Rattle.inode.proofs.Counting.{shallow, low-level}
 use Rattle.walk.specs.Walk.{imageView, lists}
 use Rattle.walk.proofs.Reached.{Reached, reached-start, reached-to, reached-all, reached-done}
 use Rattle.walk.proofs.Fits.{fits-at}
@@ -31,7 +31,7 @@ abbrev directory-at : tie.Else2 → tie.Else1
 directory-at k = k .before .before
 
 abbrev held-at : tie.After-hash → tie.After-addresses-in
-held-at k = k .before .before
+held-at k = k .before .before .before
 
 abbrev some-at : tie.After-hash → tie.Else2
 some-at k = held-at k .before
@@ -51,8 +51,9 @@ to-search : (k : tie.After-hash) → let a = begun k .args in
     let t = lists (a .nodes .now) (a .blocks .now) (a .counts) in
     let inode = cardOf (a .image .now) .block (a .at) in
     Reached (imageView (a .image .now) (a .v)) (atRoot (boundsOf (a .v)) (a .name .now) inode) t
-    (findWalk (directory (boundsOf (a .v)) rootIno inode (held-at k .addresses-in .result)) (wanted (k .hash .result) (a .name .now))
-    (inode-at (directory-at (some-at k)) .inode-of .result .depth)) t
+    (let i = inode-at (directory-at (some-at k)) .inode-of .result in
+    findWalk (directory (boundsOf (a .v)) rootIno inode (held-at k .addresses-in .result) (i .level)) (wanted (k .hash .result) (a .name .now))
+    (i .depth)) t
 to-search k =
     let e = some-at k in
     let d = directory-at e in
@@ -84,6 +85,9 @@ returns-2 c =
 addresses-in-requires : tie.Need-addresses-in-requires
 addresses-in-requires c κs = search needs
 
+cast-dir : tie.Need-cast-dir
+cast-dir c = search needs
+
 cast-depth : tie.Need-cast-depth
 cast-depth c = search needs
 
@@ -95,7 +99,8 @@ find-requires c κs =
     let k = c .before .before in
     let known = begun k .pre in
     let few = held-at k .addresses-in .ensures .1 in
-    (fits-at (known .0) (to-search k), (known .1 .0, ((known .1 .1, few), shallow _ (is-directory (directory-at (some-at k))))))
+    let is = is-directory (directory-at (some-at k)) in
+    (fits-at (known .0) (to-search k), (known .1 .0, ((known .1 .1, few), shallow _ is, low-level _ is)))
 
 same-length : tie.Need-same-length
 same-length c = search needs
@@ -118,6 +123,7 @@ find-from-inode-spec =
     returns
     returns-2
     addresses-in-requires
+    cast-dir
     cast-depth
     hash-requires
     find-requires

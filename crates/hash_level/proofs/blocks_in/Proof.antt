@@ -1,8 +1,8 @@
--- `directory::blocks_in` meets its contract.
+-- `blocks_in` meets its contract.
 use mathlib.Core.Path.{sym}
-use Rattle.directory.proofs.Levels.{blocks-low, blocks-high}
-use Rattle.directory.proofs.blocks_in.Statement.{statement}
-use Rattle.directory.proofs.blocks_in.Tie as tie
+use Rattle.hash_level.proofs.Levels.{blocks-low, blocks-high}
+use Rattle.hash_level.proofs.blocks_in.Statement.{statement}
+use Rattle.hash_level.proofs.blocks_in.Tie as tie
 
 returns : tie.Need-returns
 returns c = sym (blocks-low _ (c .if1 .taken))

@@ -1,0 +1,26 @@
+-- The hash levels of a directory, by its directory level: `dir` is the directory level, `level` the n of the rule.
+use Prim.Native.Nat.{ℕ, zero, suc, _+_, _*_, _%_, _^_}
+use lib.Dec.{ltb}
+use Rattle.field.specs.Choice.{choose}
+use Rattle.hash_level.specs.declared.Level.{Level}
+
+-- "buckets are 2^(n + level) while n + level is below 31, else 2^30"
+abbrev pub bucketsOf : ℕ → ℕ → ℕ
+bucketsOf dir level = choose (ltb (level + dir) 31) (2 ^ (level + dir)) (2 ^ 30)
+
+-- "blocks stay 2 for n below 31, else 4": in each bucket
+abbrev pub blocksOf : ℕ → ℕ
+blocksOf level = choose (ltb level 31) 2 4
+
+-- the first block of a hash level: the levels follow each other
+unfoldable pub firstOf : ℕ → ℕ → ℕ
+firstOf dir zero = 0
+firstOf dir (suc level) = firstOf dir level + bucketsOf dir level * blocksOf level
+
+-- "the bucket hash mod buckets": its first block
+unfoldable pub bucketOf : ℕ → ℕ → ℕ → ℕ
+bucketOf dir level hash = firstOf dir level + hash % bucketsOf dir level * blocksOf level
+
+-- the bucket of a hash as the code has it
+abbrev pub levelOf : ℕ → ℕ → ℕ → Level
+levelOf dir level hash = record { count = blocksOf level; bucket = bucketOf dir level hash }
