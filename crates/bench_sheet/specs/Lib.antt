@@ -3,5 +3,6 @@ pub mod Volume004
 pub mod Sheet
 pub mod OpeningRules
 pub mod WalkRules
+pub mod LevelRules
 pub mod SegmentRules
 pub mod CompareRules

@@ -17,7 +17,7 @@ use Rattle.nat.specs.Table.{tableBlock, copyAddress}
 use Rattle.list.specs.Lists.{bytesOf}
 use Rattle.walk.specs.Walk.{Walk, done, look, read, Outcome, ok, stop}
 use Rattle.node.specs.Block.{held}
-use Rattle.directory.specs.Level.{bucketsOf, blocksOf, firstOf}
+use Rattle.hash_level.specs.Level.{firstOf}
 use Rattle.directory.specs.Slot.{wanted, entryAt, wellFormed, matches, slotAt, slotsFrom}
 use Rattle.directory.specs.Find.{afterBlock}
 use Rattle.bench_sheet.specs.Line.{Line, _is_, Holds}
@@ -80,7 +80,7 @@ sheet =
     -- "A = 873: 873 is first direct entry 0."
     ∷ (way 873 873 is (0 ∷ 0 ∷ 1 ∷ 0 ∷ []))
     -- "Levels 0 to 3 start at 0, 2, 6, 14; level 29 at 1,073,741,822."
-    ∷ (List.map firstOf (0 ∷ 1 ∷ 2 ∷ 3 ∷ 29 ∷ []) is (0 ∷ 2 ∷ 6 ∷ 14 ∷ 1073741822 ∷ []))
+    ∷ (List.map (firstOf 0) (0 ∷ 1 ∷ 2 ∷ 3 ∷ 29 ∷ []) is (0 ∷ 2 ∷ 6 ∷ 14 ∷ 1073741822 ∷ []))
     -- "Length 8 at slot 213 fits; length 9 is 14."
     ∷ (searchAnswer (oneEntry 213 8) is (2 ∷ []))
     ∷ (searchAnswer (oneEntry 213 9) is (14 ∷ []))
@@ -88,5 +88,5 @@ sheet =
 
 pub bench-sheet : Holds sheet
 unfolding topBit lowBit placeOf le16 le32 le64 sameAt bytesOf superblockOf logsPass unitsPass countsPass areasPass endsPass fieldsPass passes
-    found bucketsOf blocksOf firstOf wellFormed matches slotAt slotsFrom afterBlock
+    found firstOf wellFormed matches slotAt slotsFrom afterBlock
 bench-sheet = refl

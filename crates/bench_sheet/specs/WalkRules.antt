@@ -24,7 +24,6 @@ use Rattle.inode.specs.Inode.{inodeOf, notInline, isDirectory, isRegular, addre
 use Rattle.node.specs.Node.{Bounds, inMain, belongs, atBlock, atEntry, nodeWalk}
 use Rattle.node.specs.Block.{isHole, dataWalk, followWalk, wayWalk, blockWalk}
 use Rattle.directory.specs.Slot.{wanted, wellFormed, matches, slotAt, slotsFrom}
-use Rattle.directory.specs.Level.{bucketsOf, blocksOf, firstOf, bucketOf}
 use Rattle.directory.specs.Find.{afterSlots, levelsWalk, findWalk}
 use Rattle.pull.specs.Walk.{Block, atFile, fileWalk, atRoot, rootWalk}
 use Rattle.pull.specs.Pull.{lending, lentInShape, contentAnswer}
@@ -211,9 +210,9 @@ inodeRules =
     -- "both with inline bits 2, 4 and 20 hex clear, else 12"
     ∷ (List.map (regular 0x8000) (1 ∷ 2 ∷ 4 ∷ 8 ∷ 0x10 ∷ 0x20 ∷ 0x40 ∷ 0x80 ∷ []) is (1 ∷ 0 ∷ 0 ∷ 1 ∷ 1 ∷ 0 ∷ 1 ∷ 1 ∷ []))
     ∷ (List.map (λ inline. directory 0x4000 inline 1 0) (1 ∷ 2 ∷ 4 ∷ 8 ∷ 0x10 ∷ 0x20 ∷ 0x40 ∷ 0x80 ∷ []) is (1 ∷ 0 ∷ 0 ∷ 1 ∷ 1 ∷ 0 ∷ 1 ∷ 1 ∷ []))
-    -- "Depth over 63 or directory level not 0: 12."
+    -- "Depth over 63 ..: 12"; "refusal 12 for a level now starts at 31"
     ∷ (List.map (λ depth. directory 0x4000 0 depth 0) (0 ∷ 63 ∷ 64 ∷ []) is (1 ∷ 1 ∷ 0 ∷ []))
-    ∷ (List.map (directory 0x4000 0 1) (0 ∷ 1 ∷ 255 ∷ []) is (1 ∷ 0 ∷ 0 ∷ []))
+    ∷ (List.map (directory 0x4000 0 1) (0 ∷ 1 ∷ 30 ∷ 31 ∷ 32 ∷ 255 ∷ []) is (1 ∷ 1 ∷ 1 ∷ 0 ∷ 0 ∷ 0 ∷ []))
     -- "Inline bit 1 set: A = 873 addresses, else A = 923."
     ∷ (List.map (λ inline. addressesIn (inode 0x8000 inline 0 0 0)) (0 ∷ 1 ∷ 8 ∷ 9 ∷ []) is (923 ∷ 873 ∷ 923 ∷ 873 ∷ []))
     -- "Answer 3 if index × 4,096 ≥ size or the index is larger": "Indexes run to A + 1,057,052,515."
@@ -267,13 +266,8 @@ inSlots map ds = sought (afterSlots (done (stop 2)) (slotsFrom (slots map ds) (w
 
 abbrev directoryRules : List Line
 directoryRules =
-    -- "level n below 31 has 2^n buckets of 2 blocks, others 2^30 of 4"
-    (List.map bucketsOf (0 ∷ 1 ∷ 29 ∷ 30 ∷ 31 ∷ 62 ∷ []) is (1 ∷ 2 ∷ 536870912 ∷ 1073741824 ∷ 1073741824 ∷ 1073741824 ∷ []))
-    ∷ (List.map blocksOf (0 ∷ 30 ∷ 31 ∷ 62 ∷ []) is (2 ∷ 2 ∷ 4 ∷ 4 ∷ []))
-    -- "in each the bucket hash mod buckets"
-    ∷ (List.map (bucketOf 2) (0 ∷ 3 ∷ 4 ∷ 7 ∷ []) is (6 ∷ 12 ∷ 6 ∷ 12 ∷ []))
     -- "A set one needs length 1 to 255 and ⌈length/8⌉ slots before the end, else 14"
-    ∷ (List.map (λ len. yes (wellFormed 0 len)) (0 ∷ 1 ∷ 255 ∷ 256 ∷ []) is (0 ∷ 1 ∷ 1 ∷ 0 ∷ []))
+    (List.map (λ len. yes (wellFormed 0 len)) (0 ∷ 1 ∷ 255 ∷ 256 ∷ []) is (0 ∷ 1 ∷ 1 ∷ 0 ∷ []))
     ∷ ((yes (wellFormed 182 255) ∷ yes (wellFormed 183 255) ∷ []) is (1 ∷ 0 ∷ []))
     ∷ ((inSlots 1 (other 0 ∷ []) ∷ inSlots 0 (other 0 ∷ []) ∷ []) is (14 ∷ 2 ∷ []))
     -- "slots rising, stopping at the first match": a malformed slot before it is met, one behind it isn't
@@ -289,9 +283,9 @@ directoryRules =
 -- ---- the pull
 
 -- the root's inode at place 0, as its block says; the name is sought only if there is something to search
-abbrev root : ℕ → ℕ → ℕ → ℕ → List ℕ
-root mode size depth flag =
-    lists (λ ino. 0) (λ n. Entry n 4096) (λ b. footed (inodeBlock mode 0 size depth 0) 3 3 flag) (rootWalk main (97 ∷ []))
+abbrev root : ℕ → ℕ → ℕ → ℕ → ℕ → List ℕ
+root mode size depth level flag =
+    lists (λ ino. 0) (λ n. Entry n 4096) (λ b. footed (inodeBlock mode 0 size depth level) 3 3 flag) (rootWalk main (97 ∷ []))
 
 -- block `index` of a file of 4,097 bytes whose inode number is asked for
 abbrev file : (ℕ → TableAnswer) → ℕ → ℕ → ℕ → List ℕ
@@ -312,12 +306,14 @@ pullRules =
     ∷ (file (λ n. Entry n 4096) 0x8000 4 2 is (3 ∷ 4 ∷ 4096 ∷ []))
     -- "The root must be a directory and the file regular .., else 12"
     ∷ (file (λ n. Entry n 4096) 0x4000 4 2 is (12 ∷ 4 ∷ 4096 ∷ []))
-    ∷ (root 0x8000 0 1 0 is (12 ∷ 3 ∷ 4096 ∷ []))
+    ∷ (root 0x8000 0 1 0 0 is (12 ∷ 3 ∷ 4096 ∷ []))
     -- "Then size 0: 2; size isn't consulted otherwise"; "Place numbers: inode 0"
-    ∷ (root 0x4000 0 1 0 is (2 ∷ 3 ∷ 4096 ∷ []))
-    ∷ (root 0x4000 1 0 0 is (2 ∷ 3 ∷ 4096 ∷ []))
-    ∷ (root 0x4000 0 64 0 is (12 ∷ 3 ∷ 4096 ∷ []))
-    ∷ (root 0x4000 0 1 8 is (11 ∷ 3 ∷ 4096 ∷ []))
+    ∷ (root 0x4000 0 1 0 0 is (2 ∷ 3 ∷ 4096 ∷ []))
+    ∷ (root 0x4000 1 0 0 0 is (2 ∷ 3 ∷ 4096 ∷ []))
+    ∷ (root 0x4000 0 64 0 0 is (12 ∷ 3 ∷ 4096 ∷ []))
+    ∷ (root 0x4000 0 1 30 0 is (2 ∷ 3 ∷ 4096 ∷ []))
+    ∷ (root 0x4000 0 1 31 0 is (12 ∷ 3 ∷ 4096 ∷ []))
+    ∷ (root 0x4000 0 1 0 8 is (11 ∷ 3 ∷ 4096 ∷ []))
     -- "inode number 0 in a directory entry is looked up, so listed, and is 9"
     ∷ (file (λ n. choose (eqb n 0) OutOfRange (Entry n 4096)) 0x8000 0 0 is (9 ∷ 0 ∷ []))
     ∷ []
@@ -336,7 +332,7 @@ unfolding le16 le32 le64 bytesOf inodeOf notInline isDirectory isRegular address
 inode-rules = refl
 
 pub directory-rules : Holds directoryRules
-unfolding le16 le32 bytesOf lowBit sameAt run bucketsOf blocksOf firstOf bucketOf wellFormed matches slotAt slotsFrom
+unfolding le16 le32 bytesOf lowBit sameAt run wellFormed matches slotAt slotsFrom
 directory-rules = refl
 
 pub pull-rules : Holds pullRules

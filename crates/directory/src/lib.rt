@@ -193,5 +193,17 @@ pub fn find(
         (lists (now (nodes .exit)) (now (blocks .exit)) (r .counts)) ⌝ }
 {
     let firsts = hash_level::first_blocks(dir);
-    find_by(image, v, nodes, blocks, counts, file, dir, &firsts, depth, hash, name)
+    find_by(
+        image,
+        v,
+        nodes,
+        blocks,
+        counts,
+        file,
+        dir,
+        &firsts,
+        depth,
+        hash,
+        name,
+    )
 }

@@ -157,7 +157,18 @@ fn find_from_inode(
     let dir = i.level as usize;
     let depth = i.depth as usize;
     let hash = name_hash::hash(name);
-    directory::find(image, v, nodes, blocks, counts, file, dir, depth, hash, name)
+    directory::find(
+        image,
+        v,
+        nodes,
+        blocks,
+        counts,
+        file,
+        dir,
+        depth,
+        hash,
+        name,
+    )
 }
 
 // The inode number of a name in the root directory.

@@ -15,9 +15,9 @@ use Rattle.list.specs.Lists.{bytesOf, insert}
 use Rattle.walk.specs.Walk.{ran, run, bind, ok, stop, onward, andThen}
 use Rattle.node.specs.Node.{inMain, belongs, atBlock, atEntry, nodeWalk}
 use Rattle.node.specs.Block.{hole, held, isHole, dataWalk, wayWalk, blockWalk}
-use Rattle.directory.specs.Level.{bucketsOf, blocksOf, firstOf, bucketOf}
+use Rattle.hash_level.specs.Level.{firstOf, bucketOf}
 use Rattle.directory.specs.Slot.{wellFormed, matches, slotAt, slotsFrom}
-use Rattle.directory.specs.Find.{fetchWalk, afterBlock, bucketWalk, levelsWalk, findWalk}
+use Rattle.directory.specs.Find.{afterBlock, bucketWalk, levelsWalk, findWalk}
 use Rattle.pull.specs.Walk.{atFile, fileWalk, atRoot, rootWalk, pullWalk}
 use Rattle.pull.specs.Pull.{pullRun}
 use Rattle.sample_card.specs.Image.{filled, name, missing, pack, journal, natBlock, rootInode, fileInode, dentryBlock, dataBlock, runs, blockIn, card}
@@ -44,7 +44,7 @@ unfolding
     inodeOf notInline isDirectory isRegular addressesIn isPast countIn
     insert run bind onward andThen
     inMain belongs atBlock atEntry nodeWalk isHole dataWalk wayWalk blockWalk
-    bucketsOf blocksOf firstOf bucketOf wellFormed matches slotAt slotsFrom
-    fetchWalk afterBlock bucketWalk levelsWalk findWalk
+    firstOf bucketOf wellFormed matches slotAt slotsFrom
+    afterBlock bucketWalk levelsWalk findWalk
     atFile fileWalk atRoot rootWalk pullWalk pullRun
 walks = (refl, refl, refl, refl)
