@@ -15,10 +15,8 @@ reach dir hash = inReach 1057053438 dir hash 63 0
 abbrev levelRules : List Line
 levelRules =
     -- "buckets are 2^(n + level) while n + level is below 31, else 2^30"
-    (List.map (bucketsOf 0) (0 ∷ 1 ∷ 29 ∷ 30 ∷ 31 ∷ 62 ∷ []) is (1 ∷ 2 ∷ 536870912 ∷ 1073741824 ∷ 1073741824 ∷ 1073741824 ∷ []))
-    ∷ (List.map (bucketsOf 1) (0 ∷ 1 ∷ 28 ∷ 29 ∷ 30 ∷ 62 ∷ []) is (2 ∷ 4 ∷ 536870912 ∷ 1073741824 ∷ 1073741824 ∷ 1073741824 ∷ []))
-    ∷ (List.map (bucketsOf 29) (0 ∷ 1 ∷ 2 ∷ 62 ∷ []) is (536870912 ∷ 1073741824 ∷ 1073741824 ∷ 1073741824 ∷ []))
-    ∷ (List.map (bucketsOf 30) (0 ∷ 1 ∷ 62 ∷ []) is (1073741824 ∷ 1073741824 ∷ 1073741824 ∷ []))
+    (List.map bucketsOf (0 ∷ 1 ∷ 2 ∷ 29 ∷ 30 ∷ 31 ∷ 32 ∷ 92 ∷ [])
+    is (1 ∷ 2 ∷ 4 ∷ 536870912 ∷ 1073741824 ∷ 1073741824 ∷ 1073741824 ∷ 1073741824 ∷ []))
     -- "blocks stay 2 for n below 31, else 4"
     ∷ (List.map blocksOf (0 ∷ 30 ∷ 31 ∷ 62 ∷ []) is (2 ∷ 2 ∷ 4 ∷ 4 ∷ []))
     -- "in each the bucket hash mod buckets"

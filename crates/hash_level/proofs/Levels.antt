@@ -1,9 +1,9 @@
 -- The hash levels of a directory: their sizes, where they start, and that those from 29 on lie past the last index.
 use Prim.Native.Nat.{ℕ, zero, suc, _+_, _-_, _*_, _%_, _^_, _≤_, _<_}
 use native.Mathlib.Omega.{arith}
-use native.Mathlib.Nat.{mul-le-mul, mod-lt, add-zero, le-refl}
+use native.Mathlib.Nat.{mul-le-mul, mod-lt, zero-add, add-zero, le-refl, pow-suc}
 use native.Mathlib.Numerals.{add-one}
-use mathlib.Core.Path.{_≡_, refl}
+use mathlib.Core.Path.{_≡_, refl, sym, ap, _∙_}
 use mathlib.Core.Bool.{Bool, true, false}
 use mathlib.Core.Logic.{_⊎_, inl, inr, ⊎-elim}
 use lib.Dec.{ltb}
@@ -14,13 +14,13 @@ use Rattle.field.proofs.Choosing.{either}
 use Rattle.place.specs.Place.{lastIndex}
 use Rattle.hash_level.specs.Level.{bucketsOf, blocksOf, firstOf, bucketOf}
 
--- ---- the blocks of a bucket
+-- ---- the rules, on each side of 31
 module _ (level : ℕ) where
   pub blocks-low : level < 31 → blocksOf level ≡ 2
-  blocks-low h = rw (lt-ltb level 31 h)
+  blocks-low h = ap (λ (low : Bool). choose low 2 4) (lt-ltb level 31 h)
 
   pub blocks-high : 31 ≤ level → blocksOf level ≡ 4
-  blocks-high h = rw (le-ltb level 31 h)
+  blocks-high h = ap (λ (low : Bool). choose low 2 4) (le-ltb level 31 h)
 
   pub blocks-few : blocksOf level ≤ 4
   blocks-few = go (ltb level 31)
@@ -29,36 +29,36 @@ module _ (level : ℕ) where
       go true = omega arith
       go false = omega arith
 
--- ---- one level
-module _ (dir level : ℕ) where
-  pub buckets-low : level + dir < 31 → bucketsOf dir level ≡ 2 ^ (level + dir)
-  buckets-low h = rw (lt-ltb (level + dir) 31 h)
+module _ (sum : ℕ) where
+  pub buckets-low : sum < 31 → bucketsOf sum ≡ 2 ^ sum
+  buckets-low h = ap (λ (low : Bool). choose low (2 ^ sum) (2 ^ 30)) (lt-ltb sum 31 h)
 
-  pub buckets-high : 31 ≤ level + dir → bucketsOf dir level ≡ 2 ^ 30
-  buckets-high h = rw (le-ltb (level + dir) 31 h)
+  pub buckets-high : 31 ≤ sum → bucketsOf sum ≡ 2 ^ 30
+  buckets-high h = ap (λ (low : Bool). choose low (2 ^ sum) (2 ^ 30)) (le-ltb sum 31 h)
 
-  pub buckets-some : (0 < bucketsOf dir level) × (bucketsOf dir level ≤ 2 ^ 30)
-  buckets-some = go (ltb (level + dir) 31) refl
+  buckets-some : (0 < bucketsOf sum) × (bucketsOf sum ≤ 2 ^ 30)
+  buckets-some = go (ltb sum 31) refl
     where
-      go : (low : Bool) → ltb (level + dir) 31 ≡ low
-          → (0 < choose low (2 ^ (level + dir)) (2 ^ 30)) × (choose low (2 ^ (level + dir)) (2 ^ 30) ≤ 2 ^ 30)
+      go : (low : Bool) → ltb sum 31 ≡ low → (0 < choose low (2 ^ sum) (2 ^ 30)) × (choose low (2 ^ sum) (2 ^ 30) ≤ 2 ^ 30)
       go true e =
-          let h : level + dir < 31 = ltb-true (level + dir) 31 e in
-          let g : level + dir ≤ 30 = omega arith in
-          (pow-pos (level + dir), pow-mono g)
+          let h : sum < 31 = ltb-true sum 31 e in
+          let g : sum ≤ 30 = omega arith in
+          (pow-pos sum, pow-mono g)
       go false e = omega arith
 
-  level-size : bucketsOf dir level * blocksOf level ≤ 4294967296
-  level-size = mul-le-mul (buckets-some .1) (blocks-few level)
+-- ---- one level
+module _ (dir level : ℕ) where
+  level-size : bucketsOf (level + dir) * blocksOf level ≤ 4294967296
+  level-size = mul-le-mul (buckets-some (level + dir) .1) (blocks-few level)
 
-  bucket-start : (hash : ℕ) → hash % bucketsOf dir level * blocksOf level ≤ 4294967296
+  bucket-start : (hash : ℕ) → hash % bucketsOf (level + dir) * blocksOf level ≤ 4294967296
   bucket-start hash =
-      let p = mod-lt hash (buckets-some .0) in
-      let q = buckets-some .1 in
-      let r : hash % bucketsOf dir level ≤ 2 ^ 30 = omega arith in
+      let p = mod-lt hash (buckets-some (level + dir) .0) in
+      let q = buckets-some (level + dir) .1 in
+      let r : hash % bucketsOf (level + dir) ≤ 2 ^ 30 = omega arith in
       mul-le-mul r (blocks-few level)
 
-  first-next : firstOf dir (level + 1) ≡ firstOf dir level + bucketsOf dir level * blocksOf level
+  first-next : firstOf dir (level + 1) ≡ firstOf dir level + bucketsOf (level + dir) * blocksOf level
   unfolding firstOf
   first-next = rw (add-one level)
 
@@ -71,12 +71,25 @@ first-most dir (suc level) =
     let g = level-size dir level in
     omega arith
 
+-- up to the cap, a closed form: a level starts at 2^(dir + 1) * (2^level - 1)
+pub first-closed : (dir level : ℕ) → level + dir ≤ 31 → firstOf dir level + 2 ^ (dir + 1) ≡ 2 ^ (level + dir + 1)
+unfolding firstOf
+first-closed dir zero h = zero-add (2 ^ (dir + 1)) ∙ ap (λ (n : ℕ). 2 ^ (n + 1)) (sym (zero-add dir))
+first-closed dir (suc level) h =
+    let before = first-closed dir level (omega arith) in
+    let buckets = buckets-low (level + dir) (omega arith) in
+    let blocks = blocks-low level (omega arith) in
+    let once = ap (λ (n : ℕ). 2 ^ n) (add-one (level + dir)) ∙ pow-suc 2 (level + dir) in
+    let e : suc level + dir + 1 ≡ suc (level + dir + 1) = omega arith in
+    let twice = ap (λ (n : ℕ). 2 ^ n) e ∙ pow-suc 2 (level + dir + 1) in
+    rw (buckets, blocks, twice) (omega arith)
+
 -- ---- the code's sums fit 64 bits
-pub level-fits : {first buckets count : ℕ} (dir level hash : ℕ) → level < 63 → first ≡ firstOf dir level → buckets ≡ bucketsOf dir level
+pub level-fits : {first buckets count : ℕ} (dir level hash : ℕ) → level < 63 → first ≡ firstOf dir level → buckets ≡ bucketsOf (level + dir)
     → count ≡ blocksOf level → (0 < buckets) × (hash % buckets * count ≤ 4294967296) × (first < 2 ^ 39)
 level-fits dir level hash h e p q =
     let f = first-most dir level in
-    (rw p (buckets-some dir level .0), rw (p, q) (bucket-start dir level hash), omega arith)
+    (rw p (buckets-some (level + dir) .0), rw (p, q) (bucket-start dir level hash), omega arith)
 
 pub bucket-small : (dir level hash : ℕ) → level < 63 → bucketOf dir level hash < 2 ^ 40
 unfolding bucketOf
@@ -88,28 +101,28 @@ bucket-small dir level hash h =
 -- ---- a directory level of 0
 
 -- it has document 01's rule: "level n below 31 has 2^n buckets of 2 blocks, others 2^30 of 4"
-pub level-0 : (level : ℕ) → (bucketsOf 0 level ≡ choose (ltb level 31) (2 ^ level) (2 ^ 30)) × (blocksOf level ≡ choose (ltb level 31) 2 4)
-level-0 level = (rw (add-zero level), refl)
+pub level-0 : (level : ℕ) → (bucketsOf (level + 0) ≡ choose (ltb level 31) (2 ^ level) (2 ^ 30)) × (blocksOf level ≡ choose (ltb level 31) 2 4)
+level-0 level = (ap bucketsOf (add-zero level), refl)
 
--- and a higher one never fewer buckets, so its levels start no earlier
-buckets-grow : (dir level : ℕ) → bucketsOf 0 level ≤ bucketsOf dir level
-buckets-grow dir level = ⊎-elim (λ e. low (ltb-true (level + dir) 31 e)) (λ e. high (ltb-false (level + dir) 31 e)) (either (ltb (level + dir) 31))
+-- a higher one never has fewer buckets, so its levels start no earlier
+buckets-grow : {sum more : ℕ} → sum ≤ more → bucketsOf sum ≤ bucketsOf more
+buckets-grow {sum} {more} h = ⊎-elim (λ e. low (ltb-true more 31 e)) (λ e. high (ltb-false more 31 e)) (either (ltb more 31))
   where
-    low : level + dir < 31 → bucketsOf 0 level ≤ bucketsOf dir level
-    low h =
-        let p : level + 0 < 31 = omega arith in
-        let q : level + 0 ≤ level + dir = omega arith in
-        rw (buckets-low 0 level p, buckets-low dir level h) (pow-mono q)
+    low : more < 31 → bucketsOf sum ≤ bucketsOf more
+    low l =
+        let p : sum < 31 = omega arith in
+        rw (buckets-low sum p, buckets-low more l) (pow-mono h)
 
-    high : 31 ≤ level + dir → bucketsOf 0 level ≤ bucketsOf dir level
-    high h = rw (buckets-high dir level h) (buckets-some 0 level .1)
+    high : 31 ≤ more → bucketsOf sum ≤ bucketsOf more
+    high l = rw (buckets-high more l) (buckets-some sum .1)
 
 first-grows : (dir level : ℕ) → firstOf 0 level ≤ firstOf dir level
 unfolding firstOf
 first-grows dir zero = omega arith
 first-grows dir (suc level) =
     let h = first-grows dir level in
-    let g = mul-le-mul (buckets-grow dir level) (le-refl (blocksOf level)) in
+    let p : level + 0 ≤ level + dir = omega arith in
+    let g = mul-le-mul (buckets-grow p) (le-refl (blocksOf level)) in
     omega arith
 
 -- ---- levels from 29 on lie past the last index

@@ -4,9 +4,9 @@ use lib.Dec.{ltb}
 use Rattle.field.specs.Choice.{choose}
 use Rattle.hash_level.specs.declared.Level.{Level}
 
--- "buckets are 2^(n + level) while n + level is below 31, else 2^30"
-abbrev pub bucketsOf : ℕ → ℕ → ℕ
-bucketsOf dir level = choose (ltb (level + dir) 31) (2 ^ (level + dir)) (2 ^ 30)
+-- "buckets are 2^(n + level) while n + level is below 31, else 2^30": of the sum of the two
+abbrev pub bucketsOf : ℕ → ℕ
+bucketsOf sum = choose (ltb sum 31) (2 ^ sum) (2 ^ 30)
 
 -- "blocks stay 2 for n below 31, else 4": in each bucket
 abbrev pub blocksOf : ℕ → ℕ
@@ -15,11 +15,11 @@ blocksOf level = choose (ltb level 31) 2 4
 -- the first block of a hash level: the levels follow each other
 unfoldable pub firstOf : ℕ → ℕ → ℕ
 firstOf dir zero = 0
-firstOf dir (suc level) = firstOf dir level + bucketsOf dir level * blocksOf level
+firstOf dir (suc level) = firstOf dir level + bucketsOf (level + dir) * blocksOf level
 
 -- "the bucket hash mod buckets": its first block
 unfoldable pub bucketOf : ℕ → ℕ → ℕ → ℕ
-bucketOf dir level hash = firstOf dir level + hash % bucketsOf dir level * blocksOf level
+bucketOf dir level hash = firstOf dir level + hash % bucketsOf (level + dir) * blocksOf level
 
 -- the bucket of a hash as the code has it
 abbrev pub levelOf : ℕ → ℕ → ℕ → Level

@@ -15,7 +15,7 @@ pub record IsTable (dir : ℕ) (table : List ℕ) : Type 0 where
 -- ends.
 abbrev pub follows : ℕ → ℕ → ℕ → List ℕ → Bool
 follows dir level first [] = true
-follows dir level first (x ∷ xs) = eqb x first && follows dir (suc level) (first + bucketsOf dir level * blocksOf level) xs
+follows dir level first (x ∷ xs) = eqb x first && follows dir (suc level) (first + bucketsOf (level + dir) * blocksOf level) xs
 
 abbrev pub passes : ℕ → List ℕ → Bool
 passes dir table = eqb (length table) 63 && follows dir 0 0 table

@@ -22,11 +22,9 @@ pub fn first_blocks(dir: usize) -> [u64; 63]
     table.blocks
 }
 
-fn buckets_in(dir: usize, level: usize) -> usize
-    requires { ⌜ (dir < 31) × (level < 63) ⌝ }
-    ensures { λ r. ⌜ r ≡ bucketsOf dir level ⌝ }
+fn buckets_in(sum: usize) -> usize
+    ensures { λ r. ⌜ r ≡ bucketsOf sum ⌝ }
 {
-    let sum = level + dir;
     if sum < 31 {
         return 1usize << (sum as u32);
     }
@@ -48,10 +46,9 @@ pub fn level_at(firsts: &[u64; 63], dir: usize, level: usize, hash: u32) -> Leve
     ensures { λ r. ⌜ r ≡ levelOf dir level hash ⌝ }
 {
     let first = firsts[level] as usize;
-    let buckets = buckets_in(dir, level);
+    let sum = level + dir;
+    let buckets = buckets_in(sum);
     let count = blocks_in(level);
-    Level {
-        count,
-        bucket: first + (hash as usize) % buckets * count,
-    }
+    let bucket = first + (hash as usize) % buckets * count;
+    Level { count, bucket }
 }

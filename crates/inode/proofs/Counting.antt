@@ -4,12 +4,12 @@ use native.Mathlib.Omega.{arith}
 use mathlib.Core.Path.{_≡_, refl}
 use mathlib.Core.Bool.{Bool, true, false, _||_, and-false}
 use lib.Dec.{leb, ltb, eqb}
-use borrow.Author.Tests.{leb-false, ltb-true}
+use borrow.Author.Tests.{leb-false}
 use Rattle.field.specs.Choice.{choose}
 use Rattle.place.specs.Place.{lastIndex}
 use Rattle.inode.specs.declared.Inode.{Inode}
 use Rattle.inode.specs.Inode.{notInline, isDirectory, addressesIn, isPast, countIn}
-use Rattle.field.proofs.Choosing.{needed, needed-le}
+use Rattle.field.proofs.Choosing.{needed-le}
 
 pub begins-inside : (i : Inode) (index : ℕ) → isPast i index ≡ false → index * 4096 < i .size
 unfolding isPast
@@ -46,8 +46,3 @@ few-addresses i = go (eqb (i .inline % 2) 1)
 pub shallow : (i : Inode) → isDirectory i ≡ true → i .depth ≤ 63
 unfolding isDirectory
 shallow i h = needed-le (λ e. rw (e, and-false) refl) h
-
--- and a directory level that has a table
-pub low-level : (i : Inode) → isDirectory i ≡ true → i .level < 31
-unfolding isDirectory
-low-level i h = ltb-true (i .level) 31 (needed (λ e. rw (e, and-false) refl) h)

@@ -1,5 +1,5 @@
 -- The trees of a file and of the root by cases: no run and no list is named. Then what the code found as what the walk comes to.
-use Prim.Native.Nat.{ℕ}
+use Prim.Native.Nat.{ℕ, _≤_}
 use mathlib.Core.Path.{_≡_, refl}
 use mathlib.Core.Bool.{true, false}
 use mathlib.Core.List.{List}
@@ -10,6 +10,7 @@ use Rattle.walk.proofs.Reached.{reached-start, reached-then, reached-stop, reac
 use Rattle.walk.proofs.Fits.{fits-at}
 use Rattle.inode.specs.declared.Inode.{Inode}
 use Rattle.inode.specs.Inode.{inodeOf, isDirectory, isRegular, addressesIn, isPast, countIn}
+use Rattle.inode.proofs.DirectoryLevel.{level-refused}
 use Rattle.node.specs.Node.{Bounds}
 use Rattle.node.specs.Block.{Fetched, blockWalk}
 use Rattle.node.specs.Found.{dataOf}
@@ -40,6 +41,10 @@ module _ (m : Bounds) (name inode : List ℕ) {i : Inode} (read : i ≡ inodeOf 
   pub root-other : isDirectory i ≡ false → atRoot m name inode ≡ done (stop 12)
   unfolding atRoot
   root-other r = rw (← read, r)
+
+  -- whatever its size: 12 comes before 2
+  pub root-level : 31 ≤ i .level → atRoot m name inode ≡ done (stop 12)
+  root-level h = root-other (level-refused i (i .level) h)
 
   pub root-empty : isDirectory i ≡ true → i .size ≡ 0 → atRoot m name inode ≡ done (stop 2)
   unfolding atRoot

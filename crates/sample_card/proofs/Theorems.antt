@@ -82,12 +82,12 @@ module _ (lent : Lent) (fits : lentInShape lent ≡ true) where
   unfolding nameBytes
   past-the-end-answers-3 = walk-leaves name 2 _ refl (walks .2)
 
--- ---- Segment report: the card has one main segment, so a list of one number has room; its count isn't off, and four of its blocks
+-- ---- Segment report: the card has one main segment, so a list of one number has room; its count isn't off, and five of its blocks
 -- are valid
 opens-with-sit : openedWithSit image ≡ Opened volume
 opens-with-sit = journal-opens image volume some-card-opens (rw image-card sit-journal-readable)
 
 pub a-report-answers-0 : (list : List ℕ) → 1 ≤ length list / 4
-    → segmentReport image list ≡ reported (record { answer = 0; count = 0; «valid_blocks» = 4 }) list
+    → segmentReport image list ≡ reported (record { answer = 0; count = 0; «valid_blocks» = 5 }) list
 unfolding reportOf offOn over bytesOf
 a-report-answers-0 list h = made image list volume opens-with-sit h ∙ rw (image-card, segments .0, segments .1)

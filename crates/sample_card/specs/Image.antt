@@ -1,6 +1,6 @@
--- One card, written out: as large as a card may be, 4,194,304 blocks, of which eleven hold something. Its last segment is its main area,
--- so that nodes and data lie behind byte 2^32. Its root directory has one file, "brake.log", of 4,103 bytes: a hole, and seven bytes in
--- its block 1, which is the card's last. Offsets are document 01's.
+-- One card, written out: as large as a card may be, 4,194,304 blocks, of which twelve hold something. Its last segment is its main area,
+-- so that nodes and data lie behind byte 2^32. Its root directory, of directory level 2, has one file, "brake.log", of 4,103 bytes: a hole,
+-- and seven bytes in its block 1, which is the card's last. Offsets are document 01's.
 use Prim.Native.Nat.{ℕ, _+_, _-_}
 use mathlib.Core.List.{List, [], _∷_, _++_}
 use lib.ListN.{length, replicate}
@@ -79,42 +79,46 @@ pack =
 unfoldable pub journal : List ℕ
 journal = filled 0 (at 0 (1 ∷ 0 ∷ []) ∷ numbersAt 2 (3 ∷ []) ∷ numbersAt 7 (3 ∷ 4193792 ∷ []) ∷ [])
 
--- the first block of the SIT has the entry of the one main segment: its first three blocks and its last are valid
+-- the first block of the SIT has the entry of the one main segment: its first four blocks and its last are valid
 unfoldable pub sitBlock : List ℕ
-sitBlock = filled 0 (at 0 (4 ∷ 0 ∷ 0xE0 ∷ []) ∷ at 65 (0x01 ∷ []) ∷ [])
+sitBlock = filled 0 (at 0 (5 ∷ 0 ∷ 0xF0 ∷ []) ∷ at 65 (0x01 ∷ []) ∷ [])
 
 -- the first block of the NAT has one more: the file, inode 4, is at block 4193794
 unfoldable pub natBlock : List ℕ
 natBlock = filled 0 (numbersAt 37 (4 ∷ 4193794 ∷ []) ∷ [])
 
--- an inode: mode, size, depth, the addresses of its blocks, and the footer
-abbrev pub inode : List ℕ → ℕ → ℕ → List ℕ → ℕ → List ℕ
-inode mode size depth addresses number =
+-- an inode: mode, size, depth, directory level, the addresses of its blocks, and the footer
+abbrev pub inode : List ℕ → ℕ → ℕ → ℕ → List ℕ → ℕ → List ℕ
+inode mode size depth level addresses number =
     filled 0
-    (at 0 mode ∷ numbersAt 16 (size ∷ 0 ∷ []) ∷ numbersAt 72 (depth ∷ []) ∷ numbersAt 360 addresses ∷ numbersAt 4072 (number ∷ number ∷ 0 ∷ []) ∷ [])
+    (at 0 mode
+    ∷ numbersAt 16 (size ∷ 0 ∷ [])
+    ∷ numbersAt 72 (depth ∷ [])
+    ∷ at 347 (level ∷ [])
+    ∷ numbersAt 360 addresses
+    ∷ numbersAt 4072 (number ∷ number ∷ 0 ∷ [])
+    ∷ [])
 
--- a directory of depth 1, with its block at 4193793
+-- a directory of depth 1 and directory level 2: four buckets of two blocks, of which the first has its block at 4193795 and the last at
+-- 4193793
 unfoldable pub rootInode : List ℕ
-rootInode = inode (0xED ∷ 0x41 ∷ []) 4096 1 (4193793 ∷ []) 3
+rootInode = inode (0xED ∷ 0x41 ∷ []) 28672 1 2 (4193795 ∷ 0 ∷ 0 ∷ 0 ∷ 0 ∷ 0 ∷ 4193793 ∷ []) 3
 
--- a regular file; its block 0 is a hole, its block 1 is at 4194303
+-- a regular file; its block 0 is a hole, its block 1 is at 4194303. In a file the level isn't consulted
 unfoldable pub fileInode : List ℕ
-fileInode = inode (0xA4 ∷ 0x81 ∷ []) 4103 0 (0 ∷ 4194303 ∷ []) 4
+fileInode = inode (0xA4 ∷ 0x81 ∷ []) 4103 0 31 (0 ∷ 4194303 ∷ []) 4
 
 -- a directory entry: hash, inode number, the name's length, type
 abbrev pub entry : ℕ → ℕ → ℕ → ℕ → List ℕ
 entry hash ino long type = bytesOf (hash ∷ ino ∷ []) ++ (long ∷ 0 ∷ type ∷ [])
 
--- the root's one block: "." and ".." in slots 0 and 1, "brake.log" in slots 2 and 3
+-- the root's first bucket: "." and "..", whose hash is 0, in slots 0 and 1
+unfoldable pub dotsBlock : List ℕ
+dotsBlock = filled 0 (at 0 (3 ∷ []) ∷ at 30 (entry 0 3 1 2 ++ entry 0 3 2 2) ∷ at 2384 (46 ∷ []) ∷ at 2392 (46 ∷ 46 ∷ []) ∷ [])
+
+-- its last: "brake.log" in slots 0 and 1
 unfoldable pub dentryBlock : List ℕ
-dentryBlock =
-    filled 0
-    (at 0 (0xF ∷ [])
-    ∷ at 30 (entry 0 3 1 2 ++ (entry 0 3 2 2 ++ entry 3025346403 4 9 1))
-    ∷ at 2384 (46 ∷ [])
-    ∷ at 2392 (46 ∷ 46 ∷ [])
-    ∷ at 2400 name
-    ∷ [])
+dentryBlock = filled 0 (at 0 (3 ∷ []) ∷ at 30 (entry 3025346403 4 9 1) ∷ at 2384 name ∷ [])
 
 -- the file's block 1: behind its seven bytes stands one that isn't the file's
 unfoldable pub dataBlock : List ℕ
@@ -142,7 +146,7 @@ runs =
     ∷ once sitBlock ∷ empty 1023
     ∷ once natBlock ∷ empty 1023
     ∷ empty 4190208
-    ∷ once rootInode ∷ once dentryBlock ∷ once fileInode ∷ empty 508 ∷ once dataBlock
+    ∷ once rootInode ∷ once dentryBlock ∷ once fileInode ∷ once dotsBlock ∷ empty 507 ∷ once dataBlock
     ∷ []
 
 -- the blocks one by one

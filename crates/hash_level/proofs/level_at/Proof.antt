@@ -27,20 +27,23 @@ mul-first c = search needs
 element-copy-out-first : tie.Need-element-copy-out-first
 element-copy-out-first c = search needs
 
+add-sum : tie.Need-add-sum
+add-sum c = search needs
+
 buckets-in-requires : tie.Need-buckets-in-requires
 buckets-in-requires c κs = search needs
 
 blocks-in-requires : tie.Need-blocks-in-requires
 blocks-in-requires c κs = search needs
 
-rem-t12 : tie.Need-rem-t12
-rem-t12 c = omega (arith, fits c)
+rem-bucket : tie.Need-rem-bucket
+rem-bucket c = omega (arith, fits c)
 
-mul-t13 : tie.Need-mul-t13
-mul-t13 c = omega (arith, fits c)
+mul-bucket : tie.Need-mul-bucket
+mul-bucket c = omega (arith, fits c)
 
-add-t14 : tie.Need-add-t14
-add-t14 c = omega (arith, fits c)
+add-bucket : tie.Need-add-bucket
+add-bucket c = omega (arith, fits c)
 
 returns : tie.Need-returns
 unfolding bucketOf
@@ -52,9 +55,10 @@ level-at-spec =
     (tie.spec
     mul-first
     element-copy-out-first
+    add-sum
     buckets-in-requires
     blocks-in-requires
-    rem-t12
-    mul-t13
-    add-t14
+    rem-bucket
+    mul-bucket
+    add-bucket
     returns)

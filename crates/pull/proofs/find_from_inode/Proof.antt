@@ -5,7 +5,8 @@ use borrow.Author.Tests.{not-true, not-false}
 use Rattle.field.specs.Card.{cardOf}
 use Rattle.field.proofs.Blocks.{length-of-block}
 use Rattle.inode.specs.Inode.{inodeOf, isDirectory}
-use Rattle.inode.proofs.Counting.{shallow, low-level}
+use Rattle.inode.proofs.Counting.{shallow}
+use Rattle.inode.proofs.DirectoryLevel.{low-level}
 use Rattle.walk.specs.Walk.{imageView, lists}
 use Rattle.walk.proofs.Reached.{Reached, reached-start, reached-to, reached-all, reached-done}
 use Rattle.walk.proofs.Fits.{fits-at}
