@@ -1,29 +1,36 @@
--- How much the search asks at most: three nodes and four blocks for each block of a bucket, of which levels 0 to 28 have 58 and
--- later ones none. Each block that it reads lies in the main area.
-use Prim.Native.Nat.{ℕ, zero, suc, _+_, _-_, _*_, _≤_, _<_}
+-- How much the search asks at most: three nodes and four blocks for each block of a bucket that lies in reach, of which there are at
+-- most 58, and nothing for the others. Each block that it reads lies in the main area.
+use Prim.Native.Nat.{ℕ, zero, suc, _+_, _*_, _≤_}
 use native.Mathlib.Omega.{arith}
-use mathlib.Core.Path.{refl, sym, subst}
-use mathlib.Core.Logic.{⊎-elim}
+use native.Mathlib.Nat.{add-zero}
+use mathlib.Core.Path.{_≡_, refl, sym, ap, subst}
+use mathlib.Core.Bool.{Bool, true, false}
+use lib.Dec.{leb}
+use borrow.Author.Tests.{leb-false}
+use Rattle.field.specs.Choice.{choose}
 use Rattle.place.specs.Place.{lastIndex}
 use Rattle.walk.specs.Walk.{Walk, Outcome, ends}
 use Rattle.walk.proofs.Sizes.{within-then, within-le}
 use Rattle.node.specs.Block.{Fetched, hole, held}
 use Rattle.node.proofs.Sizes.{Small, block-within, block-past}
 use Rattle.hash_level.specs.Level.{blocksOf, bucketOf}
-use Rattle.hash_level.proofs.Levels.{blocks-low, early-or-late, bucket-past}
+use Rattle.hash_level.specs.Reach.{upTo, inReach}
+use Rattle.hash_level.proofs.Reach.{at-most-58}
 use Rattle.directory.specs.Slot.{Wanted, Sought, absent, found, malformed, inBlock}
 use Rattle.directory.specs.Find.{Directory, fetchWalk, afterSlots, afterBlock, bucketWalk, levelsWalk, findWalk}
 
--- how many blocks are left to fetch from a level on
-abbrev left : ℕ → ℕ
-left level = 2 * (29 - level)
-
 module _ (d : Directory) where
-  fetch-within : (index : ℕ) → Small (d .bounds) 3 4 (fetchWalk d index)
-  fetch-within index = block-within (d .bounds) (d .ino) (d .inode) (d .addresses) index
+  abbrev last : ℕ
+  last = lastIndex (d .addresses)
 
-  fetch-none : (index : ℕ) → lastIndex (d .addresses) < index → Small (d .bounds) 0 0 (fetchWalk d index)
-  fetch-none index h = subst (Small (d .bounds) 0 0) (sym (block-past (d .bounds) (d .ino) (d .inode) (d .addresses) index h)) (ends tt)
+  fetch-within : (index : ℕ) → let n : ℕ = choose (leb index last) 1 0 in Small (d .bounds) (3 * n) (4 * n) (fetchWalk d index)
+  fetch-within index = go (leb index last) refl
+    where
+      go : (near : Bool) → leb index last ≡ near → let n : ℕ = choose near 1 0 in Small (d .bounds) (3 * n) (4 * n) (fetchWalk d index)
+      go true e = block-within (d .bounds) (d .ino) (d .inode) (d .addresses) index
+      go false e =
+          let past = block-past (d .bounds) (d .ino) (d .inode) (d .addresses) index (leb-false index last e) in
+          subst (Small (d .bounds) 0 0) (sym past) (ends tt)
 
   module _ (w : Wanted) where
     slots-within : {ns bs : ℕ} {rest : Walk (Outcome ℕ)} → Small (d .bounds) ns bs rest → (o : Sought) → Small (d .bounds) ns bs (afterSlots rest o)
@@ -36,35 +43,30 @@ module _ (d : Directory) where
     after-within h hole = h
     after-within h (held block) = slots-within h (inBlock block w)
 
-    bucket-within : {ns bs : ℕ} {rest : Walk (Outcome ℕ)} (level n k : ℕ) → Small (d .bounds) ns bs rest
-        → Small (d .bounds) (ns + 3 * n) (bs + 4 * n) (bucketWalk d w level rest n k)
-    unfolding bucketWalk
-    bucket-within level zero k h = within-le _ _ (omega arith) (omega arith) h
-    bucket-within level (suc n) k h =
-        within-le _ _ (omega arith) (omega arith)
-        (within-then _ (fetch-within (bucketOf (d .level) level (w .hash) + k)) (λ x _. after-within (bucket-within level n (k + 1) h) x))
+    module _ (level : ℕ) where
+      abbrev bucket : ℕ
+      bucket = bucketOf (d .level) level (w .hash)
 
-    module _ (few : d .addresses ≤ 923) where
-      bucket-none : {ns bs : ℕ} {rest : Walk (Outcome ℕ)} (level n k : ℕ) → 29 ≤ level → Small (d .bounds) ns bs rest
-          → Small (d .bounds) ns bs (bucketWalk d w level rest n k)
-      unfolding bucketWalk
-      bucket-none level zero k late h = h
-      bucket-none level (suc n) k late h =
-          let far = bucket-past (d .level) level (w .hash) few late in
+      bucket-within : {ns bs : ℕ} {rest : Walk (Outcome ℕ)} (n k : ℕ) → Small (d .bounds) ns bs rest → let reached = upTo last n (bucket + k) in
+          Small (d .bounds) (ns + 3 * reached) (bs + 4 * reached) (bucketWalk d w level rest n k)
+      unfolding bucketWalk upTo
+      bucket-within zero k h = within-le _ _ (omega arith) (omega arith) h
+      bucket-within (suc n) k h =
+          let e : bucket + k + 1 ≡ bucket + (k + 1) = omega arith in
+          let behind = ap (upTo last n) e in
           within-le _ _ (omega arith) (omega arith)
-          (within-then _ (fetch-none (bucketOf (d .level) level (w .hash) + k) (omega arith)) (λ x _. after-within (bucket-none level n (k + 1) late h) x))
+          (within-then _ (fetch-within (bucket + k)) (λ x _. after-within (bucket-within n (k + 1) h) x))
 
-      levels-within : (n level : ℕ) → Small (d .bounds) (3 * left level) (4 * left level) (levelsWalk d w n level)
-      unfolding levelsWalk
-      levels-within zero level = ends refl
-      levels-within (suc n) level =
-          ⊎-elim
-          (λ early.
-          let two = blocks-low level (omega arith) in
-          within-le _ _ (omega arith) (omega arith) (bucket-within level (blocksOf level) 0 (levels-within n (level + 1))))
-          (λ late. bucket-none level (blocksOf level) 0 late (within-le _ _ (omega arith) (omega arith) (levels-within n (level + 1))))
-          (early-or-late level)
+    levels-within : (n level : ℕ) → let reached = inReach last (d .level) (w .hash) n level in
+        Small (d .bounds) (3 * reached) (4 * reached) (levelsWalk d w n level)
+    unfolding levelsWalk inReach
+    levels-within zero level = ends refl
+    levels-within (suc n) level =
+        let here = ap (upTo last (blocksOf level)) (add-zero (bucket level)) in
+        within-le _ _ (omega arith) (omega arith) (bucket-within level (blocksOf level) 0 (levels-within n (level + 1)))
 
-      pub find-within : (depth : ℕ) → Small (d .bounds) 174 232 (findWalk d w depth)
-      unfolding findWalk
-      find-within depth = levels-within depth 0
+    pub find-within : d .addresses ≤ 923 → (depth : ℕ) → Small (d .bounds) 174 232 (findWalk d w depth)
+    unfolding findWalk
+    find-within few depth =
+        let most = at-most-58 (d .level) (w .hash) depth few in
+        within-le _ _ (omega arith) (omega arith) (levels-within depth 0)
