@@ -1,7 +1,7 @@
 -- The hash levels of a directory: their sizes, where they start, and that those from 29 on lie past the last index.
 use Prim.Native.Nat.{ℕ, zero, suc, _+_, _-_, _*_, _%_, _^_, _≤_, _<_}
 use native.Mathlib.Omega.{arith}
-use native.Mathlib.Nat.{mul-le-mul, mod-lt, zero-add, add-zero, le-refl, pow-suc}
+use native.Mathlib.Nat.{mul-le-mul, mod-lt, zero-add, le-refl, pow-suc}
 use native.Mathlib.Numerals.{add-one}
 use mathlib.Core.Path.{_≡_, refl, sym, ap, _∙_}
 use mathlib.Core.Bool.{Bool, true, false}
@@ -98,13 +98,7 @@ bucket-small dir level hash h =
     let g = bucket-start dir level hash in
     omega arith
 
--- ---- a directory level of 0
-
--- it has document 01's rule: "level n below 31 has 2^n buckets of 2 blocks, others 2^30 of 4"
-pub level-0 : (level : ℕ) → (bucketsOf (level + 0) ≡ choose (ltb level 31) (2 ^ level) (2 ^ 30)) × (blocksOf level ≡ choose (ltb level 31) 2 4)
-level-0 level = (ap bucketsOf (add-zero level), refl)
-
--- a higher one never has fewer buckets, so its levels start no earlier
+-- ---- a higher directory level never has fewer buckets, so its levels start no earlier
 buckets-grow : {sum more : ℕ} → sum ≤ more → bucketsOf sum ≤ bucketsOf more
 buckets-grow {sum} {more} h = ⊎-elim (λ e. low (ltb-true more 31 e)) (λ e. high (ltb-false more 31 e)) (either (ltb more 31))
   where

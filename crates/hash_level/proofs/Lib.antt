@@ -1,3 +1,4 @@
 pub mod Tables
 pub mod Levels
 pub mod Reach
+pub mod Plain
