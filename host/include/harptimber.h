@@ -42,9 +42,9 @@ extern "C" {
 
 /* The version of this header, and of the library that is installed with it. */
 #define HARPTIMBER_VERSION_MAJOR 0
-#define HARPTIMBER_VERSION_MINOR 5
+#define HARPTIMBER_VERSION_MINOR 6
 #define HARPTIMBER_VERSION_PATCH 0
-#define HARPTIMBER_VERSION "0.5.0"
+#define HARPTIMBER_VERSION "0.6.0"
 
 enum {
     /* Of what is asked: a card's blocks, and a name's bytes. */
@@ -94,6 +94,14 @@ enum harptimber_answer {
     HARPTIMBER_NO_NODE = 9,
     HARPTIMBER_NODE_OUTSIDE = 10,
     HARPTIMBER_FOREIGN_NODE = 11,
+    /*
+     * The root directory's inode or the file's isn't read. Behind it is at least one of these:
+     *   - the root isn't a directory, or what the name leads to isn't a regular file;
+     *   - the inode's inline flags have 2, 4 or 20 hex: inline data, inline entries or extra attributes;
+     *   - the root directory's depth is over 63;
+     *   - its directory level (i_dir_level) is over 30. Up to 30, names are sought where that level puts them. A file's
+     *     own level isn't asked for.
+     */
     HARPTIMBER_KIND_NOT_READ = 12,
     HARPTIMBER_DATA_OUTSIDE = 13,
     HARPTIMBER_MALFORMED_SLOT = 14,
@@ -242,6 +250,9 @@ struct harptimber_compared {
  *
  * Lists that a version before 0.3.0 left may be of another checkpoint than the one that is read now,
  * where versions have wrapped. `harptimber info` tells of which images: pull from those again.
+ *
+ * Before 0.6.0 a root directory with any directory level was answered with 12. By the lists of such a pull
+ * HARPTIMBER_SAME says nothing of what a pull answers now: where 12 was kept, pull again.
  *
  * 4 is answered, first, for an image's length; and, once both images are opened, where the node list is
  * empty, a list isn't strictly rising, a count exceeds its slice, or a listed block lies outside the

@@ -46,8 +46,8 @@ enum {
     DISK_KINDS_NOT_READ = DISK_INLINE_DATA | DISK_INLINE_DENTRY | DISK_EXTRA_ATTR
 };
 
-/* The kinds that are read, by a mode's top four bits, and the most depth of a directory that is. */
-enum { DISK_DIRECTORY = 4, DISK_REGULAR = 8, DISK_MOST_DEPTH = 63 };
+/* The kinds that are read, by a mode's top four bits, and the most depth and level of a directory that is. */
+enum { DISK_DIRECTORY = 4, DISK_REGULAR = 8, DISK_MOST_DEPTH = 63, DISK_MOST_DIR_LEVEL = 30 };
 
 /* Where an inode has its addresses and its five node numbers. */
 enum { DISK_ADDRESSES = 360, DISK_NODES = 4052 };

@@ -116,7 +116,7 @@ static void show_root_kind(FILE *out, const struct disk_inode *inode)
     else if (inode->depth > DISK_MOST_DEPTH)
         fprintf(out, "its depth is %" PRIu32 ", over %d", inode->depth, DISK_MOST_DEPTH);
     else
-        fprintf(out, "its directory level is %u, not 0", (unsigned)inode->dir_level);
+        fprintf(out, "its directory level is %u, over %d", (unsigned)inode->dir_level, DISK_MOST_DIR_LEVEL);
 }
 
 static void show_kind(FILE *out, const struct stop *stop, const struct card *card)

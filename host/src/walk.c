@@ -7,8 +7,8 @@
 /* What the library never answers. */
 static const uint32_t NO_ANSWER = UINT32_MAX;
 
-/* The levels from 29 on lie past a file's last block. */
-enum { LEVELS = 29 };
+/* A bucket has 4 blocks from hash level 31 on, but no directory has a block as far as that. */
+enum { BUCKET_BLOCKS = 2 };
 
 enum { SLOT_BYTES = 8, ENTRY_BYTES = 11, MOST_NAME_BYTES = 255 };
 
@@ -176,19 +176,34 @@ static bool seek_in_block(struct walk *walk, const struct sought *sought, const 
     return false;
 }
 
-/* Seeks a name by the hash levels of the root directory; false where the walk stops. */
+/* Seeks a name in the bucket with this first block. Returns whether the search is over. Past the last index there is no block. */
+static bool seek_in_bucket(struct walk *walk, const struct sought *sought, const uint8_t *root, uint64_t first, uint32_t *inode)
+{
+    for (uint64_t index = first; index < first + BUCKET_BLOCKS && index <= last_index_of(root); index++) {
+        const uint8_t *block = file_block(walk, DISK_ROOT, root, (uint32_t)index);
+        bool over = block != NULL && seek_in_block(walk, sought, block, (uint32_t)index, inode);
+        if (over || walk->stop.answer != HARPTIMBER_DATA)
+            return true;
+    }
+    return false;
+}
+
+/*
+ * Seeks a name by the hash levels of the root directory; false where the walk stops. The first has 2^(directory level) buckets, and
+ * each later one twice as many as the one before, up to 2^30. None in reach needs that limit: unless it is the first, at least as
+ * many blocks lie before it as it has buckets, and a directory's last block is below 2^30. How many are in reach depends on
+ * the directory level, so that each one's first block is asked.
+ */
 static bool seek(struct walk *walk, const struct sought *sought, const uint8_t *root, uint32_t *inode)
 {
-    uint32_t depth = disk_inode_of(root).depth;
-    for (uint32_t level = 0; level < depth && level < LEVELS && disk_inode_of(root).size != 0; level++) {
-        uint32_t buckets = 1U << level;
-        uint32_t first = 2 * (buckets - 1 + sought->hash % buckets);
-        for (uint32_t index = first; index < first + 2; index++) {
-            const uint8_t *block = file_block(walk, DISK_ROOT, root, index);
-            bool over = block != NULL && seek_in_block(walk, sought, block, index, inode);
-            if (over || walk->stop.answer != HARPTIMBER_DATA)
-                return walk->stop.answer == HARPTIMBER_DATA;
-        }
+    struct disk_inode directory = disk_inode_of(root);
+    uint32_t levels = directory.size == 0 ? 0 : directory.depth;
+    uint64_t first = 0, buckets = (uint64_t)1 << directory.dir_level;
+    for (uint32_t n = 0; n < levels && first <= last_index_of(root); n++) {
+        if (seek_in_bucket(walk, sought, root, first + BUCKET_BLOCKS * (sought->hash % buckets), inode))
+            return walk->stop.answer == HARPTIMBER_DATA;
+        first += BUCKET_BLOCKS * buckets;
+        buckets *= 2;
     }
     walk->stop.answer = HARPTIMBER_NO_NAME;
     return false;
@@ -204,7 +219,7 @@ static const uint8_t *read_inode(struct walk *walk, uint32_t number)
     bool is_root = walk->stop.in_root;
     bool kind = inode.mode >> 12 == (is_root ? DISK_DIRECTORY : DISK_REGULAR) &&
                 (inode.inline_flags & DISK_KINDS_NOT_READ) == 0;
-    if (kind && !(is_root && (inode.depth > DISK_MOST_DEPTH || inode.dir_level != 0)))
+    if (kind && !(is_root && (inode.depth > DISK_MOST_DEPTH || inode.dir_level > DISK_MOST_DIR_LEVEL)))
         return block;
     walk->stop.answer = HARPTIMBER_KIND_NOT_READ;
     return NULL;

@@ -20,6 +20,7 @@ use crate::cards::layout::{footer, BLOCK_SIZE, SEGMENT_BLOCKS};
 use crate::cards::on_disk::{OnDisk, Shared};
 use crate::cards::one_file::small_knobs;
 use crate::cards::random::shuffle;
+use crate::program::levels::{bucket_block, link, set_level, Bucket};
 use crate::trial::Random;
 
 pub const ROAD: &[u8] = b"road.bin";
@@ -94,10 +95,15 @@ pub struct ProgramCard {
 
 impl ProgramCard {
     pub fn build() -> ProgramCard {
+        ProgramCard::leveled(0)
+    }
+
+    /// The same with a directory level, at which each of the names has a block.
+    pub fn leveled(level: u8) -> ProgramCard {
         let mut random = Random::new(11);
         let knobs = with_sit(small_knobs(&mut random));
         let segments = 0..knobs.main_segments;
-        ProgramCard::on(Card::new(knobs, random), segments)
+        ProgramCard::on(Card::new(knobs, random), segments, level)
     }
 
     /// The same on a card of the most blocks: all that its files have is in its last two segments, with the root's inode in
@@ -115,12 +121,13 @@ impl ProgramCard {
         // The last of the list is used first.
         blocks.push(end - 1);
         let segments = knobs.main_segments - 2..knobs.main_segments;
-        ProgramCard::on(Card::within(knobs, random, blocks), segments)
+        ProgramCard::on(Card::within(knobs, random, blocks), segments, 0)
     }
 
     /// These segments have valid blocks.
-    fn on(mut card: Card, segments: Range<u32>) -> ProgramCard {
+    fn on(mut card: Card, segments: Range<u32>, level: u8) -> ProgramCard {
         card.add_root(0, 2);
+        set_level(&mut card, level, 2);
         let files = readable(&mut card);
         let (outside, refused) = unreadable(&mut card);
         let unused = [0, 77].map(|ino| {
@@ -192,7 +199,7 @@ pub fn put(card: &mut Card, name: &[u8], size: u64, data: &[u32]) -> Put {
         .iter()
         .map(|&index| (index, card.add_block(ino, index)));
     let blocks = blocks.collect();
-    card.link(0, 0, &Dentry::new(name, ino));
+    link(card, 0, 0, &Dentry::new(name, ino));
     Put {
         name: name.to_vec(),
         ino,
@@ -233,7 +240,7 @@ fn readable(card: &mut Card) -> Vec<Put> {
     ];
     files.push(put_repeating(card));
     for name in NAMES {
-        card.link(0, 0, &Dentry::new(name, road.ino));
+        link(card, 0, 0, &Dentry::new(name, road.ino));
         files.push(Put {
             name: name.to_vec(),
             ..road.clone()
@@ -260,11 +267,11 @@ fn unreadable(card: &mut Card) -> (Put, Vec<Refused>) {
     let foreign = of_a_node(card, "foreign node");
     card.image.set(foreign.block, footer::NID, 77);
     let ino = card.add_file(INLINE_DATA, 100);
-    card.link(0, 0, &Dentry::new(b"inline", ino));
+    link(card, 0, 0, &Dentry::new(b"inline", ino));
     let folder = put(card, b"folder", 100, &[0]);
     let inode = card.inode_block(folder.ino);
     card.image.set(inode, I_MODE, S_IFDIR | 0o755);
-    card.link(0, 0, &Dentry::new(b"no inode", 0));
+    link(card, 0, 0, &Dentry::new(b"no inode", 0));
     let [missing, malformed] = malformed_level(card);
     let refused = [
         (missing.as_str(), 0, 2),
@@ -281,8 +288,8 @@ fn unreadable(card: &mut Card) -> (Put, Vec<Refused>) {
     (outside, refused.to_vec())
 }
 
-/// Puts a malformed slot into the second level's second bucket. Returns a name that is sought in the
-/// first, and one that is sought in the second.
+/// Puts a malformed slot into a bucket of the second hash level, the second one if there is no directory level. Returns a
+/// name that is sought in another, and one that is sought in this.
 fn malformed_level(card: &mut Card) -> [String; 2] {
     let names = [0, 1].map(|bucket| {
         let mut names = (0..).map(|n| format!("missing {n}"));
@@ -291,7 +298,7 @@ fn malformed_level(card: &mut Card) -> [String; 2] {
             .unwrap()
     });
     let too_long = Dentry::new(b"123456789", 5).under_hash_of(names[1].as_bytes());
-    let block = card.bucket_block(1, 1, 0);
+    let block = bucket_block(card, Bucket::of(names[1].as_bytes(), 1, 0));
     card.image.put_dentry(block, 213, &too_long);
     names
 }

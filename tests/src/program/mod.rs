@@ -5,6 +5,7 @@ pub mod compare_words;
 pub mod compares;
 pub mod held;
 pub mod json;
+pub mod levels;
 pub mod measured;
 pub mod page;
 pub mod segments;

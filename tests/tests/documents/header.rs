@@ -7,8 +7,10 @@ use std::process::{Command, Stdio};
 use harptimber_tests::calls::lent::Lens;
 use harptimber_tests::cards::layout::checkpoint::CP_LARGE_NAT_BITMAP_FLAG;
 use harptimber_tests::cards::layout::dentry::LONGEST_NAME;
+use harptimber_tests::cards::layout::inode::{EXTRA_ATTR, INLINE_DATA, INLINE_DENTRY};
 use harptimber_tests::cards::layout::nat::MAP_BYTES_PER_SEGMENT;
 use harptimber_tests::cards::layout::{journal, sit_journal, BLOCK_SIZE, SEGMENT_BLOCKS};
+use harptimber_tests::program::levels::MOST_LEVEL;
 use harptimber_tests::program::page::meaning;
 use harptimber_tests::program::{host, ran};
 use harptimber_tests::sizes::{BLOCKS_MOST, CARD_BLOCKS_MOST, NODES_MOST, SEGMENTS_MOST};
@@ -109,14 +111,19 @@ fn words() {
     }
 }
 
+/// The words of the comment above a number.
+fn comment_on(number: &str) -> String {
+    let header = std::fs::read_to_string(host().join("include/harptimber.h")).unwrap();
+    let before = header.split(&format!("    HARPTIMBER_{number},")).next();
+    let comment = before.unwrap_or_default().rsplit("/*").next();
+    let words = comment.unwrap_or_default().replace('*', " ");
+    words.split_whitespace().collect::<Vec<_>>().join(" ")
+}
+
 /// All that can be behind answer 8 stands above its number.
 #[test]
 fn unreadable() {
-    let header = std::fs::read_to_string(host().join("include/harptimber.h")).unwrap();
-    let before = header.split("    HARPTIMBER_UNREADABLE = 8,").next();
-    let comment = before.unwrap_or_default().rsplit("/*").next();
-    let words = comment.unwrap_or_default().replace('*', " ");
-    let words = words.split_whitespace().collect::<Vec<_>>().join(" ");
+    let words = comment_on("UNREADABLE = 8");
     for part in [
         "error (8 hex)".to_string(),
         "needs check (10 hex, fsck to the tools)".to_string(),
@@ -126,6 +133,22 @@ fn unreadable() {
         format!("more than {} entries", journal::MOST_ENTRIES),
         "two for one number".to_string(),
         format!("SIT journal counts more than {}", sit_journal::MOST_ENTRIES),
+    ] {
+        assert!(words.contains(&part), "no '{part}' in '{words}'");
+    }
+}
+
+/// The same of answer 12.
+#[test]
+fn kinds_not_read() {
+    let words = comment_on("KIND_NOT_READ = 12");
+    for part in [
+        "the root isn't a directory".to_string(),
+        "isn't a regular file".to_string(),
+        format!("inline flags have {INLINE_DATA}, {INLINE_DENTRY} or {EXTRA_ATTR:x} hex"),
+        "depth is over 63".to_string(),
+        format!("directory level (i_dir_level) is over {MOST_LEVEL}"),
+        "A file's own level isn't asked for".to_string(),
     ] {
         assert!(words.contains(&part), "no '{part}' in '{words}'");
     }

@@ -12,6 +12,7 @@ use harptimber_tests::cards::image::Image;
 use harptimber_tests::cards::knobs::{Knobs, Pack};
 use harptimber_tests::cards::layout::BLOCK_SIZE;
 use harptimber_tests::program::card::{ProgramCard, ROAD};
+use harptimber_tests::program::levels::MOST_LEVEL;
 use harptimber_tests::program::page::with_commas;
 use harptimber_tests::running::ran;
 use harptimber_tests::sizes::CARD_BLOCKS_MOST;
@@ -87,9 +88,9 @@ fn paths() {
     assert!(found > 100, "{found} paths");
 }
 
-/// How large a card may be, wherever people look for it.
+/// How large a card may be, and what level its root directory may have, wherever people look for it.
 #[test]
-fn limit() {
+fn limits() {
     let gib = (u64::from(CARD_BLOCKS_MOST) * BLOCK_SIZE as u64) >> 30;
     let blocks = with_commas(CARD_BLOCKS_MOST as usize);
     for (page, words) in [
@@ -103,6 +104,14 @@ fn limit() {
         ),
         ("host/harptimber.1", format!("volumes of up to {gib} GiB")),
         ("host/harptimber.1", format!("but for at most {gib} GiB")),
+        (
+            "host/harptimber.1",
+            format!("directory level of up to {MOST_LEVEL}"),
+        ),
+        (
+            "host/harptimber.1",
+            format!("its directory level (i_dir_level) is over {MOST_LEVEL}"),
+        ),
     ] {
         // Lines may break anywhere.
         let text = read(page).replace("\n * ", " ").replace('\n', " ");

@@ -32,7 +32,7 @@ const INLINE: &str = "its bytes are inline; small and empty files usually are in
 
 /// What is to be said of a name.
 #[derive(Debug)]
-struct Expected {
+pub(crate) struct Expected {
     name: Vec<u8>,
     /// None if the inode can't be read.
     size: Option<u64>,
@@ -41,7 +41,7 @@ struct Expected {
 }
 
 impl Expected {
-    fn new(name: &[u8], size: u64, answer: u32, reason: &str) -> Expected {
+    pub(crate) fn new(name: &[u8], size: u64, answer: u32, reason: &str) -> Expected {
         Expected {
             name: name.to_vec(),
             size: Some(size),
@@ -91,7 +91,7 @@ fn in_words(name: &[u8]) -> String {
 }
 
 /// A listing of these names and of nothing else, in words and as JSON. With problems it is incomplete.
-fn expect_listing(path: &Path, mut expected: Vec<Expected>, problems: &[String]) {
+pub(crate) fn expect_listing(path: &Path, mut expected: Vec<Expected>, problems: &[String]) {
     let path = path.to_path_buf();
     expected.sort_by(|one, other| one.name.cmp(&other.name));
     let status = if problems.is_empty() { 0 } else { 2 };
@@ -142,7 +142,7 @@ fn listed(ran: &Ran, path: &Path) -> Json {
 }
 
 /// What a regular file of the published tools is to be listed as.
-fn published_file(name: &[u8], size: usize) -> Expected {
+pub(crate) fn published_file(name: &[u8], size: usize) -> Expected {
     match size <= LONGEST_INLINE {
         true => Expected::new(name, size as u64, 12, INLINE),
         false => Expected::new(name, size as u64, 0, ""),
@@ -463,7 +463,7 @@ fn roots() {
     let scene = small();
     let root = scene.root_block();
     let not_read = |why: &str| format!("the root directory isn't read: {why}");
-    let cases: [Root; 5] = [
+    let cases: [Root; 7] = [
         (&[(I_MODE, S_IFREG)], Some(not_read("it is a regular file")), vec![]),
         (
             &[(I_INLINE, EXTRA_ATTR)],
@@ -482,6 +482,13 @@ fn roots() {
             None,
             vec![road(12, &not_read("its depth is 64, over 63"))],
         ),
+        (
+            &[(I_DIR_LEVEL, 31)],
+            None,
+            vec![road(12, &not_read("its directory level is 31, over 30"))],
+        ),
+        // The name is in the first hash level's first bucket, and not where its hash leads to.
+        (&[(I_DIR_LEVEL, 30)], None, vec![road(2, "")]),
         (&[(I_SIZE, 0)], None, vec![road(2, "")]),
     ];
     for (fields, problem, expected) in cases {

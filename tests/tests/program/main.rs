@@ -11,6 +11,7 @@ mod info;
 mod install;
 mod json;
 mod large;
+mod levels;
 mod ls;
 mod numbers;
 mod output;

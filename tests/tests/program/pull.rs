@@ -16,7 +16,7 @@ use harptimber_tests::tools::published::{filled_on, File, LONGEST_INLINE};
 use harptimber_tests::trial::Random;
 
 /// Pulls a block for its object, which has to be the reference's. Returns the answer.
-fn expect_json(disk: &OnDisk, image: &Image, name: &[u8], index: u32) -> u32 {
+pub(crate) fn expect_json(disk: &OnDisk, image: &Image, name: &[u8], index: u32) -> u32 {
     let path = disk.path();
     let output = disk.scratch.path("block");
     let outcome = pulled(image, name, index);

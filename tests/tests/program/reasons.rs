@@ -288,7 +288,7 @@ fn kinds_of_files() {
 fn kinds_of_roots() {
     let mut stage = Stage::new();
     let root = stage.scene.root_block();
-    let cases: [(&[(Field, u64)], &str); 7] = [
+    let cases: [(&[(Field, u64)], &str); 10] = [
         (&[(I_MODE, S_IFREG | 0o644)], "it is a regular file"),
         (&[(I_INLINE, INLINE_DENTRY)], "its entries are inline"),
         (&[(I_INLINE, INLINE_DATA)], "it is marked as an inline file"),
@@ -298,7 +298,17 @@ fn kinds_of_roots() {
             &[(I_CURRENT_DEPTH, u32::MAX as u64)],
             "its depth is 4294967295, over 63",
         ),
-        (&[(I_DIR_LEVEL, 2)], "its directory level is 2, not 0"),
+        (&[(I_DIR_LEVEL, 31)], "its directory level is 31, over 30"),
+        (&[(I_DIR_LEVEL, 255)], "its directory level is 255, over 30"),
+        // Without it, a size or a depth of 0 is answered with 2.
+        (
+            &[(I_DIR_LEVEL, 32), (I_SIZE, 0)],
+            "its directory level is 32, over 30",
+        ),
+        (
+            &[(I_DIR_LEVEL, 64), (I_CURRENT_DEPTH, 0)],
+            "its directory level is 64, over 30",
+        ),
     ];
     for (fields, why) in cases {
         let reason = format!("the root directory isn't read: {why}");
@@ -408,7 +418,7 @@ fn no_reason() {
 }
 
 /// Writes these bytes of a card's image to its file.
-fn write_places(path: &Path, card: &Card, places: &[(usize, usize)]) {
+pub(crate) fn write_places(path: &Path, card: &Card, places: &[(usize, usize)]) {
     let file = File::options().write(true).open(path).expect("the image");
     for &(at, len) in places {
         let bytes = &card.image.bytes()[at..at + len];
@@ -417,7 +427,7 @@ fn write_places(path: &Path, card: &Card, places: &[(usize, usize)]) {
 }
 
 /// Whatever the damage is, the program's walk stops where the library's does, so that there is a reason. Returns the answer.
-fn expect_reason(
+pub(crate) fn expect_reason(
     card: &Card,
     path: &PathBuf,
     (name, index): (&[u8], u32),
