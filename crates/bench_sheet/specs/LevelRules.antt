@@ -33,7 +33,7 @@ levelRules =
     ∷ ((firstOf 2 29 ∷ firstOf 2 30 ∷ firstOf 15 16 ∷ firstOf 15 17 ∷ []) is (4294967288 ∷ 6442450936 ∷ 4294901760 ∷ 6442385408 ∷ []))
     ∷ ((firstOf 23 8 ∷ firstOf 23 9 ∷ firstOf 29 2 ∷ firstOf 29 3 ∷ []) is (4278190080 ∷ 6425673728 ∷ 3221225472 ∷ 5368709120 ∷ []))
     ∷ (List.map (firstOf 30) (0 ∷ 1 ∷ 2 ∷ 3 ∷ 31 ∷ 32 ∷ 62 ∷ []) is (0 ∷ 2147483648 ∷ 4294967296 ∷ 6442450944 ∷ 66571993088 ∷ 70866960384 ∷ 199715979264 ∷ []))
-    -- "The bounds 179 and 238 hold as they are": 58 blocks are in reach, and fewer with a level
+    -- "The bounds 179 and 238 hold as they are": for a hash of 0, 58 blocks are in reach, and fewer with a level
     ∷ (List.map (λ dir. reach dir 0) (0 ∷ 1 ∷ 22 ∷ 23 ∷ 28 ∷ 29 ∷ 30 ∷ []) is (58 ∷ 56 ∷ 14 ∷ 14 ∷ 4 ∷ 2 ∷ 2 ∷ []))
     -- buckets at the last index, which is even: two blocks, one, none
     ∷ (List.map (reach 29) (528526718 ∷ 528526719 ∷ 528526720 ∷ []) is (2 ∷ 1 ∷ 0 ∷ []))

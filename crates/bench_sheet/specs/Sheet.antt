@@ -9,7 +9,7 @@ use Rattle.field.specs.Number.{le16, le32, le64}
 use Rattle.field.specs.Map.{topBit, lowBit}
 use Rattle.field.specs.Bytes.{sameAt}
 use Rattle.place.specs.Place.{placeOf}
-use Rattle.place.specs.Way.{step, wayOf}
+use Rattle.place.specs.Way.{wayOf}
 use Rattle.place.specs.declared.Step.{Step}
 use Rattle.superblock.specs.Superblock.{superblockOf, logsPass, unitsPass, countsPass, areasPass, endsPass, fieldsPass, passes}
 use Rattle.superblock.specs.Areas.{found}

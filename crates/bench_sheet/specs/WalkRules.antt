@@ -3,7 +3,7 @@
 use mathlib.Core.Path.{refl}
 use mathlib.Core.List.{List, [], _∷_, _++_}
 use mathlib.Core.List as List
-use Prim.Native.Nat.{ℕ, _-_, _*_, _/_, _%_}
+use Prim.Native.Nat.{ℕ, zero, suc, _+_, _-_, _*_, _/_, _%_}
 use lib.ListN.{length, replicate}
 use lib.Dec.{eqb}
 use Rattle.field.specs.Number.{le16, le32, le64}
@@ -24,7 +24,9 @@ use Rattle.inode.specs.Inode.{inodeOf, notInline, isDirectory, isRegular, addre
 use Rattle.node.specs.Node.{Bounds, inMain, belongs, atBlock, atEntry, nodeWalk}
 use Rattle.node.specs.Block.{isHole, dataWalk, followWalk, wayWalk, blockWalk}
 use Rattle.directory.specs.Slot.{wanted, wellFormed, matches, slotAt, slotsFrom}
-use Rattle.directory.specs.Find.{afterSlots, levelsWalk, findWalk}
+use Rattle.directory.specs.Find.{Directory, afterSlots, afterBlock, bucketWalk, levelsWalk, findWalk}
+use Rattle.hash_level.specs.Level.{firstOf, bucketOf}
+use Rattle.name_hash.specs.Hash.{hashOf}
 use Rattle.pull.specs.Walk.{Block, atFile, fileWalk, atRoot, rootWalk}
 use Rattle.pull.specs.Pull.{lending, lentInShape, contentAnswer}
 use Rattle.bench_sheet.specs.Line.{Line, _is_, Holds, yes}
@@ -287,6 +289,26 @@ abbrev root : ℕ → ℕ → ℕ → ℕ → ℕ → List ℕ
 root mode size depth level flag =
     lists (λ ino. 0) (λ n. Entry n 4096) (λ b. footed (inodeBlock mode 0 size depth level) 3 3 flag) (rootWalk main (97 ∷ []))
 
+-- a root with a level, whose block i is at 5000 + i, and empty
+abbrev counting : ℕ → ℕ → List ℕ
+counting zero i = []
+counting (suc n) i = i ∷ counting n (i + 1)
+
+abbrev bigRoot : ℕ → ℕ → List ℕ
+bigRoot level depth =
+    let front = inodeBlock 0x4000 0 1 depth level in
+    footed (front ++ replicate (360 - length front) 0 ++ bytesOf (counting 64 5000)) 3 3 0
+
+-- what a pull reads of it for ".", whose hash is 0
+abbrev searched : ℕ → ℕ → List ℕ
+searched level depth = lists (λ ino. 0) (λ n. Entry n 4096) (λ b. choose (eqb b 4096) (bigRoot level depth) []) (rootWalk main (46 ∷ []))
+
+-- and what the search reads for a hash
+abbrev searchedFor : ℕ → ℕ → ℕ → List ℕ
+searchedFor hash level depth =
+    let d : Directory = record { bounds = main; ino = 3; inode = bigRoot level depth; addresses = 923; dirLevel = level } in
+    lists (λ ino. 0) (λ n. Entry n 4096) (λ b. []) (findWalk d (wanted hash (46 ∷ [])) depth)
+
 -- block `index` of a file of 4,097 bytes whose inode number is asked for
 abbrev file : (ℕ → TableAnswer) → ℕ → ℕ → ℕ → List ℕ
 file table mode ino index =
@@ -314,6 +336,13 @@ pullRules =
     ∷ (root 0x4000 0 1 30 0 is (2 ∷ 3 ∷ 4096 ∷ []))
     ∷ (root 0x4000 0 1 31 0 is (12 ∷ 3 ∷ 4096 ∷ []))
     ∷ (root 0x4000 0 1 0 8 is (11 ∷ 3 ∷ 4096 ∷ []))
+    -- "Search levels 0 to depth − 1, in each the bucket hash mod buckets, its blocks in order"
+    ∷ (searched 0 3 is (2 ∷ 3 ∷ 4096 ∷ 5000 ∷ 5001 ∷ 5002 ∷ 5003 ∷ 5006 ∷ 5007 ∷ []))
+    ∷ (searched 1 3 is (2 ∷ 3 ∷ 4096 ∷ 5000 ∷ 5001 ∷ 5004 ∷ 5005 ∷ 5012 ∷ 5013 ∷ []))
+    ∷ (searched 30 1 is (2 ∷ 3 ∷ 4096 ∷ 5000 ∷ 5001 ∷ []))
+    ∷ (searchedFor 7 0 3 is (2 ∷ 5000 ∷ 5001 ∷ 5004 ∷ 5005 ∷ 5012 ∷ 5013 ∷ []))
+    ∷ (searchedFor 7 1 3 is (2 ∷ 5002 ∷ 5003 ∷ 5010 ∷ 5011 ∷ 5026 ∷ 5027 ∷ []))
+    ∷ (searchedFor 7 4 1 is (2 ∷ 5014 ∷ 5015 ∷ []))
     -- "inode number 0 in a directory entry is looked up, so listed, and is 9"
     ∷ (file (λ n. choose (eqb n 0) OutOfRange (Entry n 4096)) 0x8000 0 0 is (9 ∷ 0 ∷ []))
     ∷ []
@@ -338,5 +367,5 @@ directory-rules = refl
 pub pull-rules : Holds pullRules
 unfolding le16 le32 le64 bytesOf placeOf insert run bind onward andThen inMain belongs atBlock atEntry nodeWalk isHole dataWalk followWalk
     wayWalk blockWalk inodeOf notInline isDirectory isRegular addressesIn isPast countIn atFile fileWalk levelsWalk findWalk atRoot
-    rootWalk lentInShape
+    rootWalk lentInShape firstOf bucketOf bucketWalk afterBlock lowBit slotAt slotsFrom hashOf sameAt
 pull-rules = refl

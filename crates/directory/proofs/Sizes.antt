@@ -45,7 +45,7 @@ module _ (d : Directory) where
 
     module _ (level : ℕ) where
       abbrev bucket : ℕ
-      bucket = bucketOf (d .level) level (w .hash)
+      bucket = bucketOf (d .dirLevel) level (w .hash)
 
       bucket-within : {ns bs : ℕ} {rest : Walk (Outcome ℕ)} (n k : ℕ) → Small (d .bounds) ns bs rest → let reached = upTo last n (bucket + k) in
           Small (d .bounds) (ns + 3 * reached) (bs + 4 * reached) (bucketWalk d w level rest n k)
@@ -57,7 +57,7 @@ module _ (d : Directory) where
           within-le _ _ (omega arith) (omega arith)
           (within-then _ (fetch-within (bucket + k)) (λ x _. after-within (bucket-within n (k + 1) h) x))
 
-    levels-within : (n level : ℕ) → let reached = inReach last (d .level) (w .hash) n level in
+    levels-within : (n level : ℕ) → let reached = inReach last (d .dirLevel) (w .hash) n level in
         Small (d .bounds) (3 * reached) (4 * reached) (levelsWalk d w n level)
     unfolding levelsWalk inReach
     levels-within zero level = ends refl
@@ -68,5 +68,5 @@ module _ (d : Directory) where
     pub find-within : d .addresses ≤ 923 → (depth : ℕ) → Small (d .bounds) 174 232 (findWalk d w depth)
     unfolding findWalk
     find-within few depth =
-        let most = at-most-58 (d .level) (w .hash) depth few in
+        let most = at-most-58 (d .dirLevel) (w .hash) depth few in
         within-le _ _ (omega arith) (omega arith) (levels-within depth 0)

@@ -42,7 +42,7 @@ module _ (d : Directory) (w : Wanted) (depth level : ℕ) where
       rw p
 
   bucket-step : (k : ℕ) → k < blocksOf level
-      → bucketLeft d w depth level k ≡ andThen (fetchWalk d (bucketOf (d .level) level (w .hash) + k)) (afterBlock w (bucketLeft d w depth level (k + 1)))
+      → bucketLeft d w depth level k ≡ andThen (fetchWalk d (bucketOf (d .dirLevel) level (w .hash) + k)) (afterBlock w (bucketLeft d w depth level (k + 1)))
   unfolding bucketWalk
   bucket-step k h =
       let p : blocksOf level - k ≡ suc (blocksOf level - (k + 1)) = omega arith in
@@ -87,7 +87,7 @@ module _ {v : View} {d : Directory} {w : Wanted} {depth level : ℕ} {s t : List
 
     module _ {k : ℕ} {u : Lists} (turn : Bucket v d w depth level t k u) where
       -- the bucket's next block fits, as the search does
-      pub block-fits : k < blocksOf level → {i : ℕ} → i ≡ bucketOf (d .level) level (w .hash) + k → Fits v (findWalk d w depth) s → Fits v (fetchWalk d i) u
+      pub block-fits : k < blocksOf level → {i : ℕ} → i ≡ bucketOf (d .dirLevel) level (w .hash) + k → Fits v (findWalk d w depth) s → Fits v (fetchWalk d i) u
       block-fits more e fits =
           let here = reached-to (reached-on at-bucket (turn .at)) (bucket-step d w depth level k more) in
           subst (λ (j : ℕ). Fits v (fetchWalk d j) u) (sym e) (fits-first _ (fits-at fits here))
@@ -98,14 +98,14 @@ module _ {v : View} {d : Directory} {w : Wanted} {depth level : ℕ} {s t : List
 
 -- ---- the loop over the blocks of a bucket: block k was fetched
 module _ {v : View} {d : Directory} {w : Wanted} {depth level k : ℕ} {s t : Lists} (turn : Bucket v d w depth level s k t) (more : k < blocksOf level)
-    {i : ℕ} (e : i ≡ bucketOf (d .level) level (w .hash) + k) {x : Outcome Fetched} {u : Lists} (step : Walked v (fetchWalk d i) t x u) where
+    {i : ℕ} (e : i ≡ bucketOf (d .dirLevel) level (w .hash) + k) {x : Outcome Fetched} {u : Lists} (step : Walked v (fetchWalk d i) t x u) where
   abbrev rest : Walk (Outcome ℕ)
   rest = bucketLeft d w depth level (k + 1)
 
-  fetched : Walked v (fetchWalk d (bucketOf (d .level) level (w .hash) + k)) t x u
+  fetched : Walked v (fetchWalk d (bucketOf (d .dirLevel) level (w .hash) + k)) t x u
   fetched = subst (λ (j : ℕ). Walked v (fetchWalk d j) t x u) e step
 
-  at-fetch : Reached v (bucketLeft d w depth level 0) s (andThen (fetchWalk d (bucketOf (d .level) level (w .hash) + k)) (afterBlock w rest)) t
+  at-fetch : Reached v (bucketLeft d w depth level 0) s (andThen (fetchWalk d (bucketOf (d .dirLevel) level (w .hash) + k)) (afterBlock w rest)) t
   at-fetch = reached-to (turn .at) (bucket-step d w depth level k more)
 
   pub bucket-stop : {answer : ℕ} → x ≡ stop answer → Walked v (bucketLeft d w depth level 0) s (stop answer) u

@@ -18,10 +18,10 @@ pub record Directory : Type 0 where
   pub ino : ℕ
   pub inode : List ℕ
   pub addresses : ℕ
-  pub level : ℕ
+  pub dirLevel : ℕ
 
 abbrev pub directory : Bounds → ℕ → List ℕ → ℕ → ℕ → Directory
-directory m ino inode A dir = record { bounds = m; ino = ino; inode = inode; addresses = A; level = dir }
+directory m ino inode A dir = record { bounds = m; ino = ino; inode = inode; addresses = A; dirLevel = dir }
 
 -- the directory that the code has as a file of an opened card
 abbrev pub directoryOf : Card → Volume → File → ℕ → Directory
@@ -45,7 +45,7 @@ afterBlock w rest (held block) = afterSlots rest (inBlock block w)
 unfoldable pub bucketWalk : Directory → Wanted → ℕ → Walk (Outcome ℕ) → ℕ → ℕ → Walk (Outcome ℕ)
 bucketWalk d w level rest zero k = rest
 bucketWalk d w level rest (suc n) k =
-    andThen (fetchWalk d (bucketOf (d .level) level (w .hash) + k)) (afterBlock w (bucketWalk d w level rest n (k + 1)))
+    andThen (fetchWalk d (bucketOf (d .dirLevel) level (w .hash) + k)) (afterBlock w (bucketWalk d w level rest n (k + 1)))
 
 -- n levels from a level on; 2 is "no such name"
 unfoldable pub levelsWalk : Directory → Wanted → ℕ → ℕ → Walk (Outcome ℕ)

@@ -111,18 +111,18 @@ fn find_by(
     blocks: &mut [u8],
     counts: walk::Counts,
     file: node::File,
-    dir: usize,
+    dir_level: usize,
     firsts: &[u64; 63],
     depth: usize,
     hash: u32,
     name: &[u8],
 ) -> EntryStep
-    requires { ⌜ Fits (imageView (now image) v) (findWalk (directoryOf (cardOf (now image)) v file dir) (wanted hash (now name)) depth)
+    requires { ⌜ Fits (imageView (now image) v) (findWalk (directoryOf (cardOf (now image)) v file «dir_level») (wanted hash (now name)) depth)
         (lists (now nodes) (now blocks) counts) ⌝ }
     requires { ⌜ VolumeIn (cardOf (now image)) v ⌝ }
-    requires { ⌜ FileIn (cardOf (now image)) file × (depth ≤ 63) × (dir < 31) × IsTable dir (now firsts) ⌝ }
+    requires { ⌜ FileIn (cardOf (now image)) file × (depth ≤ 63) × («dir_level» < 31) × IsTable «dir_level» (now firsts) ⌝ }
     ensures { λ r. ⌜ Walked (imageView (now (image .entry)) v)
-        (findWalk (directoryOf (cardOf (now (image .entry))) v file dir) (wanted hash (now (name .entry))) depth)
+        (findWalk (directoryOf (cardOf (now (image .entry))) v file «dir_level») (wanted hash (now (name .entry))) depth)
         (lists (now (nodes .entry)) (now (blocks .entry)) counts) (entryOf (r .entry))
         (lists (now (nodes .exit)) (now (blocks .exit)) (r .counts)) ⌝ }
 {
@@ -132,7 +132,7 @@ fn find_by(
         if depth <= level {
             break 'levels Entry::Stop(answer::NO_NAME);
         }
-        let here = hash_level::level_at(firsts, dir, level, hash);
+        let here = hash_level::level_at(firsts, dir_level, level, hash);
         let count = here.count;
         let bucket = here.bucket;
         let mut k: usize = 0;
@@ -169,7 +169,7 @@ fn find_by(
     }
 }
 
-// The same, by the directory's level. Its table is taken once.
+// The same, by the directory's level. Its table is taken once, before the search, which stands once for whichever table it is.
 pub fn find(
     image: &[u8],
     v: checkpoint::Volume,
@@ -177,22 +177,38 @@ pub fn find(
     blocks: &mut [u8],
     counts: walk::Counts,
     file: node::File,
-    dir: usize,
+    dir_level: usize,
     depth: usize,
     hash: u32,
     name: &[u8],
 ) -> EntryStep
     requires { ⌜ Fits (imageView (now image) v)
-        (findWalk (directoryOf (cardOf (now image)) v file dir) (wanted hash (now name)) depth)
+        (findWalk (directoryOf (cardOf (now image)) v file «dir_level») (wanted hash (now name)) depth)
         (lists (now nodes) (now blocks) counts) ⌝ }
     requires { ⌜ VolumeIn (cardOf (now image)) v ⌝ }
-    requires { ⌜ FileIn (cardOf (now image)) file × (depth ≤ 63) × (dir < 31) ⌝ }
+    requires { ⌜ FileIn (cardOf (now image)) file × (depth ≤ 63) × («dir_level» < 31) ⌝ }
     ensures { λ r. ⌜ Walked (imageView (now (image .entry)) v)
-        (findWalk (directoryOf (cardOf (now (image .entry))) v file dir) (wanted hash (now (name .entry))) depth)
+        (findWalk (directoryOf (cardOf (now (image .entry))) v file «dir_level») (wanted hash (now (name .entry))) depth)
         (lists (now (nodes .entry)) (now (blocks .entry)) counts) (entryOf (r .entry))
         (lists (now (nodes .exit)) (now (blocks .exit)) (r .counts)) ⌝ }
 {
-    let firsts = hash_level::first_blocks(dir);
+    if dir_level == 0 {
+        let firsts = hash_level::level_0_blocks();
+        return find_by(
+            image,
+            v,
+            nodes,
+            blocks,
+            counts,
+            file,
+            dir_level,
+            &firsts,
+            depth,
+            hash,
+            name,
+        );
+    }
+    let firsts = hash_level::first_blocks(dir_level);
     find_by(
         image,
         v,
@@ -200,7 +216,7 @@ pub fn find(
         blocks,
         counts,
         file,
-        dir,
+        dir_level,
         &firsts,
         depth,
         hash,

@@ -4,7 +4,7 @@ use native.Mathlib.Nat.{add-zero}
 use mathlib.Core.Path.{_≡_, refl, ap}
 use lib.Dec.{ltb}
 use Rattle.field.specs.Choice.{choose}
-use Rattle.hash_level.specs.Level.{bucketsOf, firstOf, bucketOf}
+use Rattle.hash_level.specs.Level.{bucketsOf, firstOf, bucketOf, levelOf}
 
 abbrev pub plainBuckets : ℕ → ℕ
 plainBuckets level = choose (ltb level 31) (2 ^ level) (2 ^ 30)
@@ -12,6 +12,7 @@ plainBuckets level = choose (ltb level 31) (2 ^ level) (2 ^ 30)
 abbrev pub plainBlocks : ℕ → ℕ
 plainBlocks level = choose (ltb level 31) 2 4
 
+-- the levels follow each other
 abbrev pub plainFirst : ℕ → ℕ
 plainFirst zero = 0
 plainFirst (suc level) = plainFirst level + plainBuckets level * plainBlocks level
@@ -21,7 +22,8 @@ unfolding firstOf
 first-0 zero = refl
 first-0 (suc level) = rw (first-0 level, ap bucketsOf (add-zero level))
 
--- a hash's bucket starts where document 01 says
-pub level-0 : (level hash : ℕ) → bucketOf 0 level hash ≡ plainFirst level + hash % plainBuckets level * plainBlocks level
+-- a hash's bucket starts where document 01 says, and has as many blocks
+pub level-0 : (level hash : ℕ)
+    → levelOf 0 level hash ≡ record { count = plainBlocks level; bucket = plainFirst level + hash % plainBuckets level * plainBlocks level }
 unfolding bucketOf
 level-0 level hash = rw (first-0 level, ap bucketsOf (add-zero level))

@@ -8,7 +8,7 @@ use borrow.Author.Tests.{leb-false}
 use Rattle.field.specs.Choice.{choose}
 use Rattle.place.specs.Place.{lastIndex}
 use Rattle.inode.specs.declared.Inode.{Inode}
-use Rattle.inode.specs.Inode.{notInline, isDirectory, addressesIn, isPast, countIn}
+use Rattle.inode.specs.Inode.{isDirectory, addressesIn, isPast, countIn}
 use Rattle.field.proofs.Choosing.{needed-le}
 
 pub begins-inside : (i : Inode) (index : ℕ) → isPast i index ≡ false → index * 4096 < i .size

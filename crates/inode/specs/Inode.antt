@@ -1,6 +1,6 @@
 -- What is read of an inode, and which inodes are read. "In an inode: mode 0 (16 bits; top four bits 4 directory, 8 regular), inline
 -- byte 3, size 16 (64 bits), depth 72, directory level 347 (one byte)"
-use Prim.Native.Nat.{ℕ, _+_, _-_, _*_, _/_, _%_}
+use Prim.Native.Nat.{ℕ, _-_, _*_, _/_, _%_}
 use mathlib.Core.Bool.{Bool, _&&_, _||_}
 use mathlib.Core.List.{List}
 use lib.ListN.{getD}

@@ -154,7 +154,7 @@ fn find_from_inode(
         inode: at,
         addresses: inode::addresses_in(i),
     };
-    let dir = i.level as usize;
+    let dir_level = i.level as usize;
     let depth = i.depth as usize;
     let hash = name_hash::hash(name);
     directory::find(
@@ -164,7 +164,7 @@ fn find_from_inode(
         blocks,
         counts,
         file,
-        dir,
+        dir_level,
         depth,
         hash,
         name,

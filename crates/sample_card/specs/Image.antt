@@ -99,8 +99,8 @@ inode mode size depth level addresses number =
     ∷ numbersAt 4072 (number ∷ number ∷ 0 ∷ [])
     ∷ [])
 
--- a directory of depth 1 and directory level 2: four buckets of two blocks, of which the first has its block at 4193795 and the last at
--- 4193793
+-- a directory of depth 1 and directory level 2: four buckets of two blocks, of which the first has its first block at 4193795, the last
+-- at 4193793, and all others are holes
 unfoldable pub rootInode : List ℕ
 rootInode = inode (0xED ∷ 0x41 ∷ []) 28672 1 2 (4193795 ∷ 0 ∷ 0 ∷ 0 ∷ 0 ∷ 0 ∷ 4193793 ∷ []) 3
 

@@ -1,20 +1,28 @@
 -- `find` meets its contract: it takes the directory's table and searches by it.
+use mathlib.Core.Path.{sym, subst}
+use Prim.Native.Nat.{ℕ}
 use borrow.Author.Needs.{needs}
+use Rattle.hash_level.specs.Table.{IsTable}
 use Rattle.directory.proofs.find.Statement.{statement}
 use Rattle.directory.proofs.find.Tie as tie
 
-abbrev start-of : tie.After-first-blocks → tie.Start
+abbrev start-of : tie.Then1 → tie.Start
 start-of k = k .before .before .before .before .before
 
-first-blocks-requires : tie.Need-first-blocks-requires
-first-blocks-requires c κs = search needs
+abbrev start-of-2 : tie.Else1 → tie.Start
+start-of-2 k = k .before .before .before .before .before
+
+level-0-blocks-requires : tie.Need-level-0-blocks-requires
+level-0-blocks-requires c κs = search needs
 
 find-by-requires : tie.Need-find-by-requires
 find-by-requires c κs =
     let k = c .before .before .before in
-    let known = start-of k .pre in
+    let plain = k .before in
+    let known = start-of plain .pre in
     let small = known .1 .1 in
-    (known .0, (known .1 .0, (small .0, small .1, small .2, k .first-blocks .ensures)))
+    let table = subst (λ (dir : ℕ). IsTable dir (k .level-0-blocks .result)) (sym (plain .if1 .taken)) (k .level-0-blocks .ensures) in
+    (known .0, (known .1 .0, (small .0, small .1, small .2, table)))
 
 same-length : tie.Need-same-length
 same-length c = search needs
@@ -25,5 +33,36 @@ same-length-2 c = search needs
 returns : tie.Need-returns
 returns c = search needs
 
+first-blocks-requires : tie.Need-first-blocks-requires
+first-blocks-requires c κs = search needs
+
+find-by-requires-2 : tie.Need-find-by-requires-2
+find-by-requires-2 c κs =
+    let k = c .before .before .before in
+    let known = start-of-2 (k .before) .pre in
+    let small = known .1 .1 in
+    (known .0, (known .1 .0, (small .0, small .1, small .2, k .first-blocks .ensures)))
+
+same-length-3 : tie.Need-same-length-3
+same-length-3 c = search needs
+
+same-length-4 : tie.Need-same-length-4
+same-length-4 c = search needs
+
+returns-2 : tie.Need-returns-2
+returns-2 c = search needs
+
 pub find-spec : {M : Type 1} → statement M
-find-spec = tie.close (tie.spec first-blocks-requires find-by-requires same-length same-length-2 returns)
+find-spec =
+    tie.close
+    (tie.spec
+    level-0-blocks-requires
+    find-by-requires
+    same-length
+    same-length-2
+    returns
+    first-blocks-requires
+    find-by-requires-2
+    same-length-3
+    same-length-4
+    returns-2)

@@ -98,7 +98,7 @@ more b = subst (λ (n : ℕ). b .before .bucket .k < n) (ap (λ (l : Level). l .
 
 -- the index of the turn's block
 index : (b : tie.In-bucket Inv-slots μ-slots Inv-bucket μ-bucket Inv-levels μ-levels) → let k = b .before .bucket .k in
-    level-of b .level-at .result .bucket + k ≡ bucketOf (start-of b .args .dir) (levels-of b .levels .level) (start-of b .args .hash) + k
+    level-of b .level-at .result .bucket + k ≡ bucketOf (start-of b .args .dir-level) (levels-of b .levels .level) (start-of b .args .hash) + k
 index b = ap (λ (l : Level). l .bucket + b .before .bucket .k) (level-of b .level-at .ensures)
 
 -- the block that was fetched lies in the card
@@ -141,7 +141,7 @@ add-fetch : tie.Need-add-fetch Inv-slots μ-slots Inv-bucket μ-bucket Inv-level
 add-fetch c =
     let b = c .before .before in
     let deep = start-of b .pre .1 .1 .1 in
-    let small = bucket-small (start-of b .args .dir) (levels-of b .levels .level) (start-of b .args .hash) (omega arith) in
+    let small = bucket-small (start-of b .args .dir-level) (levels-of b .levels .level) (start-of b .args .hash) (omega arith) in
     let few = blocks-few (levels-of b .levels .level) in
     let below = more b in
     let at = index b in

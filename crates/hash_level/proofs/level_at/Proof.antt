@@ -12,14 +12,14 @@ use Rattle.hash_level.proofs.level_at.Tie as tie
 abbrev start-of : tie.After-blocks-in → tie.Start
 start-of k = k .before .before .before
 
-starts : (k : tie.After-blocks-in) → let a = start-of k .args in getD (a .firsts .now) (a .level) 0 ≡ firstOf (a .dir) (a .level)
+starts : (k : tie.After-blocks-in) → let a = start-of k .args in getD (a .firsts .now) (a .level) 0 ≡ firstOf (a .dir-level) (a .level)
 starts k = let s = start-of k in s .pre .0 .entry (s .args .level) (s .pre .2)
 
 fits : (k : tie.After-blocks-in) → let a = start-of k .args in let buckets = k .before .buckets-in .result in
     (0 < buckets) × (a .hash % buckets * k .blocks-in .result ≤ 4294967296) × (getD (a .firsts .now) (a .level) 0 < 2 ^ 39)
 fits k =
     let s = start-of k in
-    level-fits (s .args .dir) (s .args .level) (s .args .hash) (s .pre .2) (starts k) (k .before .buckets-in .ensures) (k .blocks-in .ensures)
+    level-fits (s .args .dir-level) (s .args .level) (s .args .hash) (s .pre .2) (starts k) (k .before .buckets-in .ensures) (k .blocks-in .ensures)
 
 mul-first : tie.Need-mul-first
 mul-first c = search needs

@@ -86,8 +86,8 @@ returns-2 c =
 addresses-in-requires : tie.Need-addresses-in-requires
 addresses-in-requires c κs = search needs
 
-cast-dir : tie.Need-cast-dir
-cast-dir c = search needs
+cast-dir-level : tie.Need-cast-dir-level
+cast-dir-level c = search needs
 
 cast-depth : tie.Need-cast-depth
 cast-depth c = search needs
@@ -124,7 +124,7 @@ find-from-inode-spec =
     returns
     returns-2
     addresses-in-requires
-    cast-dir
+    cast-dir-level
     cast-depth
     hash-requires
     find-requires
