@@ -210,6 +210,25 @@ fn last_buckets() {
     pulls.finish(4 * 31 + 4 * 2 * 29, &[0, 2]);
 }
 
+/// Any names whose buckets in the last hash level in reach are past the last index.
+#[test]
+fn past_the_last_index() {
+    let mut pulls = Pulls::new("pull past the directory's last index, by its level");
+    for dir_level in DirLevel::all() {
+        for inline in INLINES {
+            let last = u64::from(last_index(addresses_by(inline)));
+            let farthest = dir_level.in_reach() - 1;
+            let random = &mut pulls.trial.random;
+            let name = name_with(random, 9, |hash| dir_level.index(farthest, hash, 0) > last);
+            let deep = Deep::new(random, dir_level, inline, &name);
+            let blocks = IN_REACH[dir_level.0 as usize] - 2;
+            assert_eq!(deep.buckets.len(), blocks, "blocks of {dir_level:?}");
+            expect_last(&mut pulls, deep);
+        }
+    }
+    pulls.finish(DIRECTORIES + 2 * 2 * 29, &[0, 2]);
+}
+
 /// The name isn't there, or in the last block in reach. There is none if nothing is in reach.
 fn expect_last(pulls: &mut Pulls, mut deep: Deep) {
     let blocks = deep.buckets.len();
