@@ -90,11 +90,10 @@ impl Deep {
     }
 
     /// An address outside the main area ends the search; one after the match isn't come by.
-    pub fn try_addresses_outside(&mut self, pulls: &mut Pulls) {
-        let areas = self.card.image.areas;
+    pub fn try_addresses_outside(&mut self, pulls: &mut Pulls, addresses: &[u32]) {
         for bucket in 0..self.buckets.len() - 1 {
             let passage = *self.buckets[bucket].way.last().expect("a node");
-            for address in [areas.main - 1, areas.main_end, u32::MAX - 1, 1] {
+            for &address in addresses {
                 let (block, slot) = (passage.node.block, passage.slot);
                 self.card.image.set(block, slot, u64::from(address));
                 self.link(bucket + 1, self.ino);

@@ -9,8 +9,8 @@ use harptimber_tests::cards::layout::inode::{INLINE_XATTR, I_DIR_LEVEL};
 use harptimber_tests::cards::layout::BLOCK_SIZE;
 
 /// The least, the most and some between.
-const LEVELS: [u32; 9] = [0, 1, 2, 12, 22, 23, 28, 29, 30];
-const CARDS: u64 = 2 * 2 * 9;
+const LEVELS: [u32; 5] = [0, 1, 22, 23, 30];
+const CARDS: u64 = 2 * 2 * 5;
 
 /// A directory of each of these levels, its inode with many addresses and with few. Its name is there once, in the last
 /// block in reach, and once not at all.
@@ -134,7 +134,7 @@ fn other_blocks_of_the_directory() {
             }
         }
     }
-    compares.finish(2 * 9, &[(15, 0, 0)]);
+    compares.finish(2 * 5, &[(15, 0, 0)]);
 }
 
 /// A checkpoint after which a node is in another block: the root's inode, also with another level, and the last node on

@@ -64,7 +64,7 @@ fn none_by_the_tools() {
 fn deep() {
     let mut pulls = Pulls::new("published files in directories with a level");
     let mut opinions = Opinions::new("outside readers, directories with a level");
-    for (level, depth) in [(1, 4), (2, 3), (3, 2), (5, 1), (8, 1)] {
+    for (level, depth) in [(1, 4), (3, 2), (8, 1)] {
         let random = &mut pulls.trial.random;
         let names = (0..300).map(|n| format!("{n} {}", "long".repeat(50)));
         let files = files(random, names);
@@ -80,8 +80,8 @@ fn deep() {
             opinions.expect(&READERS, &card, (name, bytes));
         }
     }
-    opinions.finish(&READERS.map(|reader| (reader, 5 * 10)));
-    pulls.finish(5 * 300 * 4, &[0, 2, 3]);
+    opinions.finish(&READERS.map(|reader| (reader, 3 * 10)));
+    pulls.finish(3 * 300 * 4, &[0, 2, 3]);
 }
 
 const READERS: [Reader; 3] = [Reader::Harptimber, Reader::GrubCat, Reader::Dump];

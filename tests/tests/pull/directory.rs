@@ -88,7 +88,9 @@ fn holes() {
 fn addresses_outside() {
     let mut pulls = Pulls::new("pull with directory blocks outside");
     for_deep(&mut pulls, 2, |pulls, mut deep| {
-        deep.try_addresses_outside(pulls)
+        let areas = deep.card.image.areas;
+        let outside = [areas.main - 1, areas.main_end, u32::MAX - 1, 1];
+        deep.try_addresses_outside(pulls, &outside);
     });
     pulls.finish(2 * 2 * 4 * 55 * 2, &[0, 13]);
 }

@@ -77,9 +77,10 @@ fn holes() {
 fn addresses_outside() {
     let mut pulls = Pulls::new("pull with directory blocks outside, by the directory's level");
     for_levels(&mut pulls, |pulls, mut deep| {
-        deep.try_addresses_outside(pulls)
+        let outside = deep.card.image.areas.main_end;
+        deep.try_addresses_outside(pulls, &[outside]);
     });
-    pulls.finish((BLOCKS - DIRECTORIES) * 4, &[0, 13]);
+    pulls.finish(BLOCKS - DIRECTORIES, &[0, 13]);
 }
 
 #[test]
