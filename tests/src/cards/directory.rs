@@ -84,8 +84,7 @@ impl DirLevel {
 
     /// The first block of a hash level, not added up one by one as in the reference.
     pub fn start(self, level: u32) -> u64 {
-        // Up to 2^30 buckets each hash level has twice those of the one before: together they are one less than the
-        // next one's, times those of hash level 0.
+        // Hash level 0 has 2^(level + 1) blocks, and up to 2^30 buckets each other one has twice those of the one before.
         let doubling = level.min(31 - self.0);
         let doubled = ((1 << doubling) - 1) << (self.0 + 1);
         // The others have 2^30 buckets, of two blocks and then of four.

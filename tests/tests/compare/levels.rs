@@ -48,8 +48,8 @@ fn with_byte(image: &mut Image, block: u32, at: usize, value: u8, test: impl FnO
     image.undo(mark);
 }
 
-/// The root's inode is in each list, so that another level is a change by its block, read or not. So are the bytes beside
-/// it, which decide nothing.
+/// The root's inode is in each list, so that another level is a change by its block, read or not. So are the bytes
+/// beside it, which decide nothing.
 #[test]
 fn other_levels() {
     let mut compares = Compares::new("compare with another directory level");

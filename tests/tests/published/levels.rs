@@ -1,5 +1,5 @@
-//! Directories with a level of their own, as sload.f2fs fills them once the root's inode has one, and what other readers
-//! make of them.
+//! Directories with a level of their own, as sload.f2fs fills them once the root's inode has one, and what other
+//! readers make of them.
 
 use reference::hash::raw_hash;
 

@@ -112,11 +112,33 @@ fn blocks_in_reach() {
     pulls.finish(DIRECTORIES * 4, &[0, 2]);
 }
 
+/// "." has hash 0, so that it leads to the first bucket of every hash level: all first blocks in reach are listed, and a
+/// hash level out of reach that started too early would be, too.
+#[test]
+fn first_buckets() {
+    let mut pulls = Pulls::new("pull from the first bucket of every hash level");
+    for dir_level in DirLevel::all() {
+        for inline in INLINES {
+            let random = &mut pulls.trial.random;
+            let mut deep = Deep::new(random, dir_level, inline, b".");
+            let blocks = deep.buckets.len();
+            assert_eq!(blocks, IN_REACH[dir_level.0 as usize], "{dir_level:?}");
+            deep.expect_missing(&mut pulls, blocks);
+            for bucket in 0..blocks {
+                deep.link(bucket, deep.ino);
+                deep.expect_found(&mut pulls, bucket);
+                deep.card.image.undo(0);
+            }
+        }
+    }
+    pulls.finish(DIRECTORIES + 2 * BLOCKS, &[0, 2]);
+}
+
 /// The name's hash is 4AF528E4 hex.
 const BY_HAND: &[u8] = b"mu.bin";
 
-/// First blocks of its buckets, worked out by hand. Level 3, for one, has 8, 16, 32 and so on buckets from 0, 16, 48, 112,
-/// 240 and 496 on, of which the name takes numbers 4, 4, 4, 24 hex, 64 hex and E4 hex.
+/// First blocks of its buckets, worked out by hand. Level 3, for one, has 8, 16, 32 and so on buckets from 0, 16, 48,
+/// 112, 240 and 496 on, of which the name takes numbers 4, 4, 4, 24 hex, 64 hex and E4 hex.
 const FIRST_BLOCKS: [(u32, &[u32]); 9] = [
     (0, &[0, 2, 6, 22, 38, 70, 198, 454, 966]),
     (1, &[0, 4, 20, 36, 68, 196, 452, 964, 1476, 2500]),
@@ -329,8 +351,8 @@ fn across(pulls: &mut Pulls, dir_level: DirLevel, inline: u64, span: u64) -> (De
     (deep, place.expect("a block of the hash level"))
 }
 
-/// The two blocks of a bucket, of which each has its own last node. Both last indexes of what is below a direct node are
-/// even, as first blocks are.
+/// The two blocks of a bucket, of which each has its own last node: what is below such a node ends at an even index, as
+/// the first blocks of buckets are.
 #[test]
 fn buckets_across_nodes() {
     let mut pulls = Pulls::new("pull from buckets across nodes");
@@ -349,8 +371,8 @@ fn buckets_across_nodes() {
     pulls.finish(DIRECTORIES * 2 * 2, &[0]);
 }
 
-/// The most that pulls list with levels 29 and 30: root and double indirect node, twice two nodes for the two blocks of the
-/// one bucket, and four for a block of the file; all these and three more blocks.
+/// The most that pulls list with levels 29 and 30: root and double indirect node, twice two nodes for the two blocks of
+/// the one bucket, and four for a block of the file; all these and three more blocks.
 #[test]
 fn most_listed() {
     let mut pulls = Pulls::new("pull with the most nodes of levels 29 and 30");
