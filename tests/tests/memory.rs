@@ -9,11 +9,12 @@ use harptimber_tests::calls::lookups::{distinct_entry, journalled};
 use harptimber_tests::calls::pulls::{lists, Call};
 use harptimber_tests::cards::card::{Card, ROOT};
 use harptimber_tests::cards::damage::{Damage, HARMS};
-use harptimber_tests::cards::directory::{in_slot, Dentry};
+use harptimber_tests::cards::deep::Deep;
+use harptimber_tests::cards::directory::{in_slot, Dentry, DirLevel};
 use harptimber_tests::cards::image::Image;
 use harptimber_tests::cards::knobs::{Knobs, Pack};
 use harptimber_tests::cards::layout::dentry::{NAME_LEN, NR_DENTRY_IN_BLOCK};
-use harptimber_tests::cards::layout::inode::{ADDRESSES, I_MODE};
+use harptimber_tests::cards::layout::inode::{ADDRESSES, I_DIR_LEVEL, I_MODE};
 use harptimber_tests::cards::layout::journal::MOST_ENTRIES;
 use harptimber_tests::cards::layout::sit::SitEntry;
 use harptimber_tests::cards::layout::{BLOCK_SIZE, SEGMENT_BLOCKS};
@@ -273,6 +274,27 @@ fn damage_sits(script: &mut Script, random: &mut Random, damages: u64) {
     assert_eq!(script.segments(&none), 0);
 }
 
+/// A directory with a level of its own: its name in none of the blocks in which it is sought, in the first and in the
+/// last. Then the directory says that it has these levels.
+fn levelled(script: &mut Script, random: &mut Random, level: u32, others: &[u64]) {
+    let mut deep = Deep::reaching(random, DirLevel(level), 0);
+    let sound = deep.card.image.clone();
+    let root = deep.card.inode_block(ROOT);
+    script.card(&sound);
+    assert_eq!(script.pull(&sound, &sound, &deep.name, 0), 2);
+    for bucket in [0, deep.buckets.len() - 1] {
+        deep.link(bucket, deep.ino);
+        assert_eq!(script.pull(&sound, &deep.card.image, &deep.name, 0), 0);
+        deep.card.image.undo(0);
+    }
+    for &other in others {
+        deep.card.image.set(root, I_DIR_LEVEL, other);
+        let answer = script.pull(&sound, &deep.card.image, &deep.name, 0);
+        assert_eq!(answer == 12, other > 30, "{answer} for level {other}");
+        deep.card.image.undo(0);
+    }
+}
+
 /// The slices of a report, each of which is once shorter than the call is told.
 const REPORT_PLANTS: [&str; 2] = ["list", "image"];
 
@@ -325,6 +347,11 @@ fn guard_pages() {
     for _ in 0..6 {
         damage_files(&mut script, &mut random, 150);
     }
+    for level in [0, 1, 22, 23, 29] {
+        levelled(&mut script, &mut random, level, &[0, 30, 31, 255]);
+    }
+    let every_level: Vec<u64> = (0..=255).collect();
+    levelled(&mut script, &mut random, 30, &every_level);
     damage_published(&mut script, &mut random, 200);
     damage_sits(&mut script, &mut random, 150);
     script.card(&off_card());
@@ -341,6 +368,9 @@ fn valgrind() {
     tight_card(&mut script, Tight::new());
     for _ in 0..3 {
         damage_files(&mut script, &mut random, 100);
+    }
+    for level in [3, 30] {
+        levelled(&mut script, &mut random, level, &[0, 29, 30, 31, 32, 255]);
     }
     damage_published(&mut script, &mut random, 60);
     damage_sits(&mut script, &mut random, 60);

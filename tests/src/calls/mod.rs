@@ -2,6 +2,7 @@
 
 pub mod answers;
 pub mod compares;
+pub mod deep;
 pub mod every_call;
 pub mod guard_script;
 pub mod lent;

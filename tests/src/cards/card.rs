@@ -4,6 +4,7 @@
 use std::collections::{BTreeMap, BTreeSet};
 use std::ops::Range;
 
+use crate::cards::directory::DirLevel;
 use crate::cards::image::Image;
 use crate::cards::knobs::{Knobs, Pack};
 use crate::cards::layout::inode::*;
@@ -236,12 +237,16 @@ impl Card {
     }
 
     pub fn add_root(&mut self, inline: u64, depth: u32) -> u32 {
+        self.add_root_with(DirLevel(0), inline, depth)
+    }
+
+    pub fn add_root_with(&mut self, dir_level: DirLevel, inline: u64, depth: u32) -> u32 {
         let fields = [
             (I_MODE, S_IFDIR | 0o755),
             (I_INLINE, inline),
             (I_SIZE, 4096),
             (I_CURRENT_DEPTH, u64::from(depth)),
-            (I_DIR_LEVEL, 0),
+            (I_DIR_LEVEL, u64::from(dir_level.0)),
         ];
         self.add_inode(ROOT, &fields)
     }
@@ -273,10 +278,7 @@ impl Card {
     }
 
     pub fn addresses(&self, ino: u32) -> u32 {
-        match self.image.get(self.inode_block(ino), I_INLINE) & INLINE_XATTR {
-            0 => ADDRESSES,
-            _ => ADDRESSES_WITH_XATTR,
-        }
+        addresses_by(self.image.get(self.inode_block(ino), I_INLINE))
     }
 
     /// The way to a block's address. Nodes that are missing on it are made.
@@ -316,6 +318,14 @@ impl Card {
         let block = self.free_block();
         self.set_address(ino, index, block);
         block
+    }
+}
+
+/// How many addresses an inode has by its inline byte.
+pub fn addresses_by(inline: u64) -> u32 {
+    match inline & INLINE_XATTR {
+        0 => ADDRESSES,
+        _ => ADDRESSES_WITH_XATTR,
     }
 }
 

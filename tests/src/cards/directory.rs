@@ -5,12 +5,13 @@ use reference::hash::raw_hash;
 use crate::cards::card::{Card, ROOT};
 use crate::cards::image::Image;
 use crate::cards::layout::dentry::*;
+use crate::cards::layout::inode::I_DIR_LEVEL;
 use crate::cards::layout::Field;
 
-/// Levels that lie below the last index of a file, at least with their first buckets.
-pub const LEVELS: u32 = 29;
-/// Blocks of a bucket in each of them.
+/// Blocks of a bucket in each hash level that has a block below the last index of a file.
 pub const BUCKET_BLOCKS: u32 = 2;
+/// A directory that is deeper isn't read.
+pub const MOST_DEPTH: u32 = 63;
 
 /// An entry as it is stored; it needn't be as it should.
 #[derive(Clone, Debug)]
@@ -58,11 +59,60 @@ pub fn map_byte(slot: usize) -> Field {
     }
 }
 
-/// The index of a block of the bucket that a hash leads to.
+/// A directory's own level, which makes its hash levels larger.
+#[derive(Clone, Copy, Debug, PartialEq, Eq)]
+pub struct DirLevel(pub u32);
+
+impl DirLevel {
+    /// Those that are read.
+    pub fn all() -> impl Iterator<Item = DirLevel> {
+        (0..=30).map(DirLevel)
+    }
+
+    /// Buckets of a hash level.
+    pub fn buckets(self, level: u32) -> u64 {
+        1 << (self.0 + level).min(30)
+    }
+
+    /// Blocks of each of its buckets.
+    pub fn bucket_blocks(level: u32) -> u32 {
+        match level {
+            0..31 => BUCKET_BLOCKS,
+            _ => 4,
+        }
+    }
+
+    /// The first block of a hash level, not added up one by one as in the reference.
+    pub fn start(self, level: u32) -> u64 {
+        // Hash level 0 has 2^(level + 1) blocks, and up to 2^30 buckets each other one has twice those of the one before.
+        let doubling = level.min(31 - self.0);
+        let doubled = ((1 << doubling) - 1) << (self.0 + 1);
+        // The others have 2^30 buckets, of two blocks and then of four.
+        let of_two = u64::from(level.min(31) - doubling);
+        let of_four = u64::from(level - level.min(31));
+        doubled + (of_two << 31) + (of_four << 32)
+    }
+
+    /// The index of a block of the bucket that a hash leads to.
+    pub fn index(self, level: u32, hash: u32, nth: u32) -> u64 {
+        let bucket = u64::from(hash) % self.buckets(level);
+        self.start(level) + u64::from(DirLevel::bucket_blocks(level)) * bucket + u64::from(nth)
+    }
+
+    /// How many hash levels have a block below the last index of a file. Hash level 29 - level starts at
+    /// 2^30 - 2^(level + 1), which is at most 1,057,053,388 from level 23 on.
+    pub fn in_reach(self) -> u32 {
+        match self.0 {
+            0..=22 => 29 - self.0,
+            23..=29 => 30 - self.0,
+            _ => 1,
+        }
+    }
+}
+
+/// The same in a directory without a level of its own.
 pub fn bucket_index(level: u32, hash: u32, nth: u32) -> u32 {
-    let buckets = 1 << level;
-    // Below it lie 1 + 2 + 4 + .. buckets, which is one less than its own.
-    BUCKET_BLOCKS * (buckets - 1 + hash % buckets) + nth
+    DirLevel(0).index(level, hash, nth) as u32
 }
 
 /// Directory blocks.
@@ -119,9 +169,19 @@ pub struct Linked {
 }
 
 impl Card {
+    /// The root directory's own level, as its inode says now.
+    pub fn dir_level(&self) -> DirLevel {
+        DirLevel(self.image.get(self.inode_block(ROOT), I_DIR_LEVEL) as u32)
+    }
+
     /// A block of the bucket that a hash leads to; an empty one where there is none yet.
     pub fn bucket_block(&mut self, level: u32, hash: u32, nth: u32) -> u32 {
-        let index = bucket_index(level, hash, nth);
+        let index = self.dir_level().index(level, hash, nth);
+        self.directory_block(index as u32)
+    }
+
+    /// A block of the root directory; an empty one where there is none yet.
+    pub fn directory_block(&mut self, index: u32) -> u32 {
         if let Some(&block) = self.directory.get(&index) {
             return block;
         }
@@ -129,6 +189,13 @@ impl Card {
         self.image.clear_slots(block);
         self.directory.insert(index, block);
         block
+    }
+
+    /// The block of the root directory at an index, if it has one there.
+    pub fn block_at(&self, index: u64) -> Option<(u32, u32)> {
+        let index = u32::try_from(index).ok()?;
+        let block = self.directory.get(&index)?;
+        Some((index, *block))
     }
 
     /// Puts an entry in a block of its bucket, in the first slots that are free.

@@ -3,6 +3,7 @@
 pub mod card;
 pub mod damage;
 pub mod decoys;
+pub mod deep;
 pub mod directory;
 pub mod disks;
 pub mod image;

@@ -1,10 +1,12 @@
 //! Random cards with files, and pulls that get somewhere in them.
 
-use crate::cards::card::{Card, Passage, ROOT};
-use crate::cards::directory::{bucket_index, in_slot, Dentry, Linked, BUCKET_BLOCKS};
+use reference::hash::raw_hash;
+
+use crate::cards::card::{addresses_by, Card, Passage, ROOT};
+use crate::cards::directory::{in_slot, Dentry, DirLevel, Linked, BUCKET_BLOCKS};
 use crate::cards::knobs::Knobs;
 use crate::cards::layout::dentry::{NAME_LEN, NR_DENTRY_IN_BLOCK, SLOT_LEN};
-use crate::cards::layout::inode::{ADDRESSES, ADDRESSES_WITH_XATTR, INLINE_XATTR};
+use crate::cards::layout::inode::INLINE_XATTR;
 use crate::cards::layout::{slots, BLOCK_SIZE};
 use crate::cards::names::good_name;
 use crate::cards::random::{between, large_knobs, pick, shuffle, sound_knobs};
@@ -66,11 +68,17 @@ struct File {
 }
 
 pub fn random_files(random: &mut Random) -> RandomFiles {
+    let dir_level = any_dir_level(random);
+    random_files_with(random, dir_level)
+}
+
+/// In a directory with this level.
+pub fn random_files_with(random: &mut Random, dir_level: DirLevel) -> RandomFiles {
     let knobs = Knobs {
         main_segments: between(random, 1, 2),
         ..sound_knobs(random)
     };
-    files_on(random, knobs)
+    files_on(random, knobs, dir_level)
 }
 
 /// On a card of more than 1 GiB.
@@ -78,15 +86,22 @@ pub fn large_random_files(random: &mut Random) -> RandomFiles {
     loop {
         let knobs = large_knobs(random);
         if knobs.main_segments > 0 {
-            return files_on(random, knobs);
+            let dir_level = any_dir_level(random);
+            return files_on(random, knobs, dir_level);
         }
     }
 }
 
-fn files_on(random: &mut Random, knobs: Knobs) -> RandomFiles {
+/// Every other time none, as most cards have it.
+fn any_dir_level(random: &mut Random) -> DirLevel {
+    let any = random.below(31) as u32;
+    DirLevel(pick(random, &[0, any]))
+}
+
+fn files_on(random: &mut Random, knobs: Knobs, dir_level: DirLevel) -> RandomFiles {
     let mut card = Card::new(knobs, Random::new(random.number()));
     let depth = between(random, 1, DEEPEST);
-    card.add_root(any_inline(random), depth);
+    card.add_root_with(dir_level, any_inline(random), depth);
     let files: Vec<File> = (0..FILES)
         .map(|_| add_file(&mut card, random, depth))
         .collect();
@@ -127,9 +142,7 @@ fn add_file(card: &mut Card, random: &mut Random, depth: u32) -> File {
     for &index in indexes.iter().filter(|_| random.below(8) > 0) {
         card.add_block(ino, index);
     }
-    let name = any_name(random);
-    let level = random.below(u64::from(depth)) as u32;
-    let nth = random.below(u64::from(BUCKET_BLOCKS)) as u32;
+    let (name, level, nth) = any_place(card, random, depth);
     card.link(level, nth, &Dentry::new(&name, ino));
     File {
         name,
@@ -139,12 +152,27 @@ fn add_file(card: &mut Card, random: &mut Random, depth: u32) -> File {
     }
 }
 
+/// A name with a hash level and the block of a bucket there, if it isn't past the last index.
+fn any_place(card: &Card, random: &mut Random, depth: u32) -> (Vec<u8>, u32, u32) {
+    loop {
+        let name = any_name(random);
+        let level = random.below(u64::from(depth)) as u32;
+        let nth = random.below(u64::from(BUCKET_BLOCKS)) as u32;
+        if has_block(card, level, &name, nth) {
+            return (name, level, nth);
+        }
+    }
+}
+
+/// Whether the root directory can have a block of the bucket that a name leads to.
+fn has_block(card: &Card, level: u32, name: &[u8], nth: u32) -> bool {
+    let index = card.dir_level().index(level, raw_hash(name), nth);
+    index <= u64::from(last_index(card.addresses(ROOT)))
+}
+
 /// Indexes around one at which the way changes its nodes.
 fn any_indexes(random: &mut Random, inline: u64) -> Vec<u32> {
-    let addresses = match inline & INLINE_XATTR {
-        0 => ADDRESSES,
-        _ => ADDRESSES_WITH_XATTR,
-    };
+    let addresses = addresses_by(inline);
     let per_node = slots::PER_NODE as u32;
     let indirect = addresses + 2 * per_node;
     let borders = [
@@ -167,6 +195,9 @@ fn add_entries_aside(card: &mut Card, random: &mut Random, files: &[File]) {
         let level = random.below(u64::from(file.level) + 1) as u32;
         let nth = random.below(u64::from(BUCKET_BLOCKS)) as u32;
         let ino = pick(random, &[file.ino, ROOT, 0]);
+        if !has_block(card, level, &file.name, nth) {
+            continue;
+        }
         if random.below(2) == 0 {
             let deleted = Dentry::new(&file.name, ino);
             let Linked { block, slot } = card.link(level, nth, &deleted);
@@ -188,13 +219,14 @@ fn journal_some(card: &mut Card, random: &mut Random, files: &[File]) {
 }
 
 fn target(card: &mut Card, file: &File, index: u32, depth: u32) -> Target {
-    let hash = reference::hash::raw_hash(&file.name);
+    let hash = raw_hash(&file.name);
+    let dir_level = card.dir_level();
     let mut passages = Vec::new();
     let mut entries = Vec::new();
     for level in 0..depth {
         for nth in 0..BUCKET_BLOCKS {
-            let bucket = bucket_index(level, hash, nth);
-            if let Some(&block) = card.directory.get(&bucket) {
+            let index = dir_level.index(level, hash, nth);
+            if let Some((bucket, block)) = card.block_at(index) {
                 passages.extend(card.way(ROOT, bucket));
                 entries.extend(entries_in(card, block));
             }

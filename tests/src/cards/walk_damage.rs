@@ -124,7 +124,8 @@ fn inode_number(target: &Target, random: &mut Random) -> Aim {
         I_INLINE => (0..8).map(|bit| 1 << bit).collect(),
         I_SIZE => vec![start, start + 1, start + 4095, start + 4096, start + 4097],
         I_CURRENT_DEPTH => vec![0, 1, 2, 29, 30, 31, 62, 63, 64, 256],
-        _ => vec![1, 0x80],
+        // The directory's level.
+        _ => vec![0, 1, 2, 22, 23, 29, 30, 31, 32, 0x80, 0xFF],
     };
     Aim {
         block: pick(random, &target.inodes),

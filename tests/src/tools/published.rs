@@ -8,7 +8,9 @@ use std::process::{self, Command, Stdio};
 use std::sync::atomic::{AtomicU32, Ordering};
 use std::time::{Duration, UNIX_EPOCH};
 
+use crate::cards::card::ROOT;
 use crate::cards::image::Image;
+use crate::cards::layout::inode::I_DIR_LEVEL;
 use crate::cards::layout::BLOCK_SIZE;
 use crate::cards::sparse::Sparse;
 use crate::running::{Ran, Running};
@@ -209,4 +211,26 @@ pub fn filled_on(megabytes: usize, date: u32, files: &[File]) -> Image {
     scratch.image(format!(
         "sload.f2fs and mkfs.f2fs {options} of {megabytes} MB"
     ))
+}
+
+/// Files in a root directory with this level. No option of mkfs.f2fs gives it one, so it is written by hand; sload.f2fs
+/// then puts the files where it says.
+pub fn filled_with_level(megabytes: usize, level: u32, files: &[File]) -> Image {
+    let scratch = Scratch::new();
+    scratch.format(megabytes, "");
+    let mut image = scratch.image("mkfs.f2fs".to_string());
+    let root = root_block(&image);
+    image.set(root, I_DIR_LEVEL, u64::from(level));
+    image.save(&scratch.image_path());
+    scratch.fill(None, files);
+    scratch.image(format!(
+        "sload.f2fs with level {level} over mkfs.f2fs of {megabytes} MB"
+    ))
+}
+
+/// The block of the root directory's inode.
+pub fn root_block(image: &Image) -> u32 {
+    let found = reference::lookup::node_lookup(image.bytes(), ROOT);
+    let (_, address) = found.expect("the root's number in the table");
+    address
 }

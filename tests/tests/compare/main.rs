@@ -2,5 +2,6 @@
 
 mod changes;
 mod checkpoints;
+mod levels;
 mod lists;
 mod random;

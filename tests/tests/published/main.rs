@@ -3,6 +3,7 @@
 mod accident;
 mod damaged;
 mod files;
+mod levels;
 mod lookups;
 mod outside_readers;
 mod segments;

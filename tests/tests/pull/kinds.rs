@@ -2,8 +2,9 @@
 
 use harptimber_tests::calls::pulls::{Call, Pulls};
 use harptimber_tests::cards::card::ROOT;
+use harptimber_tests::cards::directory::Dentry;
 use harptimber_tests::cards::layout::inode::*;
-use harptimber_tests::cards::layout::Field;
+use harptimber_tests::cards::layout::{slots, Field};
 use harptimber_tests::cards::one_file::{Scene, Setting, NAME};
 
 const PLAIN: Setting = Setting {
@@ -89,16 +90,125 @@ fn depths() {
     pulls.finish(2 * (71 + 1 + 24 + 1), &[0, 2, 12]);
 }
 
+/// "." has hash 0, so that every level that is read has it in the directory's first block.
+const FIRST_BUCKET: &[u8] = b".";
+
+/// A scene in which that name leads to the file, too.
+fn with_first_bucket(pulls: &mut Pulls) -> (Scene, u32, u32) {
+    let (mut scene, root, file) = scene(pulls);
+    let ino = scene.ino;
+    scene.card.link(0, 0, &Dentry::new(FIRST_BUCKET, ino));
+    scene.card.image.settle("a name of hash 0");
+    (scene, root, file)
+}
+
+/// Level 30 is read and 31 isn't. A file isn't asked for one.
 #[test]
 fn directory_levels() {
     let mut pulls = Pulls::new("pull by directory level");
-    let (mut scene, root, file) = scene(&mut pulls);
+    let (mut scene, root, file) = with_first_bucket(&mut pulls);
+    let data = scene.card.image.get(file, slots::I_ADDR) as u32;
+    let found = [root, scene.linked.block, file, data];
     for level in 0..=0xFF {
-        let answer = if level == 0 { 0 } else { 12 };
-        expect_with(&mut pulls, &mut scene, (root, I_DIR_LEVEL, level), answer);
-        expect_with(&mut pulls, &mut scene, (file, I_DIR_LEVEL, level), 0);
+        scene.card.image.set(root, I_DIR_LEVEL, level);
+        let call = Call::new(&scene.card.image, FIRST_BUCKET, 0);
+        match level {
+            0..=30 => pulls.expect_lists(&call, 0, &[ROOT, scene.ino], &found),
+            _ => pulls.expect_lists(&call, 12, &[ROOT], &[root]),
+        }
+        scene.card.image.undo(0);
+        scene.card.image.set(file, I_DIR_LEVEL, level);
+        for name in [NAME, FIRST_BUCKET] {
+            let call = Call::new(&scene.card.image, name, 0);
+            pulls.expect_lists(&call, 0, &[ROOT, scene.ino], &found);
+        }
+        scene.card.image.undo(0);
     }
-    pulls.finish(2 * 256, &[0, 12]);
+    pulls.finish(3 * 256, &[0, 12]);
+}
+
+/// With a level that isn't read nothing else is asked: no depth, size or name.
+#[test]
+fn levels_too_large() {
+    let mut pulls = Pulls::new("pull by too large a directory level");
+    let (mut scene, root, _) = with_first_bucket(&mut pulls);
+    for level in [31, 32, 33, 62, 63, 64, 0x7F, 0x80, 0xFE, 0xFF] {
+        for depth in [0, 1, 2, 62, 63, 64, u64::from(u32::MAX)] {
+            for size in [0, 1, 4096, u64::MAX] {
+                let fields = [
+                    (I_DIR_LEVEL, level),
+                    (I_CURRENT_DEPTH, depth),
+                    (I_SIZE, size),
+                ];
+                scene.card.image.set_all(root, &fields);
+                for name in [NAME, FIRST_BUCKET, b"other"] {
+                    let call = Call::new(&scene.card.image, name, 0);
+                    pulls.expect_lists(&call, 12, &[ROOT], &[root]);
+                }
+                scene.card.image.undo(0);
+            }
+        }
+    }
+    pulls.finish(10 * 7 * 4 * 3, &[12]);
+}
+
+/// With a level that is read, 12 for the depth comes first, then 2 for size 0.
+#[test]
+fn levels_with_depths_and_sizes() {
+    let mut pulls = Pulls::new("pull by directory level, depth and size");
+    let (mut scene, root, _) = with_first_bucket(&mut pulls);
+    for level in 0..=30 {
+        for (depth, size, answer) in [
+            (64, 0, 12),
+            (64, 4096, 12),
+            (u64::from(u32::MAX), 0, 12),
+            (63, 0, 2),
+            (1, 0, 2),
+            (0, 0, 2),
+            (0, 4096, 2),
+            (1, 1, 0),
+            (63, u64::MAX, 0),
+        ] {
+            let fields = [
+                (I_DIR_LEVEL, level),
+                (I_CURRENT_DEPTH, depth),
+                (I_SIZE, size),
+            ];
+            scene.card.image.set_all(root, &fields);
+            let call = Call::new(&scene.card.image, FIRST_BUCKET, 0);
+            match answer {
+                0 => pulls.expect_call(&call, 0),
+                _ => pulls.expect_lists(&call, answer, &[ROOT], &[root]),
+            }
+            scene.card.image.undo(0);
+        }
+    }
+    pulls.finish(31 * 9, &[0, 2, 12]);
+}
+
+/// The bytes beside a directory's level decide nothing, whether it has one that is read or not.
+#[test]
+fn bytes_beside_the_level() {
+    let mut pulls = Pulls::new("pull by the bytes beside the directory level");
+    let (mut scene, root, file) = with_first_bucket(&mut pulls);
+    let beside = [346, 348].map(|at| Field {
+        name: "byte beside the level",
+        at,
+        size: 1,
+    });
+    for (level, answer) in [(0, 0), (1, 0), (30, 0), (31, 12), (0xFF, 12)] {
+        for value in [0, 1, 30, 31, 0xFF] {
+            for field in beside {
+                let image = &mut scene.card.image;
+                image.set(root, I_DIR_LEVEL, level);
+                image.set(root, field, value);
+                image.set(file, field, value);
+                pulls.expect(image, FIRST_BUCKET, 0, answer);
+                image.undo(0);
+            }
+        }
+    }
+    pulls.finish(5 * 5 * 2, &[0, 12]);
 }
 
 /// A directory's size only matters if it is 0, in all 64 bits.
@@ -127,7 +237,8 @@ fn kind_before_size() {
         (root, I_MODE, S_IFREG),
         (root, I_INLINE, INLINE_DENTRY),
         (root, I_CURRENT_DEPTH, 64),
-        (root, I_DIR_LEVEL, 1),
+        (root, I_DIR_LEVEL, 31),
+        (root, I_DIR_LEVEL, 255),
         (file, I_MODE, S_IFDIR),
         (file, I_INLINE, INLINE_DATA),
     ];
@@ -139,5 +250,5 @@ fn kind_before_size() {
         }
         scene.card.image.undo(0);
     }
-    pulls.finish(6 * 3, &[12]);
+    pulls.finish(7 * 3, &[12]);
 }

@@ -4,6 +4,7 @@ mod call;
 mod directory;
 mod file;
 mod kinds;
+mod levels;
 mod nodes;
 mod packs;
 mod random;

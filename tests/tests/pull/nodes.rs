@@ -2,7 +2,7 @@
 
 use harptimber_tests::calls::pulls::{Call, Pulls};
 use harptimber_tests::cards::card::{Card, Passage, ROOT};
-use harptimber_tests::cards::directory::{bucket_index, in_slot, Dentry};
+use harptimber_tests::cards::directory::{in_slot, Dentry, DirLevel};
 use harptimber_tests::cards::image::Image;
 use harptimber_tests::cards::layout::footer::OFFSET_BIT_SHIFT;
 use harptimber_tests::cards::layout::{dentry, footer, inode, nat, Field};
@@ -133,37 +133,55 @@ fn root_node() {
     pulls.finish(3 * FAULTS, &[9, 10, 11]);
 }
 
-/// A card whose one directory block is in this level, behind nodes.
-fn with_level(random: &mut Random, level: u32) -> (Card, Vec<u8>, u32) {
-    let inside = |hash| bucket_index(level, hash, 1) < last_index(inode::ADDRESSES_WITH_XATTR);
+/// A card whose one directory block is in this hash level, behind nodes.
+fn with_level(random: &mut Random, dir_level: DirLevel, level: u32) -> (Card, Vec<u8>, u32) {
+    let last = u64::from(last_index(inode::ADDRESSES_WITH_XATTR));
+    let inside = |hash| dir_level.index(level, hash, 1) < last;
     let name = name_with(random, 12, inside);
     let mut card = Card::new(small_knobs(random), Random::new(random.number()));
-    card.add_root(inode::INLINE_XATTR, level + 1);
+    card.add_root_with(dir_level, inode::INLINE_XATTR, level + 1);
     let ino = card.add_file(0, 1);
     let dentry = Dentry::new(&name, ino);
     card.link(level, 0, &dentry);
     card.add_block(ino, 0);
-    (card, name, bucket_index(level, dentry.hash, 0))
+    let index = dir_level.index(level, dentry.hash, 0);
+    (card, name, index as u32)
 }
 
 /// Each fault of each node below the root on the way to a directory block.
+fn expect_faults(pulls: &mut Pulls, dir_level: u32, level: u32) {
+    let random = &mut pulls.trial.random;
+    let (mut card, name, index) = with_level(random, DirLevel(dir_level), level);
+    pulls.expect(&card.image, &name, 0, 0);
+    for &passage in &card.way(ROOT, index)[1..] {
+        for fault in faults(&card, passage) {
+            let mark = card.image.mark();
+            fault.apply(&mut card.image);
+            pulls.expect(&card.image, &name, 0, fault.answer);
+            card.image.undo(mark);
+        }
+    }
+}
+
 #[test]
 fn nodes_of_the_directory() {
     const LEVELS: [u32; 10] = [9, 10, 11, 14, 17, 20, 21, 24, 27, 28];
     let mut pulls = Pulls::new("pull by faults of the directory's nodes");
     for level in LEVELS {
-        let (mut card, name, index) = with_level(&mut pulls.trial.random, level);
-        pulls.expect(&card.image, &name, 0, 0);
-        for &passage in &card.way(ROOT, index)[1..] {
-            for fault in faults(&card, passage) {
-                let mark = card.image.mark();
-                fault.apply(&mut card.image);
-                pulls.expect(&card.image, &name, 0, fault.answer);
-                card.image.undo(mark);
-            }
-        }
+        expect_faults(&mut pulls, 0, level);
     }
     pulls.finish(10 + 20 * FAULTS, &[0, 9, 10, 11]);
+}
+
+/// The farthest hash level of each directory level is behind a double indirect node.
+#[test]
+fn nodes_of_a_directory_with_a_level() {
+    let mut pulls = Pulls::new("pull by faults of a directory's nodes, by its level");
+    for dir_level in DirLevel::all() {
+        let level = dir_level.in_reach() - 1;
+        expect_faults(&mut pulls, dir_level.0, level);
+    }
+    pulls.finish(31 + 31 * 3 * FAULTS, &[0, 9, 10, 11]);
 }
 
 /// The numbers that lead to nodes: out of range, of no node, of another node, and the node's own.

@@ -3,12 +3,15 @@
 use std::ops::RangeInclusive;
 
 use harptimber_tests::calls::answers::Answers;
-use harptimber_tests::calls::pulls::Pulls;
+use harptimber_tests::calls::pulls::{Call, Pulls};
+use harptimber_tests::cards::card::ROOT;
 use harptimber_tests::cards::damage::Damage;
+use harptimber_tests::cards::directory::DirLevel;
+use harptimber_tests::cards::layout::inode::I_DIR_LEVEL;
 use harptimber_tests::cards::names::good_name;
 use harptimber_tests::cards::random::within;
 use harptimber_tests::cards::random_files::{
-    any_target, large_random_files, random_files, RandomFiles,
+    any_target, large_random_files, random_files, random_files_with, RandomFiles,
 };
 use harptimber_tests::cards::versions::Apart;
 use harptimber_tests::cards::walk_damage::strike_either;
@@ -20,20 +23,32 @@ const OPENING: u64 = 6;
 /// Makes a card.
 type Files = fn(&mut Random) -> RandomFiles;
 
-/// Each target of each card, and names that aren't there. Returns how the packs' versions lay to each other.
+/// Each target of a card, and names that aren't there. With a level that isn't read nothing is.
+fn expect_targets(pulls: &mut Pulls, files: RandomFiles) {
+    let RandomFiles { mut card, targets } = files;
+    let root = card.inode_block(ROOT);
+    for target in &targets {
+        pulls.compare(&card.image, &target.name, target.index);
+        let name = good_name(&mut pulls.trial.random, 6);
+        pulls.expect(&card.image, &name, target.index, 2);
+    }
+    let level = 31 + pulls.trial.random.below(225);
+    card.image.set(root, I_DIR_LEVEL, level);
+    let target = any_target(&targets, &mut pulls.trial.random);
+    let call = Call::new(&card.image, &target.name, target.index);
+    pulls.expect_lists(&call, 12, &[ROOT], &[root]);
+}
+
+/// Returns how the packs' versions lay to each other.
 fn expect_sound(name: &'static str, cards: u64, files: Files) -> Answers<Apart> {
     let mut pulls = Pulls::new(name);
     let mut met = Answers::default();
     for _ in 0..pulls.trial.times(cards) {
-        let RandomFiles { card, targets } = files(&mut pulls.trial.random);
-        met.note_versions(&card.image);
-        for target in &targets {
-            pulls.compare(&card.image, &target.name, target.index);
-            let name = good_name(&mut pulls.trial.random, 6);
-            pulls.expect(&card.image, &name, target.index, 2);
-        }
+        let files = files(&mut pulls.trial.random);
+        met.note_versions(&files.card.image);
+        expect_targets(&mut pulls, files);
     }
-    pulls.finish(cards * 32, &[0, 1, 2]);
+    pulls.finish(cards * 33, &[0, 1, 2, 12]);
     met
 }
 
@@ -48,26 +63,60 @@ fn large_sound_cards() {
     expect_sound("pull from large random cards", 40, large_random_files);
 }
 
-/// Damages random cards, each time with so many strikes, which are undone before the next ones.
+/// Every level that is read.
+#[test]
+fn sound_cards_of_every_level() {
+    let mut pulls = Pulls::new("pull from random cards of every directory level");
+    for _ in 0..pulls.trial.times(1) {
+        for dir_level in DirLevel::all() {
+            let files = random_files_with(&mut pulls.trial.random, dir_level);
+            expect_targets(&mut pulls, files);
+        }
+    }
+    pulls.finish(31 * 33, &[0, 1, 2, 12]);
+}
+
+/// Damages a card, each time with so many strikes, which are undone before the next ones.
+fn damage(pulls: &mut Pulls, files: RandomFiles, damages: u64, strikes: &RangeInclusive<u64>) {
+    let RandomFiles { mut card, targets } = files;
+    let opening = Damage::of(&card.image);
+    for _ in 0..damages {
+        let random = &mut pulls.trial.random;
+        let target = any_target(&targets, random);
+        for _ in 0..within(random, strikes) {
+            strike_either(&mut card, (&opening, OPENING), target, random);
+        }
+        let (name, index) = target.any_call(random);
+        pulls.compare(&card.image, &name, index);
+        card.image.undo(0);
+    }
+}
+
+fn every_answer() -> Vec<u32> {
+    (0..=14).collect()
+}
+
 fn damaged_cards(name: &'static str, cards: u64, files: Files, strikes: RangeInclusive<u64>) {
     const DAMAGES: u64 = 1000;
     let mut pulls = Pulls::new(name);
     for _ in 0..pulls.trial.times(cards) {
-        let RandomFiles { mut card, targets } = files(&mut pulls.trial.random);
-        let opening = Damage::of(&card.image);
-        for _ in 0..DAMAGES {
-            let random = &mut pulls.trial.random;
-            let target = any_target(&targets, random);
-            for _ in 0..within(random, &strikes) {
-                strike_either(&mut card, (&opening, OPENING), target, random);
-            }
-            let (name, index) = target.any_call(random);
-            pulls.compare(&card.image, &name, index);
-            card.image.undo(0);
+        let files = files(&mut pulls.trial.random);
+        damage(&mut pulls, files, DAMAGES, &strikes);
+    }
+    pulls.finish(cards * DAMAGES, &every_answer());
+}
+
+#[test]
+fn damaged_cards_of_every_level() {
+    const DAMAGES: u64 = 400;
+    let mut pulls = Pulls::new("pull from cards of every directory level, damaged");
+    for _ in 0..pulls.trial.times(1) {
+        for dir_level in DirLevel::all() {
+            let files = random_files_with(&mut pulls.trial.random, dir_level);
+            damage(&mut pulls, files, DAMAGES, &(1..=2));
         }
     }
-    let every_answer: Vec<u32> = (0..=14).collect();
-    pulls.finish(cards * DAMAGES, &every_answer);
+    pulls.finish(31 * DAMAGES, &every_answer());
 }
 
 #[test]
