@@ -2,8 +2,12 @@
 //! that archive, and builds this program with it.
 
 mod archives;
+mod depths;
 #[path = "../ratios/journalled.rs"]
 mod journalled;
+#[allow(dead_code)] // not every root is pulled from
+#[path = "../ratios/roots.rs"]
+mod roots;
 
 use archives::{Archive, ARCHIVES, BEFORE, NOW};
 use harptimber_bench::agreed::Agreed;
@@ -19,6 +23,7 @@ use std::env;
 use std::hint::black_box;
 use std::process::ExitCode;
 
+/// Calls enough that it hardly shows that the first side finds a card's blocks in no cache.
 const OFTEN: Often = Often {
     rounds: 200,
     calls: 200,
@@ -29,10 +34,10 @@ const ENTRIES: [usize; 2] = [0, MOST_ENTRIES];
 
 /// The numbers that a call returns, the answer first.
 type Numbers = [u32; 4];
-type Call = fn(&Archive, &Card, &mut Lent) -> Numbers;
+type Call<C> = fn(&Archive, &C, &mut Lent) -> Numbers;
 
 /// The rows, each with the answer of both sides.
-const ROWS: [(&str, Call, u32); 4] = [
+const ROWS: [(&str, Call<Card>, u32); 4] = [
     ("pull", pull, 0),
     ("lookup", lookup, 0),
     ("compare of what the pull listed", compare, 15),
@@ -50,6 +55,12 @@ struct Card {
 fn main() -> ExitCode {
     let earlier = env::args().nth(1).expect("what the earlier archive is");
     let mut agreed = Agreed::default();
+    print_by_entries(&earlier, &mut agreed);
+    depths::print(&earlier, &mut agreed);
+    agreed.finish()
+}
+
+fn print_by_entries(earlier: &str, agreed: &mut Agreed) {
     let cards = ENTRIES.map(card);
     let mut table = Table::new(ENTRIES.iter().map(usize::to_string));
     for (label, call, answer) in ROWS {
@@ -65,7 +76,6 @@ fn main() -> ExitCode {
         "The archive beside an earlier one, {earlier}, by entries of the NAT journal
    its time as a part of the earlier one's, in this run; lower is better, below 1 is faster"
     ));
-    agreed.finish()
 }
 
 fn card(entries: usize) -> Card {
@@ -82,7 +92,7 @@ fn card(entries: usize) -> Card {
 }
 
 /// Whether both give this answer, the same numbers and the same bytes.
-fn is_same(call: Call, card: &Card, answer: u32) -> bool {
+fn is_same<C>(call: Call<C>, card: &C, answer: u32) -> bool {
     let [now, before] = ARCHIVES.each_ref().map(|archive| {
         let mut lent = Lent::default();
         (call(archive, card, &mut lent), lent)
@@ -90,7 +100,7 @@ fn is_same(call: Call, card: &Card, answer: u32) -> bool {
     now.0[0] == answer && now == before
 }
 
-fn sides(call: Call, card: &Card) -> Vec<Contender<'_>> {
+fn sides<C>(call: Call<C>, card: &C) -> Vec<Contender<'_>> {
     let side = |archive| {
         let mut lent = Lent::default();
         contender(move || call(archive, black_box(card), &mut lent))
@@ -99,8 +109,12 @@ fn sides(call: Call, card: &Card) -> Vec<Contender<'_>> {
 }
 
 fn pull(archive: &Archive, card: &Card, lent: &mut Lent) -> Numbers {
+    pull_from(archive, &card.kept.image, NAME, lent)
+}
+
+fn pull_from(archive: &Archive, image: &[u8], name: &str, lent: &mut Lent) -> Numbers {
     let (block, nodes, blocks) = (&mut lent.block, &mut lent.nodes, &mut lent.blocks);
-    let it = (archive.pull)(&card.kept.image, NAME.as_bytes(), 0, block, nodes, blocks);
+    let it = (archive.pull)(image, name.as_bytes(), 0, block, nodes, blocks);
     [it.answer, it.byte_count, it.node_count, it.block_count]
 }
 

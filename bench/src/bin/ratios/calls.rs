@@ -116,18 +116,29 @@ pub fn lookups<'a>(
     vec![contender(archive), contender(reference)]
 }
 
-/// Both sides pull a file's first block.
+/// Both sides pull a file's first block, which has data.
 pub fn first_block<'a>(
     image: &'a [u8],
     name: &'a str,
     what: &str,
     agreed: &mut Agreed,
 ) -> Vec<Contender<'a>> {
+    same_pulls(image, name, 0, what, agreed)
+}
+
+/// Both sides pull a file's first block and have to give this answer, and the same numbers, bytes and lists.
+pub fn same_pulls<'a>(
+    image: &'a [u8],
+    name: &'a str,
+    answer: u32,
+    what: &str,
+    agreed: &mut Agreed,
+) -> Vec<Contender<'a>> {
     let [archive, reference] = PULLS.map(|pull| {
         let mut lent = Lent::default();
-        (pull(image, name.as_bytes(), 0, &mut lent), lent.block)
+        (pull(image, name.as_bytes(), 0, &mut lent), lent)
     });
-    agreed.see(archive.0.answer == 0 && archive == reference, what);
+    agreed.see(archive.0.answer == answer && archive == reference, what);
     PULLS.map(|pull| pulling(pull, image, name, 0..1)).into()
 }
 

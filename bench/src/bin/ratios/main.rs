@@ -2,9 +2,11 @@
 
 mod calls;
 mod cards;
+mod directory_levels;
 mod journal;
 mod journalled;
 mod levels;
+mod roots;
 mod segments;
 mod versions;
 mod whole;
@@ -33,6 +35,7 @@ fn main() -> ExitCode {
     checksum(&mut agreed);
     packs_by_version(&mut agreed);
     journals_by_entries(&mut agreed);
+    pulls_by_directory_level(&mut agreed);
     agreed.finish()
 }
 
@@ -49,7 +52,7 @@ Every number in the tables is a ratio of two times of this run. No time is claim
               both are built for release
   GRUB        its F2FS reader, by {}
   cards       written by mkfs.f2fs {OPTIONS} and sload.f2fs, sparse files, mapped for reading; those of
-              tables 4, 5, 8 and 9 are built in memory
+              tables 4, 5 and 8 to 10 are built in memory
   buffers     warm: each card is in the page cache, mapped and read before; what is lent to a pull is
               lent again to the next one, and not cleared in between
   times       the processor's, user and system, children included: other load shows only where it
@@ -118,9 +121,9 @@ fn growth_with_levels(agreed: &mut Agreed) {
     let added = grid.added(ARCHIVE, REFERENCE);
     table.late_row("the same, of what is added to depth 1", 1, &added);
     table.print(
-        "4. Growth with the root directory, by its depth (levels); a pull whose name comes last
-   both blocks of its bucket in every level are full, and the name is in the last slot of the last;
-   lower is better. 10 levels take some 400,000 short names; behind 29 no level has blocks",
+        "4. Growth with the root directory, by its depth (hash levels); a pull whose name comes last
+   both blocks of its bucket in every one are full, and the name is in the last slot of the last;
+   lower is better. 10 of them take some 400,000 short names; behind 29 none has blocks",
     );
 }
 
@@ -180,7 +183,8 @@ fn checksum(agreed: &mut Agreed) {
 
 fn packs_by_version(agreed: &mut Agreed) {
     let grids = versions::by_versions(agreed);
-    let table = pulls_and_lookups(versions::heads(), grids, "versions 1, 2");
+    let rows = ["pull", "lookup"].into_iter().zip(grids);
+    let table = beside_first(versions::heads(), rows, "versions 1, 2");
     table.print(
         "8. Two packs, the second in use: plain versions, versions that wrapped, and no first pack
    time as a part of reference/'s, then as a multiple of the same side's with versions 1, 2; lower is
@@ -191,7 +195,8 @@ fn packs_by_version(agreed: &mut Agreed) {
 
 fn journals_by_entries(agreed: &mut Agreed) {
     let grids = journal::by_entries(agreed);
-    let table = pulls_and_lookups(journal::heads(), grids, "empty journal");
+    let rows = ["pull", "lookup"].into_iter().zip(grids);
+    let table = beside_first(journal::heads(), rows, "empty journal");
     table.print(
         "9. The NAT journal by its entries, in plain packs and then, a full one, in compact packs
    time as a part of reference/'s, then as a multiple of the same side's with an empty journal in plain
@@ -200,10 +205,29 @@ fn journals_by_entries(agreed: &mut Agreed) {
     );
 }
 
+fn pulls_by_directory_level(agreed: &mut Agreed) {
+    let grids = directory_levels::by_directory_level(agreed);
+    let labels = ["near", "far out", "no name"];
+    let heads = directory_levels::LEVELS.iter().map(u8::to_string);
+    let table = beside_first(heads, labels.into_iter().zip(grids), "level 0");
+    table.print(
+        "10. A pull by the root's directory level
+   time as a part of reference/'s, then as a multiple of the same side's at level 0; lower is better.
+   Near: depth 1, the name in the first slot of the first block; the cards differ in the level alone, and
+   1 is a level that costs nothing. Far out: the same in the block where the level has the name, at 16
+   behind two nodes more, from 22 on behind three. No name: depth 63 and no blocks; the higher the level,
+   the fewer hash levels lie within a file",
+    );
+}
+
 /// Rows beside the reference, and beside the first column, which has a name.
-fn pulls_and_lookups(heads: impl Iterator<Item = String>, grids: [Grid; 2], first: &str) -> Table {
+fn beside_first<'a>(
+    heads: impl Iterator<Item = String>,
+    rows: impl Iterator<Item = (&'a str, Grid)>,
+    first: &str,
+) -> Table {
     let mut table = Table::new(heads);
-    for (label, grid) in ["pull", "lookup"].iter().zip(grids) {
+    for (label, grid) in rows {
         let parts = grid.parts(ARCHIVE, REFERENCE);
         table.row(&format!("{label}, archive to reference/"), &parts);
         for (side, name) in [(ARCHIVE, "archive"), (REFERENCE, "reference/")] {
