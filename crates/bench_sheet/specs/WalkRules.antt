@@ -289,11 +289,12 @@ abbrev root : ℕ → ℕ → ℕ → ℕ → ℕ → List ℕ
 root mode size depth level flag =
     lists (λ ino. 0) (λ n. Entry n 4096) (λ b. footed (inodeBlock mode 0 size depth level) 3 3 flag) (rootWalk main (97 ∷ []))
 
--- a root with a level, whose block i is at 5000 + i, and empty
+-- n numbers from i on
 abbrev counting : ℕ → ℕ → List ℕ
 counting zero i = []
 counting (suc n) i = i ∷ counting n (i + 1)
 
+-- a root with a level, whose block i is at 5000 + i, and empty
 abbrev bigRoot : ℕ → ℕ → List ℕ
 bigRoot level depth =
     let front = inodeBlock 0x4000 0 1 depth level in

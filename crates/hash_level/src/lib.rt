@@ -54,7 +54,8 @@ pub fn first_blocks(dir_level: usize) -> [u64; 63]
     }
 }
 
-// That of directory level 0, which nearly every directory has: without a choice among the others it costs a pull half as much.
+// That of directory level 0, which nearly every directory has, by itself: without a choice among the others, the table adds half as
+// much to a pull.
 pub fn level_0_blocks() -> [u64; 63]
     ensures { λ r. ⌜ IsTable 0 r ⌝ }
 {

@@ -2,10 +2,10 @@
 
 mod calls;
 mod cards;
+mod depths;
 mod directory_levels;
 mod journal;
 mod journalled;
-mod levels;
 mod roots;
 mod segments;
 mod versions;
@@ -29,7 +29,7 @@ fn main() -> ExitCode {
     beside_reference(&cards, &calls);
     beside_itself(&cards, &calls);
     growth_with_card(&cards, &calls);
-    growth_with_levels(&mut agreed);
+    growth_with_depth(&mut agreed);
     growth_with_segments(&mut agreed);
     whole_files(&whole::columns(&cards, &files), &mut agreed);
     checksum(&mut agreed);
@@ -112,9 +112,9 @@ fn growth_with_card(cards: &[Card], calls: &Calls) {
     );
 }
 
-fn growth_with_levels(agreed: &mut Agreed) {
-    let grid = levels::levels(agreed);
-    let mut table = Table::new(levels::DEPTHS.iter().map(u32::to_string));
+fn growth_with_depth(agreed: &mut Agreed) {
+    let grid = depths::depths(agreed);
+    let mut table = Table::new(depths::DEPTHS.iter().map(u32::to_string));
     table.row("archive to its depth 1", &grid.growth(ARCHIVE));
     table.row("reference/ to its depth 1", &grid.growth(REFERENCE));
     table.row("archive to reference/", &grid.parts(ARCHIVE, REFERENCE));

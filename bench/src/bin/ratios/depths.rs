@@ -8,7 +8,7 @@ use harptimber_bench::grid::Grid;
 /// Up to the last hash level that lies within a file, with room for the name's bucket.
 pub const DEPTHS: [u32; 9] = [1, 2, 3, 4, 6, 8, 10, 16, 29];
 
-pub fn levels(agreed: &mut Agreed) -> Grid {
+pub fn depths(agreed: &mut Agreed) -> Grid {
     let images = DEPTHS.map(full);
     let columns = DEPTHS.iter().zip(&images).map(|(depth, image)| {
         let what = format!("a pull through {depth} levels");
