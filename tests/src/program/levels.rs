@@ -6,6 +6,7 @@ use crate::cards::card::{Card, Passage, ROOT};
 use crate::cards::directory::{Dentry, Linked, BUCKET_BLOCKS};
 use crate::cards::layout::dentry::NR_DENTRY_IN_BLOCK;
 use crate::cards::layout::inode::{I_CURRENT_DEPTH, I_DIR_LEVEL};
+use crate::cards::names::LAST_NAMES;
 use crate::cards::one_file::small_knobs;
 use crate::cards::tree::last_index;
 use crate::program::card::Put;
@@ -120,16 +121,26 @@ pub struct LeveledCard {
 impl LeveledCard {
     /// A file in each of these hash levels, of a block and a half. Depth 63 reaches past the last of them.
     pub fn new(random: &mut Random, level: u8, inline: u64, hash_levels: &[u32]) -> LeveledCard {
-        let knobs = small_knobs(random);
-        let mut card = Card::new(knobs, Random::new(random.number()));
-        card.add_root(inline, 63);
-        set_level(&mut card, level, 63);
+        let mut card = empty_card(random, level, inline);
         let mut files = Vec::new();
         for (nth, &n) in hash_levels.iter().enumerate() {
-            files.push(place(&mut card, n, nth as u32 % BUCKET_BLOCKS));
+            let name = name_in(&card, n, &format!("in {n}, file")).into_bytes();
+            files.push(place(&mut card, name, n, nth as u32 % BUCKET_BLOCKS));
         }
         card.image
             .settle(&format!("a directory of level {level}, inline {inline}"));
+        LeveledCard { card, level, files }
+    }
+
+    /// A file whose entry is in the block at the last index: of its bucket in the last hash level that is the only block.
+    pub fn at_the_last_index(random: &mut Random, level: u8, inline: u64) -> LeveledCard {
+        let mut card = empty_card(random, level, inline);
+        let [with_many, _, with_few, _] = LAST_NAMES[usize::from(level)];
+        let name = if inline == 0 { with_many } else { with_few };
+        let file = place(&mut card, name.into(), in_reach(level) - 1, 0);
+        card.image
+            .settle(&format!("the last block at level {level}, inline {inline}"));
+        let files = vec![file];
         LeveledCard { card, level, files }
     }
 
@@ -145,6 +156,15 @@ impl LeveledCard {
     }
 }
 
+/// A card without a file. Depth 63 is the most that is read.
+fn empty_card(random: &mut Random, level: u8, inline: u64) -> Card {
+    let knobs = small_knobs(random);
+    let mut card = Card::new(knobs, Random::new(random.number()));
+    card.add_root(inline, 63);
+    set_level(&mut card, level, 63);
+    card
+}
+
 /// A name that leads to a block in reach in this hash level.
 fn name_in(card: &Card, n: u32, start: &str) -> String {
     let mut names = (0..).map(|number| format!("{start} {number}"));
@@ -153,8 +173,7 @@ fn name_in(card: &Card, n: u32, start: &str) -> String {
     found.expect("a name")
 }
 
-fn place(card: &mut Card, n: u32, nth: u32) -> Placed {
-    let name = name_in(card, n, &format!("in {n}, file")).into_bytes();
+fn place(card: &mut Card, name: Vec<u8>, n: u32, nth: u32) -> Placed {
     let size = 6000;
     let ino = card.add_file(0, size);
     let blocks = [0, 1].map(|index| (index, card.add_block(ino, index)));

@@ -9,7 +9,7 @@ use std::process::Command;
 
 use reference::lookup::node_lookup;
 
-use harptimber_tests::cards::card::{Card, Node, ROOT};
+use harptimber_tests::cards::card::{addresses_by, Card, Node, ROOT};
 use harptimber_tests::cards::directory::in_slot;
 use harptimber_tests::cards::image::Image;
 use harptimber_tests::cards::layout::dentry::NAME_LEN;
@@ -19,6 +19,7 @@ use harptimber_tests::cards::layout::Field;
 use harptimber_tests::cards::on_disk::OnDisk;
 use harptimber_tests::cards::random::pick;
 use harptimber_tests::cards::sparse::Sparse;
+use harptimber_tests::cards::tree::last_index;
 use harptimber_tests::cards::walk_damage::strike_block;
 use harptimber_tests::program::card::{ProgramCard, LONG, OUTSIDE, ROAD};
 use harptimber_tests::program::compares;
@@ -330,20 +331,17 @@ fn stops() {
     assert!((1..=4).all(|len| steps.contains(&(1, len))), "{steps:?}");
 }
 
-/// The last hash level in reach, and none behind it: a name that leads past the last index is not there, whatever the depth.
+/// The same in the block at the last index, which the program's walk has to read too. It is the first of its bucket, and
+/// the second isn't there any more.
 #[test]
-fn past_the_last_index() {
+fn stops_at_the_last_index() {
     let mut random = Random::new(96);
-    for level in [22, 23, 29, 30] {
-        let last = in_reach(level) - 1;
-        let LeveledCard { mut card, .. } = LeveledCard::new(&mut random, level, 0, &[last]);
-        for depth in [last + 1, last + 2, 63] {
-            set_level(&mut card, level, depth);
-            let disk = OnDisk::new(card.image.clone());
-            for number in 0..20 {
-                let name = format!("missing {number}").into_bytes();
-                assert_eq!(expect_json(&disk, &disk.image, &name, 0), 2);
-            }
+    for level in LEVELS {
+        for inline in [0, INLINE_XATTR] {
+            let card = LeveledCard::at_the_last_index(&mut random, level, inline);
+            let file = card.files[0].clone();
+            assert_eq!(card.index(&file), last_index(addresses_by(inline)));
+            Stage::new(card).expect_at_block(&file);
         }
     }
 }
