@@ -18,7 +18,7 @@ pub fn good_name(random: &mut Random, len: usize) -> Vec<u8> {
     (0..len).map(|_| good_byte(random)).collect()
 }
 
-/// A name whose hash does as asked, which one of a few thousand should.
+/// A name whose hash does as asked. One in a million should: each of that many takes a moment to try.
 pub fn name_with(random: &mut Random, len: usize, asked: impl Fn(u32) -> bool) -> Vec<u8> {
     loop {
         let name = good_name(random, len);

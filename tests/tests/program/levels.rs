@@ -38,7 +38,8 @@ use crate::pull::expect_json;
 use crate::reasons::{expect_reason, write_places};
 use crate::{cat, ls, pull, words};
 
-/// At 23 and 29 the last hash level in reach is cut by the last index, and at 30 the first.
+/// The last index cuts the last hash level in reach at each of them. At 29 and 30 that is the first one, and 23 has as many
+/// in reach as 22.
 const LEVELS: [u8; 7] = [0, 1, 4, 22, 23, 29, 30];
 
 /// Levels that aren't read.
@@ -368,7 +369,7 @@ fn level_of_a_file() {
     }
 }
 
-/// Damages what a search comes by on levelled cards. Returns how often each answer came.
+/// Damages what a search comes by on leveled cards. Returns how often each answer came.
 fn damage(seed: u64, cards: u32, damages: u32, run: impl Fn(Words) -> Ran) -> [u32; 15] {
     let mut random = Random::new(seed);
     let mut answers = [0; 15];

@@ -1,4 +1,4 @@
-//! Pull: the levels, buckets and blocks of a root directory without a level of its own.
+//! Pull: the hash levels, buckets and blocks of a root directory without a level of its own.
 
 use reference::hash::raw_hash;
 
@@ -25,8 +25,8 @@ fn for_deep(pulls: &mut Pulls, names: u64, test: impl Fn(&mut Pulls, Deep)) {
 }
 
 #[test]
-fn every_level() {
-    let mut pulls = Pulls::new("pull from every directory level");
+fn every_hash_level() {
+    let mut pulls = Pulls::new("pull from every hash level");
     for_deep(&mut pulls, 8, |pulls, mut deep| deep.try_every_block(pulls));
     pulls.finish(8 * 2 * 56 * (1 + 3 * 2), &[0, 2]);
 }

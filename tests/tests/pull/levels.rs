@@ -171,7 +171,7 @@ fn blocks_by_hand() {
             deep.expect_missing(&mut pulls, blocks.len());
         }
     }
-    pulls.finish(2 * (9 + 2 * 2 * 38), &[0, 2]);
+    pulls.finish(2 * (9 + 2 * 2 * 44), &[0, 2]);
 }
 
 #[test]
