@@ -1,35 +1,26 @@
 //! Cards whose root directory has a directory level: what each command says of them in words and as JSON, and that the
 //! program's walk stops where the library does.
 
-use std::ffi::OsStr;
-use std::fs;
-use std::os::unix::ffi::OsStrExt;
 use std::path::PathBuf;
-use std::process::Command;
-
-use reference::lookup::node_lookup;
 
 use harptimber_tests::cards::card::{addresses_by, Card, Node, ROOT};
-use harptimber_tests::cards::directory::in_slot;
-use harptimber_tests::cards::image::Image;
+use harptimber_tests::cards::directory::{in_slot, DirLevel};
 use harptimber_tests::cards::layout::dentry::NAME_LEN;
 use harptimber_tests::cards::layout::footer;
 use harptimber_tests::cards::layout::inode::*;
 use harptimber_tests::cards::layout::Field;
 use harptimber_tests::cards::on_disk::OnDisk;
 use harptimber_tests::cards::random::pick;
-use harptimber_tests::cards::sparse::Sparse;
 use harptimber_tests::cards::tree::last_index;
 use harptimber_tests::cards::walk_damage::strike_block;
 use harptimber_tests::program::card::{ProgramCard, LONG, OUTSIDE, ROAD};
 use harptimber_tests::program::compares;
-use harptimber_tests::program::levels::{
-    in_reach, set_level, some_hash_levels, LeveledCard, Placed, MOST_LEVEL,
-};
+use harptimber_tests::program::levels::{some_hash_levels, LeveledCard, Placed, MOST_LEVEL};
 use harptimber_tests::program::page::{expect_head, meaning};
 use harptimber_tests::program::special_build::SpecialBuild;
 use harptimber_tests::program::{run, Ran, Words};
-use harptimber_tests::tools::published::{self, contents, File, Scratch};
+use harptimber_tests::tools::fsck::fsck;
+use harptimber_tests::tools::published::{contents, filled_with_level, root_block, File, Scratch};
 use harptimber_tests::trial::Random;
 
 use crate::compare::{self, Cards};
@@ -135,13 +126,16 @@ fn answer_with(card: &Card, (field, value): (Field, u64), name: &[u8]) -> u32 {
 #[test]
 fn names_found_by_no_pull() {
     each_card(92, |LeveledCard { card, level, files }| {
-        for Placed { put, bucket, .. } in files {
+        for Placed {
+            put, hash_level, ..
+        } in files
+        {
             let with = |field, value| answer_with(&card, (field, value), &put.name);
             assert_eq!(with(I_SIZE, 0), 2);
-            assert_eq!(with(I_CURRENT_DEPTH, u64::from(bucket.n)), 2);
-            assert_eq!(with(I_CURRENT_DEPTH, u64::from(bucket.n) + 1), 0);
+            assert_eq!(with(I_CURRENT_DEPTH, u64::from(hash_level)), 2);
+            assert_eq!(with(I_CURRENT_DEPTH, u64::from(hash_level) + 1), 0);
             let beside = with(I_DIR_LEVEL, u64::from(level) + 1);
-            let expected: &[u32] = match (level, bucket.n) {
+            let expected: &[u32] = match (level, hash_level) {
                 (MOST_LEVEL, _) => &[12],
                 // Half of the names in the first hash level stay where they are.
                 (_, 0) => &[0, 2],
@@ -155,7 +149,8 @@ fn names_found_by_no_pull() {
 /// A card with a level that isn't read, and its files.
 fn refused_card(level: u8) -> (OnDisk, Vec<Placed>) {
     let mut card = LeveledCard::new(&mut Random::new(93), 4, 0, &[0, 3]);
-    set_level(&mut card.card, level, 63);
+    let root = card.card.inode_block(ROOT);
+    card.card.image.set(root, I_DIR_LEVEL, level.into());
     (OnDisk::new(card.card.image), card.files)
 }
 
@@ -283,7 +278,7 @@ impl Stage {
     /// Of a file whose entry is found, in its hash level: 14 and 13.
     fn expect_at_block(&mut self, file: &Placed) {
         let areas = self.card.card.image.areas;
-        let (index, end) = (self.card.index(file), areas.main_end);
+        let (index, end) = (file.index, areas.main_end);
         let (block, slot) = (file.linked.block, file.linked.slot);
         let whose = format!("(block {index} of the root directory)");
         let malformed =
@@ -341,7 +336,7 @@ fn stops_at_the_last_index() {
         for inline in [0, INLINE_XATTR] {
             let card = LeveledCard::at_the_last_index(&mut random, level, inline);
             let file = card.files[0].clone();
-            assert_eq!(card.index(&file), last_index(addresses_by(inline)));
+            assert_eq!(file.index, last_index(addresses_by(inline)));
             Stage::new(card).expect_at_block(&file);
         }
     }
@@ -427,11 +422,11 @@ fn every_level_under_sanitizers() {
     let build = SpecialBuild::sanitized();
     let mut random = Random::new(99);
     for level in 0..=MOST_LEVEL {
-        let last = in_reach(level) - 1;
+        let last = DirLevel(level.into()).in_reach() - 1;
         let mut stage = Stage::new(LeveledCard::new(&mut random, level, 0, &[last]));
         let file = stage.card.files[0].clone();
-        let index = stage.card.index(&file);
-        let outside = |card: &mut Card| card.set_address(ROOT, index, card.image.areas.main_end);
+        let outside =
+            |card: &mut Card| card.set_address(ROOT, file.index, card.image.areas.main_end);
         stage.with(outside, |stage| {
             let call = (file.put.name.as_slice(), 0);
             let run = |words: Words| build.run(words);
@@ -441,29 +436,11 @@ fn every_level_under_sanitizers() {
     }
 }
 
-/// The root's inode on a card of the published tools.
-fn root_of(image: &Image) -> u32 {
-    let entry = node_lookup(image.bytes(), ROOT);
-    entry.expect("the root's inode").1
-}
-
 /// A card of the published tools that was filled while its root directory had this level; fsck.f2fs finds nothing wrong.
 fn published_card(level: u8, files: &[File]) -> OnDisk {
-    let scratch = Scratch::new();
-    let (folder, path) = (scratch.path("files"), scratch.image_path());
-    fs::create_dir(&folder).unwrap();
-    for (name, bytes) in files {
-        fs::write(folder.join(OsStr::from_bytes(name)), bytes).unwrap();
-    }
-    let mut image = published::formatted(200, "");
-    image.set(root_of(&image), I_DIR_LEVEL, level.into());
-    image.save(&path);
-    published::run(Command::new("sload.f2fs").arg("-f").args([&folder, &path]));
-    published::run(Command::new("fsck.f2fs").arg("--dry-run").arg(&path));
-    let file = fs::File::open(&path).unwrap();
-    let origin = format!("a published card of level {level}");
-    let image = Image::read(origin, Sparse::read(&file));
-    assert_eq!(image.get(root_of(&image), I_DIR_LEVEL), level.into());
+    let image = filled_with_level(200, level.into(), files);
+    assert_eq!(image.get(root_block(&image), I_DIR_LEVEL), level.into());
+    assert!(fsck(&image).sound, "{image:?}");
     OnDisk::new(image)
 }
 
