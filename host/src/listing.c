@@ -141,7 +141,7 @@ static void list_node(struct listing *listing, uint32_t number, uint32_t place, 
     }
 }
 
-/* Every block of the root directory, whatever its size and its depth are. */
+/* Every block of the root directory, whatever its size, its depth and its directory level are. */
 static void list_blocks(struct listing *listing, const uint8_t *root)
 {
     static const uint32_t heights[INODE_NODES] = {1, 1, 2, 2, 3};

@@ -276,7 +276,7 @@ fn damage_sits(script: &mut Script, random: &mut Random, damages: u64) {
 
 /// A directory with a level of its own: its name in none of the blocks in which it is sought, in the first and in the
 /// last. Then the directory says that it has these levels.
-fn levelled(script: &mut Script, random: &mut Random, level: u32, others: &[u64]) {
+fn leveled(script: &mut Script, random: &mut Random, level: u32, others: &[u64]) {
     let mut deep = Deep::reaching(random, DirLevel(level), 0);
     let sound = deep.card.image.clone();
     let root = deep.card.inode_block(ROOT);
@@ -348,10 +348,10 @@ fn guard_pages() {
         damage_files(&mut script, &mut random, 150);
     }
     for level in [0, 1, 22, 23, 29] {
-        levelled(&mut script, &mut random, level, &[0, 30, 31, 255]);
+        leveled(&mut script, &mut random, level, &[0, 30, 31, 255]);
     }
     let every_level: Vec<u64> = (0..=255).collect();
-    levelled(&mut script, &mut random, 30, &every_level);
+    leveled(&mut script, &mut random, 30, &every_level);
     damage_published(&mut script, &mut random, 200);
     damage_sits(&mut script, &mut random, 150);
     script.card(&off_card());
@@ -370,7 +370,7 @@ fn valgrind() {
         damage_files(&mut script, &mut random, 100);
     }
     for level in [3, 30] {
-        levelled(&mut script, &mut random, level, &[0, 29, 30, 31, 32, 255]);
+        leveled(&mut script, &mut random, level, &[0, 29, 30, 31, 32, 255]);
     }
     damage_published(&mut script, &mut random, 60);
     damage_sits(&mut script, &mut random, 60);

@@ -7,6 +7,7 @@ use crate::cards::image::Image;
 use crate::cards::layout::dentry::*;
 use crate::cards::layout::inode::I_DIR_LEVEL;
 use crate::cards::layout::Field;
+use crate::cards::tree::last_index;
 
 /// Blocks of a bucket in each hash level that has a block below the last index of a file.
 pub const BUCKET_BLOCKS: u32 = 2;
@@ -177,6 +178,8 @@ impl Card {
     /// A block of the bucket that a hash leads to; an empty one where there is none yet.
     pub fn bucket_block(&mut self, level: u32, hash: u32, nth: u32) -> u32 {
         let index = self.dir_level().index(level, hash, nth);
+        let last = last_index(self.addresses(ROOT));
+        assert!(index <= last.into(), "block {index} is past {last}");
         self.directory_block(index as u32)
     }
 

@@ -18,7 +18,7 @@ pub fn good_name(random: &mut Random, len: usize) -> Vec<u8> {
     (0..len).map(|_| good_byte(random)).collect()
 }
 
-/// A name whose hash does as asked, which one of a few thousand should.
+/// A name whose hash does as asked. One in a million should: each of that many takes a moment to try.
 pub fn name_with(random: &mut Random, len: usize, asked: impl Fn(u32) -> bool) -> Vec<u8> {
     loop {
         let name = good_name(random, len);
@@ -39,3 +39,40 @@ pub fn colliding_names(random: &mut Random, len: usize) -> [Vec<u8>; 2] {
         }
     }
 }
+
+/// For each directory level, with many addresses and with few: a name of which the last block in reach is the first of
+/// its bucket, at the very last index, and one that leads to the next bucket.
+#[rustfmt::skip]
+pub const LAST_NAMES: [[&str; 4]; 31] = [
+    ["aydffoa", "ayryzjv", "afsbsrw", "acdsslr"],
+    ["ayryzjv", "aolizmv", "acdsslr", "bayzeuw"],
+    ["aqtnxpk", "bulwvep", "bfmiwtr", "ahmlxso"],
+    ["axhqowr", "cqafrjt", "antqvuy", "abwetfb"],
+    ["ajfiusj", "akdwlqg", "acdtaky", "bcknpeq"],
+    ["aadgasm", "attskzm", "acyqkho", "axhqowr"],
+    ["aghmbts", "aydzfeo", "aazetxg", "aedjoew"],
+    ["dcgkkeg", "corlntv", "avvolhf", "bgoeozm"],
+    ["aiouvmk", "bjxfjpv", "akninzh", "btbsqpu"],
+    ["atgitke", "amojvvv", "atyvngs", "atwkwhe"],
+    ["bllssta", "ajgbgap", "cvyakjv", "aqnfhdg"],
+    ["ceuqcbh", "absuhyw", "agtneem", "bcwakfd"],
+    ["cdekdby", "btfucaq", "aakvntb", "akgwqfv"],
+    ["ajtjwtb", "avlssip", "ajfjkah", "aovarca"],
+    ["bdtpxzu", "campkqg", "aeezdrm", "bawfuxz"],
+    ["avhybxa", "aeqcack", "agccrks", "aiptuwu"],
+    ["cpdchto", "alvatis", "baomtlt", "brpevew"],
+    ["asjoaqq", "acmmlyb", "adqtbwl", "alhsztd"],
+    ["aycxeln", "bpdbfjf", "alvxybo", "agarzet"],
+    ["axgmtfy", "bvagqzk", "bzagfsi", "awlebsd"],
+    ["aookxhm", "axpseoq", "abihuqx", "amyqlru"],
+    ["agznbmw", "bcultog", "aynxwzi", "bpixpuk"],
+    ["argqsms", "abnlzqb", "cjpesxo", "befujty"],
+    ["bfrvdac", "aknlgzh", "apgjvco", "bgzwzlf"],
+    ["dbgbari", "apaomip", "arqqozq", "abvkreq"],
+    ["bimrttq", "dfftsqp", "awibpdt", "abpeftm"],
+    ["dbdjlrj", "ciyemog", "aiprgaz", "bzzoeuo"],
+    ["dxjpzmn", "atsbbzy", "avhqgtt", "agvjrrl"],
+    ["egknxdz", "aydffoa", "bjgfsft", "afsbsrw"],
+    ["cyeibba", "cbhlnsf", "bdgdoof", "bcszlka"],
+    ["dvvsblo", "eejgqqn", "dvbqcce", "bcszlka"],
+];

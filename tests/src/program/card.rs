@@ -10,7 +10,7 @@ use reference::hash::raw_hash;
 use crate::calls::lent::Lent;
 use crate::calls::pulls::{reference_pull, Call, Outcome};
 use crate::cards::card::Card;
-use crate::cards::directory::Dentry;
+use crate::cards::directory::{Dentry, DirLevel};
 use crate::cards::image::Image;
 use crate::cards::knobs::{Knobs, Pack};
 use crate::cards::layout::inode::{ADDRESSES, INLINE_DATA, I_MODE, S_IFDIR};
@@ -20,7 +20,6 @@ use crate::cards::layout::{footer, BLOCK_SIZE, SEGMENT_BLOCKS};
 use crate::cards::on_disk::{OnDisk, Shared};
 use crate::cards::one_file::small_knobs;
 use crate::cards::random::shuffle;
-use crate::program::levels::{bucket_block, link, set_level, Bucket};
 use crate::trial::Random;
 
 pub const ROAD: &[u8] = b"road.bin";
@@ -126,8 +125,7 @@ impl ProgramCard {
 
     /// These segments have valid blocks.
     fn on(mut card: Card, segments: Range<u32>, level: u8) -> ProgramCard {
-        card.add_root(0, 2);
-        set_level(&mut card, level, 2);
+        card.add_root_with(DirLevel(level.into()), 0, 2);
         let files = readable(&mut card);
         let (outside, refused) = unreadable(&mut card);
         let unused = [0, 77].map(|ino| {
@@ -199,7 +197,7 @@ pub fn put(card: &mut Card, name: &[u8], size: u64, data: &[u32]) -> Put {
         .iter()
         .map(|&index| (index, card.add_block(ino, index)));
     let blocks = blocks.collect();
-    link(card, 0, 0, &Dentry::new(name, ino));
+    card.link(0, 0, &Dentry::new(name, ino));
     Put {
         name: name.to_vec(),
         ino,
@@ -240,7 +238,7 @@ fn readable(card: &mut Card) -> Vec<Put> {
     ];
     files.push(put_repeating(card));
     for name in NAMES {
-        link(card, 0, 0, &Dentry::new(name, road.ino));
+        card.link(0, 0, &Dentry::new(name, road.ino));
         files.push(Put {
             name: name.to_vec(),
             ..road.clone()
@@ -267,11 +265,11 @@ fn unreadable(card: &mut Card) -> (Put, Vec<Refused>) {
     let foreign = of_a_node(card, "foreign node");
     card.image.set(foreign.block, footer::NID, 77);
     let ino = card.add_file(INLINE_DATA, 100);
-    link(card, 0, 0, &Dentry::new(b"inline", ino));
+    card.link(0, 0, &Dentry::new(b"inline", ino));
     let folder = put(card, b"folder", 100, &[0]);
     let inode = card.inode_block(folder.ino);
     card.image.set(inode, I_MODE, S_IFDIR | 0o755);
-    link(card, 0, 0, &Dentry::new(b"no inode", 0));
+    card.link(0, 0, &Dentry::new(b"no inode", 0));
     let [missing, malformed] = malformed_level(card);
     let refused = [
         (missing.as_str(), 0, 2),
@@ -298,7 +296,7 @@ fn malformed_level(card: &mut Card) -> [String; 2] {
             .unwrap()
     });
     let too_long = Dentry::new(b"123456789", 5).under_hash_of(names[1].as_bytes());
-    let block = bucket_block(card, Bucket::of(names[1].as_bytes(), 1, 0));
+    let block = card.bucket_block(1, raw_hash(names[1].as_bytes()), 0);
     card.image.put_dentry(block, 213, &too_long);
     names
 }

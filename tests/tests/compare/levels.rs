@@ -2,7 +2,7 @@
 
 use harptimber_tests::calls::compares::{changed, Compares, Kept, SAME};
 use harptimber_tests::cards::card::ROOT;
-use harptimber_tests::cards::deep::Deep;
+use harptimber_tests::cards::deep::{all_blocks, Deep};
 use harptimber_tests::cards::directory::DirLevel;
 use harptimber_tests::cards::image::Image;
 use harptimber_tests::cards::layout::inode::{INLINE_XATTR, I_DIR_LEVEL};
@@ -94,7 +94,7 @@ fn levels_of_the_file() {
     compares.finish(CARDS * 2, &[(15, 0, 0), (16, 0, 3)]);
 }
 
-/// Every block on the way, and a block of the directory where the name would be with another level.
+/// Every block on the way.
 #[test]
 fn blocks_of_the_directory() {
     let mut compares = Compares::new("compare with another block of a directory with a level");
@@ -111,7 +111,7 @@ fn blocks_of_the_directory() {
     compares.finish(CARDS * 6, &[(15, 0, 0), (16, 0, 3)]);
 }
 
-/// Entries with the name in the next buckets, where it isn't sought, and then none.
+/// Entries with the name where it isn't sought, in the next buckets and where it would be with another level, and then none.
 #[test]
 fn other_blocks_of_the_directory() {
     let mut compares = Compares::new("compare with an entry beside a directory's buckets");
@@ -120,11 +120,14 @@ fn other_blocks_of_the_directory() {
             let random = &mut compares.trial.random;
             let mut deep = Deep::reaching(random, DirLevel(level), inline);
             let next_buckets = deep.buckets.iter().map(|at| u64::from(at.index) + 2);
-            let mut beside: Vec<u64> = next_buckets.collect();
+            let others = [0, level + 1].map(DirLevel).into_iter();
+            let by_others = others.flat_map(|other| all_blocks(other, &deep.name));
+            let by_others = by_others.map(|(_, index)| index);
+            let mut beside: Vec<u64> = next_buckets.chain(by_others).collect();
             beside.retain(|&index| deep.link_astray(index));
             let blocks = beside.iter().filter_map(|&index| deep.card.block_at(index));
             let blocks: Vec<u32> = blocks.map(|(_, block)| block).collect();
-            assert!(!blocks.is_empty(), "blocks beside those of level {level}");
+            assert!(blocks.len() > 10, "blocks beside those of level {level}");
             deep.card.image.settle("entries beside the buckets");
             let (image, name) = (deep.card.image.clone(), deep.name.clone());
             let kept = Kept::new(&image, &name, 0);
@@ -134,7 +137,7 @@ fn other_blocks_of_the_directory() {
             }
         }
     }
-    compares.finish(2 * 5, &[(15, 0, 0)]);
+    compares.finish(2 * 5 * 11, &[(15, 0, 0)]);
 }
 
 /// A checkpoint after which a node is in another block: the root's inode, also with another level, and the last node on

@@ -88,7 +88,13 @@ fn paths() {
     assert!(found > 100, "{found} paths");
 }
 
-/// How large a card may be, and what level its root directory may have, wherever people look for it.
+/// Whether a page has these words, wherever its lines break.
+fn expect_words(page: &str, words: &str) {
+    let text = read(page).replace("\n * ", " ").replace('\n', " ");
+    assert!(text.contains(words), "no '{words}' in {page}");
+}
+
+/// How large a card may be, wherever people look for it.
 #[test]
 fn limits() {
     let gib = (u64::from(CARD_BLOCKS_MOST) * BLOCK_SIZE as u64) >> 30;
@@ -104,6 +110,31 @@ fn limits() {
         ),
         ("host/harptimber.1", format!("volumes of up to {gib} GiB")),
         ("host/harptimber.1", format!("but for at most {gib} GiB")),
+    ] {
+        expect_words(page, &words);
+    }
+}
+
+/// The first version that reads directories with a level: where an earlier one answered 12, this one may not.
+const READS_LEVELS: &str = "0.6.0";
+
+/// What level the root directory may have, and since when.
+#[test]
+fn directory_levels() {
+    for (page, words) in [
+        (
+            "README.md",
+            format!("directory level (`dir_level` in Linux) of up to {MOST_LEVEL}."),
+        ),
+        ("README.md", format!("a 12 of one before {READS_LEVELS}")),
+        (
+            "docs/C-API.md",
+            format!("From {READS_LEVELS} on a root directory with a level of 1 to {MOST_LEVEL}"),
+        ),
+        (
+            "host/include/harptimber.h",
+            format!("Before {READS_LEVELS} a root directory with any directory level"),
+        ),
         (
             "host/harptimber.1",
             format!("directory level of up to {MOST_LEVEL}"),
@@ -113,9 +144,7 @@ fn limits() {
             format!("its directory level (i_dir_level) is over {MOST_LEVEL}"),
         ),
     ] {
-        // Lines may break anywhere.
-        let text = read(page).replace("\n * ", " ").replace('\n', " ");
-        assert!(text.contains(&words), "no '{words}' in {page}");
+        expect_words(page, &words);
     }
 }
 

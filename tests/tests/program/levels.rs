@@ -1,34 +1,26 @@
 //! Cards whose root directory has a directory level: what each command says of them in words and as JSON, and that the
 //! program's walk stops where the library does.
 
-use std::ffi::OsStr;
-use std::fs;
-use std::os::unix::ffi::OsStrExt;
 use std::path::PathBuf;
-use std::process::Command;
 
-use reference::lookup::node_lookup;
-
-use harptimber_tests::cards::card::{Card, Node, ROOT};
-use harptimber_tests::cards::directory::in_slot;
-use harptimber_tests::cards::image::Image;
+use harptimber_tests::cards::card::{addresses_by, Card, Node, ROOT};
+use harptimber_tests::cards::directory::{in_slot, DirLevel};
 use harptimber_tests::cards::layout::dentry::NAME_LEN;
 use harptimber_tests::cards::layout::footer;
 use harptimber_tests::cards::layout::inode::*;
 use harptimber_tests::cards::layout::Field;
 use harptimber_tests::cards::on_disk::OnDisk;
 use harptimber_tests::cards::random::pick;
-use harptimber_tests::cards::sparse::Sparse;
+use harptimber_tests::cards::tree::last_index;
 use harptimber_tests::cards::walk_damage::strike_block;
 use harptimber_tests::program::card::{ProgramCard, LONG, OUTSIDE, ROAD};
 use harptimber_tests::program::compares;
-use harptimber_tests::program::levels::{
-    in_reach, set_level, some_hash_levels, LeveledCard, Placed, MOST_LEVEL,
-};
+use harptimber_tests::program::levels::{some_hash_levels, LeveledCard, Placed, MOST_LEVEL};
 use harptimber_tests::program::page::{expect_head, meaning};
 use harptimber_tests::program::special_build::SpecialBuild;
 use harptimber_tests::program::{run, Ran, Words};
-use harptimber_tests::tools::published::{self, contents, File, Scratch};
+use harptimber_tests::tools::fsck::fsck;
+use harptimber_tests::tools::published::{contents, filled_with_level, root_block, File, Scratch};
 use harptimber_tests::trial::Random;
 
 use crate::compare::{self, Cards};
@@ -37,7 +29,8 @@ use crate::pull::expect_json;
 use crate::reasons::{expect_reason, write_places};
 use crate::{cat, ls, pull, words};
 
-/// At 23 and 29 the last hash level in reach is cut by the last index, and at 30 the first.
+/// The last index cuts the last hash level in reach at each of them. At 29 and 30 that is the first one, and 23 has as many
+/// in reach as 22.
 const LEVELS: [u8; 7] = [0, 1, 4, 22, 23, 29, 30];
 
 /// Levels that aren't read.
@@ -133,13 +126,16 @@ fn answer_with(card: &Card, (field, value): (Field, u64), name: &[u8]) -> u32 {
 #[test]
 fn names_found_by_no_pull() {
     each_card(92, |LeveledCard { card, level, files }| {
-        for Placed { put, bucket, .. } in files {
+        for Placed {
+            put, hash_level, ..
+        } in files
+        {
             let with = |field, value| answer_with(&card, (field, value), &put.name);
             assert_eq!(with(I_SIZE, 0), 2);
-            assert_eq!(with(I_CURRENT_DEPTH, u64::from(bucket.n)), 2);
-            assert_eq!(with(I_CURRENT_DEPTH, u64::from(bucket.n) + 1), 0);
+            assert_eq!(with(I_CURRENT_DEPTH, u64::from(hash_level)), 2);
+            assert_eq!(with(I_CURRENT_DEPTH, u64::from(hash_level) + 1), 0);
             let beside = with(I_DIR_LEVEL, u64::from(level) + 1);
-            let expected: &[u32] = match (level, bucket.n) {
+            let expected: &[u32] = match (level, hash_level) {
                 (MOST_LEVEL, _) => &[12],
                 // Half of the names in the first hash level stay where they are.
                 (_, 0) => &[0, 2],
@@ -153,7 +149,8 @@ fn names_found_by_no_pull() {
 /// A card with a level that isn't read, and its files.
 fn refused_card(level: u8) -> (OnDisk, Vec<Placed>) {
     let mut card = LeveledCard::new(&mut Random::new(93), 4, 0, &[0, 3]);
-    set_level(&mut card.card, level, 63);
+    let root = card.card.inode_block(ROOT);
+    card.card.image.set(root, I_DIR_LEVEL, level.into());
     (OnDisk::new(card.card.image), card.files)
 }
 
@@ -281,7 +278,7 @@ impl Stage {
     /// Of a file whose entry is found, in its hash level: 14 and 13.
     fn expect_at_block(&mut self, file: &Placed) {
         let areas = self.card.card.image.areas;
-        let (index, end) = (self.card.index(file), areas.main_end);
+        let (index, end) = (file.index, areas.main_end);
         let (block, slot) = (file.linked.block, file.linked.slot);
         let whose = format!("(block {index} of the root directory)");
         let malformed =
@@ -330,20 +327,17 @@ fn stops() {
     assert!((1..=4).all(|len| steps.contains(&(1, len))), "{steps:?}");
 }
 
-/// The last hash level in reach, and none behind it: a name that leads past the last index is not there, whatever the depth.
+/// The same in the block at the last index, which the program's walk has to read too. It is the first of its bucket, and
+/// the second isn't there any more.
 #[test]
-fn past_the_last_index() {
+fn stops_at_the_last_index() {
     let mut random = Random::new(96);
-    for level in [22, 23, 29, 30] {
-        let last = in_reach(level) - 1;
-        let LeveledCard { mut card, .. } = LeveledCard::new(&mut random, level, 0, &[last]);
-        for depth in [last + 1, last + 2, 63] {
-            set_level(&mut card, level, depth);
-            let disk = OnDisk::new(card.image.clone());
-            for number in 0..20 {
-                let name = format!("missing {number}").into_bytes();
-                assert_eq!(expect_json(&disk, &disk.image, &name, 0), 2);
-            }
+    for level in LEVELS {
+        for inline in [0, INLINE_XATTR] {
+            let card = LeveledCard::at_the_last_index(&mut random, level, inline);
+            let file = card.files[0].clone();
+            assert_eq!(file.index, last_index(addresses_by(inline)));
+            Stage::new(card).expect_at_block(&file);
         }
     }
 }
@@ -370,7 +364,7 @@ fn level_of_a_file() {
     }
 }
 
-/// Damages what a search comes by on levelled cards. Returns how often each answer came.
+/// Damages what a search comes by on leveled cards. Returns how often each answer came.
 fn damage(seed: u64, cards: u32, damages: u32, run: impl Fn(Words) -> Ran) -> [u32; 15] {
     let mut random = Random::new(seed);
     let mut answers = [0; 15];
@@ -428,11 +422,11 @@ fn every_level_under_sanitizers() {
     let build = SpecialBuild::sanitized();
     let mut random = Random::new(99);
     for level in 0..=MOST_LEVEL {
-        let last = in_reach(level) - 1;
+        let last = DirLevel(level.into()).in_reach() - 1;
         let mut stage = Stage::new(LeveledCard::new(&mut random, level, 0, &[last]));
         let file = stage.card.files[0].clone();
-        let index = stage.card.index(&file);
-        let outside = |card: &mut Card| card.set_address(ROOT, index, card.image.areas.main_end);
+        let outside =
+            |card: &mut Card| card.set_address(ROOT, file.index, card.image.areas.main_end);
         stage.with(outside, |stage| {
             let call = (file.put.name.as_slice(), 0);
             let run = |words: Words| build.run(words);
@@ -442,29 +436,11 @@ fn every_level_under_sanitizers() {
     }
 }
 
-/// The root's inode on a card of the published tools.
-fn root_of(image: &Image) -> u32 {
-    let entry = node_lookup(image.bytes(), ROOT);
-    entry.expect("the root's inode").1
-}
-
 /// A card of the published tools that was filled while its root directory had this level; fsck.f2fs finds nothing wrong.
 fn published_card(level: u8, files: &[File]) -> OnDisk {
-    let scratch = Scratch::new();
-    let (folder, path) = (scratch.path("files"), scratch.image_path());
-    fs::create_dir(&folder).unwrap();
-    for (name, bytes) in files {
-        fs::write(folder.join(OsStr::from_bytes(name)), bytes).unwrap();
-    }
-    let mut image = published::formatted(200, "");
-    image.set(root_of(&image), I_DIR_LEVEL, level.into());
-    image.save(&path);
-    published::run(Command::new("sload.f2fs").arg("-f").args([&folder, &path]));
-    published::run(Command::new("fsck.f2fs").arg("--dry-run").arg(&path));
-    let file = fs::File::open(&path).unwrap();
-    let origin = format!("a published card of level {level}");
-    let image = Image::read(origin, Sparse::read(&file));
-    assert_eq!(image.get(root_of(&image), I_DIR_LEVEL), level.into());
+    let image = filled_with_level(200, level.into(), files);
+    assert_eq!(image.get(root_block(&image), I_DIR_LEVEL), level.into());
+    assert!(fsck(&image).sound, "{image:?}");
     OnDisk::new(image)
 }
 

@@ -1,13 +1,11 @@
-//! Pull: the levels, buckets and blocks of a root directory without a level of its own.
-
-use reference::hash::raw_hash;
+//! Pull: the hash levels, buckets and blocks of a root directory without a level of its own.
 
 use harptimber_tests::calls::pulls::Pulls;
 use harptimber_tests::cards::card::Card;
 use harptimber_tests::cards::deep::Deep;
-use harptimber_tests::cards::directory::{bucket_index, Dentry, DirLevel, BUCKET_BLOCKS};
+use harptimber_tests::cards::directory::{Dentry, DirLevel, BUCKET_BLOCKS};
 use harptimber_tests::cards::layout::inode::INLINE_XATTR;
-use harptimber_tests::cards::names::{good_name, name_with};
+use harptimber_tests::cards::names::good_name;
 use harptimber_tests::cards::one_file::small_knobs;
 use harptimber_tests::trial::Random;
 
@@ -25,8 +23,8 @@ fn for_deep(pulls: &mut Pulls, names: u64, test: impl Fn(&mut Pulls, Deep)) {
 }
 
 #[test]
-fn every_level() {
-    let mut pulls = Pulls::new("pull from every directory level");
+fn every_hash_level() {
+    let mut pulls = Pulls::new("pull from every hash level");
     for_deep(&mut pulls, 8, |pulls, mut deep| deep.try_every_block(pulls));
     pulls.finish(8 * 2 * 56 * (1 + 3 * 2), &[0, 2]);
 }
@@ -36,31 +34,6 @@ fn every_depth() {
     let mut pulls = Pulls::new("pull of a missing name by depth");
     for_deep(&mut pulls, 4, |pulls, mut deep| deep.try_every_depth(pulls));
     pulls.finish(4 * 2 * 65, &[2, 12]);
-}
-
-/// In level 28 the last buckets lie past the last index: names that lead there, and those that lead
-/// to the bucket of which only the first block is below the last index.
-#[test]
-fn last_buckets() {
-    let mut pulls = Pulls::new("pull around the directory's last index");
-    let names = [(0, b"b15a24d".as_slice()), (INLINE_XATTR, b"1caf871c")];
-    for (inline, name) in names {
-        let random = &mut pulls.trial.random;
-        let border = Deep::new(random, DirLevel(0), inline, name);
-        let last = border.last_index();
-        assert_eq!(bucket_index(28, raw_hash(name), 0), last, "the last bucket");
-        assert_eq!(border.buckets.len(), 57, "blocks of the last bucket");
-        let far = name_with(random, 9, |hash| bucket_index(28, hash, 0) > last);
-        let past = Deep::new(random, DirLevel(0), inline, &far);
-        assert_eq!(past.buckets.len(), 56, "blocks before the last bucket");
-        for mut deep in [border, past] {
-            let buckets = deep.buckets.len();
-            deep.expect_missing(&mut pulls, buckets);
-            deep.link(buckets - 1, deep.ino);
-            deep.expect_found(&mut pulls, buckets - 1);
-        }
-    }
-    pulls.finish(2 * 2 * 3, &[0, 2]);
 }
 
 /// Two entries with the name, in whichever blocks they are.

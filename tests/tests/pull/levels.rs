@@ -9,7 +9,7 @@ use harptimber_tests::cards::deep::{all_blocks, Deep};
 use harptimber_tests::cards::directory::{Dentry, DirLevel, BUCKET_BLOCKS, MOST_DEPTH};
 use harptimber_tests::cards::layout::inode::{INLINE_XATTR, I_CURRENT_DEPTH, I_DIR_LEVEL};
 use harptimber_tests::cards::layout::{slots, BLOCK_SIZE};
-use harptimber_tests::cards::names::name_with;
+use harptimber_tests::cards::names::{name_with, LAST_NAMES};
 use harptimber_tests::cards::one_file::small_knobs;
 use harptimber_tests::cards::tree::last_index;
 use harptimber_tests::trial::Random;
@@ -171,45 +171,8 @@ fn blocks_by_hand() {
             deep.expect_missing(&mut pulls, blocks.len());
         }
     }
-    pulls.finish(2 * (9 + 2 * 2 * 38), &[0, 2]);
+    pulls.finish(2 * (9 + 2 * 2 * 44), &[0, 2]);
 }
-
-/// For each level, with many addresses and with few: a name of which the last block in reach is the first of its
-/// bucket, at the very last index, and one that leads to the next bucket.
-#[rustfmt::skip]
-const LAST_NAMES: [[&str; 4]; 31] = [
-    ["aydffoa", "ayryzjv", "afsbsrw", "acdsslr"],
-    ["ayryzjv", "aolizmv", "acdsslr", "bayzeuw"],
-    ["aqtnxpk", "bulwvep", "bfmiwtr", "ahmlxso"],
-    ["axhqowr", "cqafrjt", "antqvuy", "abwetfb"],
-    ["ajfiusj", "akdwlqg", "acdtaky", "bcknpeq"],
-    ["aadgasm", "attskzm", "acyqkho", "axhqowr"],
-    ["aghmbts", "aydzfeo", "aazetxg", "aedjoew"],
-    ["dcgkkeg", "corlntv", "avvolhf", "bgoeozm"],
-    ["aiouvmk", "bjxfjpv", "akninzh", "btbsqpu"],
-    ["atgitke", "amojvvv", "atyvngs", "atwkwhe"],
-    ["bllssta", "ajgbgap", "cvyakjv", "aqnfhdg"],
-    ["ceuqcbh", "absuhyw", "agtneem", "bcwakfd"],
-    ["cdekdby", "btfucaq", "aakvntb", "akgwqfv"],
-    ["ajtjwtb", "avlssip", "ajfjkah", "aovarca"],
-    ["bdtpxzu", "campkqg", "aeezdrm", "bawfuxz"],
-    ["avhybxa", "aeqcack", "agccrks", "aiptuwu"],
-    ["cpdchto", "alvatis", "baomtlt", "brpevew"],
-    ["asjoaqq", "acmmlyb", "adqtbwl", "alhsztd"],
-    ["aycxeln", "bpdbfjf", "alvxybo", "agarzet"],
-    ["axgmtfy", "bvagqzk", "bzagfsi", "awlebsd"],
-    ["aookxhm", "axpseoq", "abihuqx", "amyqlru"],
-    ["agznbmw", "bcultog", "aynxwzi", "bpixpuk"],
-    ["argqsms", "abnlzqb", "cjpesxo", "befujty"],
-    ["bfrvdac", "aknlgzh", "apgjvco", "bgzwzlf"],
-    ["dbgbari", "apaomip", "arqqozq", "abvkreq"],
-    ["bimrttq", "dfftsqp", "awibpdt", "abpeftm"],
-    ["dbdjlrj", "ciyemog", "aiprgaz", "bzzoeuo"],
-    ["dxjpzmn", "atsbbzy", "avhqgtt", "agvjrrl"],
-    ["egknxdz", "aydffoa", "bjgfsft", "afsbsrw"],
-    ["cyeibba", "cbhlnsf", "bdgdoof", "bcszlka"],
-    ["dvvsblo", "eejgqqn", "dvbqcce", "bcszlka"],
-];
 
 #[test]
 fn last_buckets() {
