@@ -6,11 +6,14 @@ use Rattle.hash_level.specs.Table.{IsTable}
 use Rattle.directory.proofs.find.Statement.{statement}
 use Rattle.directory.proofs.find.Tie as tie
 
-abbrev start-of : tie.Then1 → tie.Start
-start-of k = k .before .before .before .before .before
+-- ---- the start, seen from level 0's way and from the other
+abbrev plain-start : tie.Then1 → tie.Start
+plain-start k = k .before .before .before .before .before
 
-abbrev start-of-2 : tie.Else1 → tie.Start
-start-of-2 k = k .before .before .before .before .before
+abbrev level-start : tie.Else1 → tie.Start
+level-start k = k .before .before .before .before .before
+
+-- ---- the needs
 
 level-0-blocks-requires : tie.Need-level-0-blocks-requires
 level-0-blocks-requires c κs = search needs
@@ -19,7 +22,7 @@ find-by-requires : tie.Need-find-by-requires
 find-by-requires c κs =
     let k = c .before .before .before in
     let plain = k .before in
-    let known = start-of plain .pre in
+    let known = plain-start plain .pre in
     let small = known .1 .1 in
     let table = subst (λ (dir : ℕ). IsTable dir (k .level-0-blocks .result)) (sym (plain .if1 .taken)) (k .level-0-blocks .ensures) in
     (known .0, (known .1 .0, (small .0, small .1, small .2, table)))
@@ -39,7 +42,7 @@ first-blocks-requires c κs = search needs
 find-by-requires-2 : tie.Need-find-by-requires-2
 find-by-requires-2 c κs =
     let k = c .before .before .before in
-    let known = start-of-2 (k .before) .pre in
+    let known = level-start (k .before) .pre in
     let small = known .1 .1 in
     (known .0, (known .1 .0, (small .0, small .1, small .2, k .first-blocks .ensures)))
 
