@@ -48,6 +48,12 @@ fn with_byte(image: &mut Image, block: u32, at: usize, value: u8, test: impl FnO
     image.undo(mark);
 }
 
+/// The same with each of the byte's bits turned.
+fn with_another(image: &mut Image, block: u32, at: usize, test: impl FnOnce(&Image)) {
+    let value = !image.block(block)[at];
+    with_byte(image, block, at, value, test);
+}
+
 /// The root's inode is in each list, so that another level is a change by its block, read or not. So are the bytes
 /// beside it, which decide nothing.
 #[test]
@@ -64,8 +70,7 @@ fn other_levels() {
             });
         }
         for at in [I_DIR_LEVEL.at - 1, I_DIR_LEVEL.at + 1] {
-            let other = !deep.card.image.block(root)[at];
-            with_byte(&mut deep.card.image, root, at, other, |image| {
+            with_another(&mut deep.card.image, root, at, |image| {
                 compares.expect(kept, image, changed(3, root))
             });
         }
@@ -79,17 +84,10 @@ fn levels_of_the_file() {
     let mut compares = Compares::new("compare with another level of the file");
     for_cards(&mut compares, |compares, kept, mut deep| {
         let file = deep.card.inode_block(deep.ino);
-        let other = !deep.card.image.block(file)[I_DIR_LEVEL.at];
-        with_byte(
-            &mut deep.card.image,
-            file,
-            I_DIR_LEVEL.at,
-            other,
-            |image| match found(kept) {
-                true => compares.expect(kept, image, changed(3, file)),
-                false => compares.expect(kept, image, SAME),
-            },
-        );
+        with_another(&mut deep.card.image, file, I_DIR_LEVEL.at, |image| {
+            let expected = if found(kept) { changed(3, file) } else { SAME };
+            compares.expect(kept, image, expected)
+        });
     });
     compares.finish(CARDS * 2, &[(15, 0, 0), (16, 0, 3)]);
 }
@@ -102,8 +100,7 @@ fn blocks_of_the_directory() {
         let (_, listed) = deep.lists(deep.buckets.len());
         for block in listed {
             let at = compares.trial.random.below(BLOCK_SIZE as u64) as usize;
-            let other = !deep.card.image.block(block)[at];
-            with_byte(&mut deep.card.image, block, at, other, |image| {
+            with_another(&mut deep.card.image, block, at, |image| {
                 compares.expect(kept, image, changed(3, block))
             });
         }

@@ -120,11 +120,18 @@ fn comment_on(number: &str) -> String {
     words.split_whitespace().collect::<Vec<_>>().join(" ")
 }
 
+/// The comment above something has each part.
+fn comment_says(on: &str, parts: &[String]) {
+    let words = comment_on(on);
+    for part in parts {
+        assert!(words.contains(part), "no '{part}' in '{words}'");
+    }
+}
+
 /// All that can be behind answer 8 stands above its number.
 #[test]
 fn unreadable() {
-    let words = comment_on("UNREADABLE = 8");
-    for part in [
+    let parts = [
         "error (8 hex)".to_string(),
         "needs check (10 hex, fsck to the tools)".to_string(),
         format!("large_nat_bitmap ({CP_LARGE_NAT_BITMAP_FLAG:x} hex)"),
@@ -133,25 +140,22 @@ fn unreadable() {
         format!("more than {} entries", journal::MOST_ENTRIES),
         "two for one number".to_string(),
         format!("SIT journal counts more than {}", sit_journal::MOST_ENTRIES),
-    ] {
-        assert!(words.contains(&part), "no '{part}' in '{words}'");
-    }
+    ];
+    comment_says("UNREADABLE = 8", &parts);
 }
 
 /// The same of answer 12.
 #[test]
 fn kinds_not_read() {
-    let words = comment_on("KIND_NOT_READ = 12");
-    for part in [
+    let parts = [
         "the root isn't a directory".to_string(),
         "isn't a regular file".to_string(),
         format!("inline flags have {INLINE_DATA}, {INLINE_DENTRY} or {EXTRA_ATTR:x} hex"),
         "depth is over 63".to_string(),
         format!("directory level (i_dir_level) is over {MOST_LEVEL}"),
         "A file's own level isn't asked for".to_string(),
-    ] {
-        assert!(words.contains(&part), "no '{part}' in '{words}'");
-    }
+    ];
+    comment_says("KIND_NOT_READ = 12", &parts);
 }
 
 #[test]
