@@ -3,7 +3,7 @@
 
 use std::path::Path;
 
-const ARCHIVES: [&str; 2] = ["harptimber", "crc32_export"];
+const ARCHIVES: [&str; 3] = ["harptimber", "crc32_export", "scan_export"];
 
 fn main() {
     let folder = Path::new(env!("CARGO_MANIFEST_DIR")).join("../target/staticlib");

@@ -43,8 +43,8 @@ extern "C" {
 /* The version of this header, and of the library that is installed with it. */
 #define HARPTIMBER_VERSION_MAJOR 0
 #define HARPTIMBER_VERSION_MINOR 6
-#define HARPTIMBER_VERSION_PATCH 0
-#define HARPTIMBER_VERSION "0.6.0"
+#define HARPTIMBER_VERSION_PATCH 1
+#define HARPTIMBER_VERSION "0.6.1"
 
 enum {
     /* Of what is asked: a card's blocks, and a name's bytes. */

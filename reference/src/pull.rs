@@ -8,6 +8,7 @@ use crate::levels::{hash_levels, HashLevel};
 use crate::lookup::lookup_in;
 use crate::open::{is_image_length, open, Volume};
 use crate::place::{directory_place, file_place, Place, Way, ADDRESSES, ADDRESSES_WITH_XATTR};
+use crate::slots::search_block;
 
 const ROOT: u32 = 3;
 const DIRECTORY: u16 = 4;
@@ -16,9 +17,6 @@ const REGULAR: u16 = 8;
 /// "a node list of at least 179 and a block list of at least 238 32-bit numbers"
 const NODES_LENT: usize = 179;
 const BLOCKS_LENT: usize = 238;
-
-/// "A block has 214 slots"
-const SLOTS: usize = 214;
 
 /// The result numbers of a pull; those that the answer doesn't name are 0.
 #[derive(Debug, Clone, Copy, PartialEq, Eq, Default)]
@@ -301,45 +299,11 @@ impl<'a> Walk<'a> {
     }
 }
 
-/// The inode number of the first matching dentry in a directory block.
-///
-/// "A block has 214 slots: map 27 bytes, 3 reserved, entries of 11 (hash, inode, 16-bit length,
-/// type) from 30, names of 8 bytes a slot from 2,384."
-fn search_block(block: &[u8], name: &[u8], hash: u32) -> Result<Option<u32>, u32> {
-    let mut slot = 0;
-    while slot < SLOTS {
-        // "A clear bit moves on one slot."
-        if !slot_is_used(block, slot) {
-            slot += 1;
-            continue;
-        }
-        let entry = 30 + 11 * slot;
-        let length = usize::from(le16(block, entry + 8));
-        let slots = length.div_ceil(8);
-        // "A set one needs length 1 to 255 and ⌈length/8⌉ slots before the end, else 14"
-        if !(1..=255).contains(&length) || slot + slots > SLOTS {
-            return Err(14);
-        }
-        // "then it matches by hash, length and bytes, or the search moves past its slots"
-        let name_at = 2384 + 8 * slot;
-        if le32(block, entry) == hash && block.get(name_at..name_at + length) == Some(name) {
-            return Ok(Some(le32(block, entry + 4)));
-        }
-        slot += slots;
-    }
-    Ok(None)
-}
-
-/// "Directory maps count from the bottom bit."
-fn slot_is_used(map: &[u8], slot: usize) -> bool {
-    let byte = map.get(slot / 8).copied().unwrap_or(0);
-    byte & (1 << (slot % 8)) != 0
-}
-
 #[cfg(test)]
 mod tests {
     use super::*;
     use crate::sample::{Sample, DAMAGE, FIRST_PACK};
+    use crate::slots::scan;
 
     const NAME: &[u8] = b"file";
     const DATA: usize = 4200;
@@ -381,24 +345,6 @@ mod tests {
     fn numbers(list: &[u8], count: u32) -> Vec<u32> {
         assert!(list[count as usize * 4..].iter().all(|&byte| byte == 0xAA));
         list.chunks_exact(4).take(count as usize).map(|entry| le32(entry, 0)).collect()
-    }
-
-    #[test]
-    fn byte_80_is_slot_7_of_a_directory() {
-        assert!(slot_is_used(&[0x80], 7));
-        assert!((0..7).all(|slot| !slot_is_used(&[0x80], slot)));
-    }
-
-    #[test]
-    fn length_8_at_slot_213_fits_and_9_is_14() {
-        let mut block = vec![0; 4096];
-        block[213 / 8] = 1 << (213 % 8);
-        block[30 + 11 * 213 + 8] = 8;
-        assert_eq!(search_block(&block, b"other", 1), Ok(None));
-        block[30 + 11 * 213 + 8] = 9;
-        assert_eq!(search_block(&block, b"other", 1), Err(14));
-        block[30 + 11 * 213 + 8] = 0;
-        assert_eq!(search_block(&block, b"other", 1), Err(14));
     }
 
     #[test]
@@ -672,6 +618,40 @@ mod tests {
         assert_eq!(answer(&sample, b"other", 0), missing);
         sample.put64(4096, 16, 0);
         assert_eq!(answer(&sample, NAME, 0), Pulled { block_count: 1, ..missing });
+    }
+
+    /// K5: "Promise, answers and lists stay as they are." If the scan finds the name, the pull goes
+    /// on to the file; otherwise its answer is the scan's.
+    #[test]
+    fn the_pull_meets_what_the_scan_meets() {
+        // The map's first byte and the length of "..", then answer, entries and runs of the scan.
+        for (map, length, expected) in [
+            (0b111, 2, [0, 3, 0]),
+            (0b101, 2, [0, 2, 1]),
+            (0b011, 2, [2, 2, 1]),
+            (0b000, 2, [2, 0, 1]),
+            // Malformed before the name, and in slot 3 behind it.
+            (0b111, 0, [14, 2, 0]),
+            (0b1111, 2, [0, 3, 0]),
+            (0b1011, 2, [14, 3, 1]),
+        ] {
+            let mut sample = sample(4097);
+            sample.put(4097, 0, &[map]);
+            sample.put16(4097, 30 + 11 + 8, length);
+            let scan = scan(&sample.bytes[4097 * 4096..4098 * 4096], NAME);
+            assert_eq!([scan.answer, scan.entries, scan.runs], expected);
+            let mut lent = Lent::new();
+            let pulled = lent.pull(&sample, NAME, 0);
+            if scan.answer == 0 {
+                assert_eq!((pulled.answer, scan.inode), (1, 7));
+                assert_eq!(numbers(&lent.nodes, pulled.node_count), [3, 7]);
+                assert_eq!(numbers(&lent.blocks, pulled.block_count), [4096, 4097, 4098]);
+            } else {
+                assert_eq!((pulled.answer, scan.inode), (scan.answer, 0));
+                assert_eq!(numbers(&lent.nodes, pulled.node_count), [3]);
+                assert_eq!(numbers(&lent.blocks, pulled.block_count), [4096, 4097]);
+            }
+        }
     }
 
     #[test]

@@ -11,6 +11,9 @@ use std::os::unix::fs::MetadataExt;
 use std::path::Path;
 use std::{ptr, slice};
 
+/// Of x86-64.
+const PAGE: usize = 4096;
+const PROT_NONE: c_int = 0;
 const PROT_READ: c_int = 1;
 const PROT_WRITE: c_int = 2;
 const MAP_PRIVATE: c_int = 0x2;
@@ -46,6 +49,7 @@ extern "C" {
         offset: i64,
     ) -> *mut c_void;
     fn munmap(address: *mut c_void, len: usize) -> c_int;
+    fn mprotect(address: *mut c_void, len: usize, protection: c_int) -> c_int;
     fn madvise(address: *mut c_void, len: usize, advice: c_int) -> c_int;
     fn lseek(file: c_int, offset: i64, whence: c_int) -> i64;
     fn statvfs(path: *const c_char, disk: *mut Disk) -> c_int;
@@ -108,6 +112,49 @@ impl Drop for Zeros {
 // SAFETY: they are bytes of its own, as a Vec's are.
 unsafe impl Send for Zeros {}
 unsafe impl Sync for Zeros {}
+
+/// Pages between two that can't be touched: a read there ends the program.
+pub struct Guarded {
+    start: *mut u8,
+    len: usize,
+}
+
+impl Guarded {
+    pub fn new(pages: usize) -> Guarded {
+        let len = pages * PAGE;
+        let all = map(len + 2 * PAGE, PROT_NONE, MAP_PRIVATE | MAP_ANONYMOUS, None);
+        let all = all.unwrap_or_else(|error| panic!("{pages} pages with guards: {error}"));
+        let start = all.wrapping_add(PAGE);
+        // SAFETY: all but the first and the last page of the mapping.
+        let status = unsafe { mprotect(start.cast(), len, PROT_READ | PROT_WRITE) };
+        assert_eq!(status, 0, "{}", Error::last_os_error());
+        Guarded { start, len }
+    }
+
+    /// A copy of these bytes, from a place on.
+    pub fn lend(&mut self, at: usize, bytes: &[u8]) -> &[u8] {
+        assert!(at + bytes.len() <= self.len, "room between the guards");
+        // SAFETY: so many bytes are there, which are this value's own.
+        unsafe {
+            let lent = slice::from_raw_parts_mut(self.start.add(at), bytes.len());
+            lent.copy_from_slice(bytes);
+            lent
+        }
+    }
+
+    /// A copy of these bytes that ends where the last page does.
+    pub fn lend_at_end(&mut self, bytes: &[u8]) -> &[u8] {
+        self.lend(self.len - bytes.len(), bytes)
+    }
+}
+
+impl Drop for Guarded {
+    fn drop(&mut self) {
+        let all = self.start.wrapping_sub(PAGE);
+        // SAFETY: this value is all that knows of the pages.
+        unsafe { munmap(all.cast(), self.len + 2 * PAGE) };
+    }
+}
 
 /// The bytes of a file that nobody writes any more. They stay mapped as long as the program runs.
 pub fn mapped(path: &Path) -> &'static [u8] {

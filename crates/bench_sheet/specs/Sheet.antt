@@ -18,7 +18,7 @@ use Rattle.list.specs.Lists.{bytesOf}
 use Rattle.walk.specs.Walk.{Walk, done, look, read, Outcome, ok, stop}
 use Rattle.node.specs.Block.{held}
 use Rattle.hash_level.specs.Level.{firstOf}
-use Rattle.directory.specs.Slot.{wanted, entryAt, wellFormed, matches, slotAt, slotsFrom}
+use Rattle.dentry.specs.Slot.{wanted, entryAt, wellFormed, matches, slotAt, slotsFrom}
 use Rattle.directory.specs.Find.{afterBlock}
 use Rattle.bench_sheet.specs.Line.{Line, _is_, Holds}
 use Rattle.bench_sheet.specs.Volume004.{superblock, card004, mainNumbers}

@@ -7,7 +7,7 @@ use Prim.Native.Nat.{ℕ, zero, suc, _+_, _-_, _*_, _/_, _%_}
 use lib.ListN.{length, replicate}
 use lib.Dec.{eqb}
 use Rattle.field.specs.Number.{le16, le32, le64}
-use Rattle.field.specs.Map.{topBit, lowBit}
+use Rattle.field.specs.Map.{topBit, lowBit, zerosFrom}
 use Rattle.field.specs.Bytes.{sameAt}
 use Rattle.field.specs.Choice.{choose}
 use Rattle.list.specs.Lists.{bytesOf, insert}
@@ -23,7 +23,8 @@ use Rattle.inode.specs.declared.Inode.{Inode}
 use Rattle.inode.specs.Inode.{inodeOf, notInline, isDirectory, isRegular, addressesIn, isPast, countIn}
 use Rattle.node.specs.Node.{Bounds, inMain, belongs, atBlock, atEntry, nodeWalk}
 use Rattle.node.specs.Block.{isHole, dataWalk, followWalk, wayWalk, blockWalk}
-use Rattle.directory.specs.Slot.{wanted, wellFormed, matches, slotAt, slotsFrom}
+use Rattle.dentry.specs.Slot.{wanted, wellFormed, matches, slotAt, slotsFrom}
+use Rattle.dentry.specs.Scan.{tallyFrom, entriesIn, turnsIn, turnsMost}
 use Rattle.directory.specs.Find.{Directory, afterSlots, afterBlock, bucketWalk, levelsWalk, findWalk}
 use Rattle.hash_level.specs.Level.{firstOf, bucketOf}
 use Rattle.name_hash.specs.Hash.{hashOf}
@@ -282,6 +283,28 @@ directoryRules =
     ∷ ((inSlots 3 (other 8 ∷ a40 ∷ []) ∷ inSlots 3 (other 9 ∷ a40 ∷ []) ∷ inSlots 7 (other 9 ∷ a40 ∷ a41 ∷ []) ∷ []) is (40 ∷ 2 ∷ 41 ∷ []))
     ∷ []
 
+-- how many entries the scan of a block for "a" looks at, its turns, and how many those may be
+abbrev scanned : List ℕ → List ℕ
+scanned block = let w = wanted 77 (97 ∷ []) in entriesIn block w ∷ turnsIn block w ∷ turnsMost block w ∷ []
+
+abbrev scanRules : List Line
+scanRules =
+    -- K5: "A block's scan counts its turns, .. one a run skipped": a run ends with slot 213, whatever stands behind its bit
+    (scanned [] is (0 ∷ 1 ∷ 1 ∷ []))
+    ∷ (scanned (replicate 26 0 ++ (0xC0 ∷ 0xFF ∷ 0xFF ∷ 0xFF ∷ [])) is (0 ∷ 1 ∷ 1 ∷ []))
+    -- "one an entry looked at": in the first slot, behind a run, behind an entry, and two runs apart; "at most 2e + 1 for e entries"
+    ∷ (scanned (slots 1 (other 1 ∷ [])) is (1 ∷ 2 ∷ 3 ∷ []))
+    ∷ (scanned (slots 2 (other 1 ∷ other 1 ∷ [])) is (1 ∷ 3 ∷ 3 ∷ []))
+    ∷ (scanned (slots 3 (other 8 ∷ other 1 ∷ [])) is (2 ∷ 3 ∷ 5 ∷ []))
+    ∷ (scanned (slots 10 (other 1 ∷ other 1 ∷ other 1 ∷ other 1 ∷ [])) is (2 ∷ 5 ∷ 5 ∷ []))
+    -- the bits of an entry's other slots aren't looked at: 9 bytes have two
+    ∷ (scanned (slots 3 (other 9 ∷ other 1 ∷ [])) is (1 ∷ 2 ∷ 3 ∷ []))
+    -- the match is looked at, or the malformed one, and nothing behind it
+    ∷ (scanned (slots 6 (other 1 ∷ a40 ∷ other 1 ∷ [])) is (1 ∷ 2 ∷ 3 ∷ []))
+    ∷ (scanned (slots 6 (other 1 ∷ other 0 ∷ other 1 ∷ [])) is (1 ∷ 2 ∷ 3 ∷ []))
+    ∷ (scanned (replicate 26 0 ++ (0x20 ∷ [])) is (1 ∷ 2 ∷ 3 ∷ []))
+    ∷ []
+
 -- ---- the pull
 
 -- the root's inode at place 0, as its block says; the name is sought only if there is something to search
@@ -364,6 +387,10 @@ inode-rules = refl
 pub directory-rules : Holds directoryRules
 unfolding le16 le32 bytesOf lowBit sameAt run wellFormed matches slotAt slotsFrom
 directory-rules = refl
+
+pub scan-rules : Holds scanRules
+unfolding le16 le32 bytesOf lowBit zerosFrom sameAt wellFormed matches slotAt tallyFrom
+scan-rules = refl
 
 pub pull-rules : Holds pullRules
 unfolding le16 le32 le64 bytesOf placeOf insert run bind onward andThen inMain belongs atBlock atEntry nodeWalk isHole dataWalk followWalk

@@ -16,7 +16,7 @@ use Rattle.node.proofs.Sizes.{Small, block-within, block-past}
 use Rattle.hash_level.specs.Level.{blocksOf, bucketOf}
 use Rattle.hash_level.specs.Reach.{upTo, inReach}
 use Rattle.hash_level.proofs.Reach.{at-most-58}
-use Rattle.directory.specs.Slot.{Wanted, Sought, absent, found, malformed, inBlock}
+use Rattle.dentry.specs.Slot.{Wanted, Sought, absent, found, malformed, inBlock}
 use Rattle.directory.specs.Find.{Directory, fetchWalk, afterSlots, afterBlock, bucketWalk, levelsWalk, findWalk}
 
 module _ (d : Directory) where

@@ -10,7 +10,7 @@ use Rattle.walk.proofs.Reached.{Reached, reached-start, reached-to, reached-on,
 use Rattle.walk.proofs.Fits.{fits-at, fits-first}
 use Rattle.node.specs.Block.{Fetched, hole, held}
 use Rattle.hash_level.specs.Level.{blocksOf, bucketOf}
-use Rattle.directory.specs.Slot.{Wanted, Sought, absent, found, malformed, inBlock}
+use Rattle.dentry.specs.Slot.{Wanted, Sought, absent, found, malformed, inBlock}
 use Rattle.directory.specs.Find.{Directory, fetchWalk, afterSlots, afterBlock, bucketWalk, levelsWalk, findWalk}
 
 -- the search from a level on, and from a block of a level's bucket on

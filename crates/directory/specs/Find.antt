@@ -10,7 +10,7 @@ use Rattle.node.specs.Block.{Fetched, hole, held, blockWalk}
 use Rattle.hash_level.specs.Level.{blocksOf, bucketOf}
 use Rattle.directory.specs.declared.Entry.{Entry}
 use Rattle.directory.specs.declared.Entry.the-variants.{Found, Stop}
-use Rattle.directory.specs.Slot.{Wanted, Sought, absent, found, malformed, inBlock}
+use Rattle.dentry.specs.Slot.{Wanted, Sought, absent, found, malformed, inBlock}
 
 -- a directory: the main area bounds, its inode's number and bytes, how many addresses the inode holds, and its directory level
 pub record Directory : Type 0 where

@@ -1,9 +1,8 @@
-// A name sought in a directory: its slots, and the nested search over hash levels, blocks and slots.
-// What each means is in specs/: Slot, Find.
+// A name sought in a directory: the nested search over hash levels, blocks and slots.
+// What it means is in specs/: Find.
 ghost use mathlib.Core.Path.{_≡_};
 ghost use Prim.Native.Nat.{_<_, _≤_};
 ghost use lib.ListN.{length};
-ghost use Rattle.field.specs.Map.{lowBit};
 ghost use Rattle.field.specs.Card.{cardOf};
 ghost use Rattle.checkpoint.specs.Volume.{VolumeIn};
 ghost use Rattle.walk.specs.Walk.{imageView, lists, Walked, Fits};
@@ -11,17 +10,8 @@ ghost use Rattle.node.specs.Node.{boundsOf};
 ghost use Rattle.node.specs.Block.{blockWalk};
 ghost use Rattle.node.specs.Found.{dataOf, DataIn, FileIn};
 ghost use Rattle.hash_level.specs.Table.{IsTable};
-ghost use Rattle.directory.specs.Slot.{wanted, slotAt};
+ghost use Rattle.dentry.specs.Slot.{wanted};
 ghost use Rattle.directory.specs.Find.{directoryOf, findWalk, entryOf};
-
-// What one slot of a directory block holds: nothing, the name's inode number, another entry and how many slots it has, or an
-// entry that doesn't fit.
-pub enum Slot {
-    Free,
-    Match(u32),
-    Other(usize),
-    Malformed,
-}
 
 // The inode number in the name's entry, or the answer that ends the walk.
 pub enum Entry {
@@ -33,42 +23,6 @@ pub enum Entry {
 pub struct EntryStep {
     pub entry: Entry,
     pub counts: walk::Counts,
-}
-
-// A slot's bit in the block's map: the order of a directory map's bits is chosen here alone.
-fn slot_bit(block: &[u8], slot: usize) -> u8
-    requires { ⌜ (length (now block) ≡ 4096) × (slot < 214) ⌝ }
-    ensures { λ r. ⌜ r ≡ lowBit (now (block .entry)) slot ⌝ }
-{
-    field::low_bit(block, slot)
-}
-
-// One slot of a directory block. The name's bytes are compared only where hash and length are the name's.
-fn slot_at(block: &[u8], slot: usize, hash: u32, name: &[u8]) -> Slot
-    requires { ⌜ (length (now block) ≡ 4096) × (slot < 214) ⌝ }
-    ensures { λ r. ⌜ r ≡ slotAt (now (block .entry)) (wanted hash (now (name .entry))) slot ⌝ }
-{
-    if slot_bit(block, slot) == 0 {
-        return Slot::Free;
-    }
-    let entry = 30 + 11 * slot;
-    let len = field::get16(block, entry + 8) as usize;
-    let slots = (len + 7) / 8;
-    let fits = (1 <= len) & (len <= 255) & (slot + slots <= 214);
-    if !fits {
-        return Slot::Malformed;
-    }
-    if field::get32(block, entry) != hash {
-        return Slot::Other(slots);
-    }
-    if len != name.len() {
-        return Slot::Other(slots);
-    }
-    let at = 2384 + 8 * slot;
-    if field::same_at(block, at, name) {
-        return Slot::Match(field::get32(block, entry + 4));
-    }
-    Slot::Other(slots)
 }
 
 // The block of an index of a directory. Past the last index there is none.
@@ -147,17 +101,15 @@ fn find_by(
                 node::Data::At(address) => address,
             };
             let block = field::block_at(image, at);
-            let mut slot: usize = 0;
-            'slots: while slot < 214 {
-                match slot_at(block, slot, hash, name) {
-                    Slot::Free => {
-                        slot += 1;
-                    }
-                    Slot::Match(ino) => break 'levels Entry::Found(ino),
-                    Slot::Other(passed) => {
-                        slot += passed;
-                    }
-                    Slot::Malformed => break 'levels Entry::Stop(answer::MALFORMED_SLOT),
+            let mut scan = dentry::Scan { slot: 0, turns: 0 };
+            'slots: while scan.slot < 214 {
+                let step = dentry::take_turn(block, scan, hash, name);
+                scan = step.scan;
+                let turn = step.turn;
+                match turn {
+                    dentry::Turn::On => continue 'slots,
+                    dentry::Turn::Found(ino) => break 'levels Entry::Found(ino),
+                    dentry::Turn::Malformed => break 'levels Entry::Stop(answer::MALFORMED_SLOT),
                 }
             }
         }

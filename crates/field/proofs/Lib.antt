@@ -1,5 +1,6 @@
 pub mod Blocks
 pub mod Maps
+pub mod Zeros
 pub mod Widths
 pub mod Choosing
 mod Comparing

@@ -1,10 +1,10 @@
 // Numbers, bits, byte strings and blocks in lent bytes: the leaves that every other layer reads through.
 // What each means is in specs/: Number, Map, Bytes, Card.
 ghost use mathlib.Core.Path.{_≡_};
-ghost use Prim.Native.Nat.{_+_, _*_, _%_, _≤_, _<_};
+ghost use Prim.Native.Nat.{_+_, _-_, _*_, _/_, _%_, _≤_, _<_};
 ghost use lib.ListN.{length};
 ghost use Rattle.field.specs.Number.{le16, le32, le64, put32At};
-ghost use Rattle.field.specs.Map.{topBit, lowBit};
+ghost use Rattle.field.specs.Map.{topBit, lowBit, lowZeros};
 ghost use Rattle.field.specs.Bytes.{sameAt};
 ghost use Rattle.field.specs.Card.{cardOf};
 
@@ -67,6 +67,41 @@ pub fn low_bit(map: &[u8], b: usize) -> u8
     ensures { λ r. ⌜ r ≡ lowBit (now (map .entry)) b ⌝ }
 {
     last_bit(map[b / 8] >> (b % 8))
+}
+
+// How many bits of a directory map from bit b on are 0, up to the first that is set, counted in one word: the eight bytes from
+// that of bit b on, of which the bits before b are left out.
+fn word_zeros(map: &[u8], b: usize) -> usize
+    requires { ⌜ b / 8 + 8 ≤ length (now map) ⌝ }
+    ensures { λ r. ⌜ r ≡ lowZeros (now (map .entry)) (64 - b % 8) b ⌝ }
+{
+    let word = get64(map, b / 8) >> (b % 8);
+    let zeros = u64::trailing_zeros(word) as usize;
+    let most = 64 - b % 8;
+    if zeros < most {
+        return zeros;
+    }
+    most
+}
+
+// The same up to bit `end` at most, word by word. What a word has from that bit on isn't counted. Each word has at least 57 bits
+// to count, so that fewer zeros end at a set bit.
+pub fn low_zeros(map: &[u8], b: usize, end: usize) -> usize
+    requires { ⌜ (b ≤ end) × (end / 8 + 8 ≤ length (now map)) ⌝ }
+    ensures { λ r. ⌜ r ≡ lowZeros (now (map .entry)) (end - b) b ⌝ }
+{
+    let most = end - b;
+    let mut run = 0;
+    loop {
+        let zeros = word_zeros(map, b + run);
+        if most - run <= zeros {
+            return most;
+        }
+        if zeros < 57 {
+            return run + zeros;
+        }
+        run += zeros;
+    }
 }
 
 // Whether the bytes from an offset on begin with the string.

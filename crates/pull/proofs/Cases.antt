@@ -17,7 +17,7 @@ use Rattle.node.specs.Found.{dataOf}
 use Rattle.node.specs.declared.Data.{Data}
 use Rattle.node.specs.declared.Data.the-variants as d
 use Rattle.name_hash.specs.Hash.{hashOf}
-use Rattle.directory.specs.Slot.{wanted}
+use Rattle.dentry.specs.Slot.{wanted}
 use Rattle.directory.specs.Find.{directory, findWalk}
 use Rattle.pull.specs.Walk.{rootIno, counted, atFile, atRoot, blockFound}
 

@@ -11,7 +11,7 @@ use Rattle.node.specs.declared.Data.{Data}
 use Rattle.node.specs.declared.Data.the-variants as d
 use Rattle.field.specs.Card.{Card}
 use Rattle.name_hash.specs.Hash.{hashOf}
-use Rattle.directory.specs.Slot.{wanted}
+use Rattle.dentry.specs.Slot.{wanted}
 use Rattle.directory.specs.Find.{directory, findWalk}
 use Rattle.inode.specs.Inode.{inodeOf, isDirectory, isRegular, addressesIn, isPast, countIn}
 

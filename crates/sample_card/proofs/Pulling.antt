@@ -16,7 +16,7 @@ use Rattle.walk.specs.Walk.{ran, run, bind, ok, stop, onward, andThen}
 use Rattle.node.specs.Node.{inMain, belongs, atBlock, atEntry, nodeWalk}
 use Rattle.node.specs.Block.{hole, held, isHole, dataWalk, wayWalk, blockWalk}
 use Rattle.hash_level.specs.Level.{firstOf, bucketOf}
-use Rattle.directory.specs.Slot.{wellFormed, matches, slotAt, slotsFrom}
+use Rattle.dentry.specs.Slot.{wellFormed, matches, slotAt, slotsFrom}
 use Rattle.directory.specs.Find.{afterBlock, bucketWalk, levelsWalk, findWalk}
 use Rattle.pull.specs.Walk.{atFile, fileWalk, atRoot, rootWalk, pullWalk}
 use Rattle.pull.specs.Pull.{pullRun}

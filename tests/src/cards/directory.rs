@@ -1,64 +1,17 @@
 //! The root directory of a card: entries, and the blocks of its hash levels.
 
-use reference::hash::raw_hash;
-
 use crate::cards::card::{Card, ROOT};
 use crate::cards::image::Image;
 use crate::cards::layout::dentry::*;
 use crate::cards::layout::inode::I_DIR_LEVEL;
-use crate::cards::layout::Field;
 use crate::cards::tree::last_index;
+
+pub use crate::cards::dentry::{in_slot, map_byte, Dentry};
 
 /// Blocks of a bucket in each hash level that has a block below the last index of a file.
 pub const BUCKET_BLOCKS: u32 = 2;
 /// A directory that is deeper isn't read.
 pub const MOST_DEPTH: u32 = 63;
-
-/// An entry as it is stored; it needn't be as it should.
-#[derive(Clone, Debug)]
-pub struct Dentry {
-    pub hash: u32,
-    pub ino: u32,
-    pub len: usize,
-    pub name: Vec<u8>,
-}
-
-impl Dentry {
-    pub fn new(name: &[u8], ino: u32) -> Dentry {
-        Dentry {
-            hash: raw_hash(name),
-            ino,
-            len: name.len(),
-            name: name.to_vec(),
-        }
-    }
-
-    /// An entry for another name that has the hash of this one.
-    pub fn under_hash_of(self, name: &[u8]) -> Dentry {
-        Dentry {
-            hash: raw_hash(name),
-            ..self
-        }
-    }
-
-    pub fn slots(&self) -> usize {
-        self.len.div_ceil(SLOT_LEN)
-    }
-}
-
-/// A field of a slot's entry.
-pub fn in_slot(field: Field, slot: usize) -> Field {
-    field.moved(slot * ENTRY_SIZE)
-}
-
-/// The byte of the map that has a slot's bit.
-pub fn map_byte(slot: usize) -> Field {
-    Field {
-        name: "directory map",
-        at: slot / 8,
-        size: 1,
-    }
-}
 
 /// A directory's own level, which makes its hash levels larger.
 #[derive(Clone, Copy, Debug, PartialEq, Eq)]

@@ -11,6 +11,7 @@ use harptimber_tests::cards::layout::superblock::{
     MAIN_BLKADDR, SEGMENT_COUNT_MAIN, SEGMENT_COUNT_SSA,
 };
 use harptimber_tests::cards::layout::{Field, BLOCK_SIZE, SEGMENT_BLOCKS};
+use harptimber_tests::cards::maps::BITS;
 use harptimber_tests::cards::one_file::{small_knobs, Scene, Setting, NAME};
 use harptimber_tests::trial::Random;
 use harptimber_tests::Compared;
@@ -104,6 +105,26 @@ fn bytes_of_listed_blocks() {
         with_byte(&mut compares, &whole, image, (data, at), changed(3, data));
     }
     compares.finish(4 + 26 * 13 + 4096, &[(15, 0, 0), (16, 0, 3)]);
+}
+
+/// A bit of the directory's map, of the reserved bytes behind it too. Most of them are in one run of free slots, which
+/// is skipped: the block has changed, whatever is found there.
+#[test]
+fn bits_of_the_map() {
+    let mut compares = Compares::new("compare with a bit of the directory's map changed");
+    let Cards {
+        kept, mut scene, ..
+    } = cards(&mut compares.trial.random);
+    let (image, block) = (&mut scene.card.image, scene.linked.block);
+    for kept in &pulls(&kept) {
+        for bit in 0..BITS {
+            let old = image.block(block)[bit / 8];
+            image.put("bit", block, bit / 8, &[old ^ 1 << (bit % 8)]);
+            compares.expect(kept, image, changed(3, block));
+            image.undo(0);
+        }
+    }
+    compares.finish(4 * 240, &[(16, 0, 3)]);
 }
 
 /// Main-area blocks that aren't listed, and blocks of other areas that nothing consults.

@@ -5,6 +5,7 @@ mod directory;
 mod file;
 mod kinds;
 mod levels;
+mod maps;
 mod nodes;
 mod packs;
 mod random;

@@ -8,7 +8,6 @@ use harptimber_tests::cards::directory::{in_slot, Dentry};
 use harptimber_tests::cards::layout::dentry::*;
 use harptimber_tests::cards::names::{colliding_names, good_name};
 use harptimber_tests::cards::one_file::{Scene, Setting};
-use harptimber_tests::trial::Random;
 
 const SLOTS: usize = NR_DENTRY_IN_BLOCK;
 const PLAIN: Setting = Setting {
@@ -192,36 +191,6 @@ fn malformed_before_and_after() {
     pulls.finish(5 * 213, &[0, 14]);
 }
 
-/// Entries that differ from the right one in the hash, in one bit of the name or in the length.
-fn near(right: &Dentry, random: &mut Random) -> Vec<Dentry> {
-    let with_name = |name: Vec<u8>| Dentry {
-        len: name.len(),
-        name,
-        ..right.clone()
-    };
-    let mut near = Vec::new();
-    for bit in 0..32 {
-        let hash = right.hash ^ 1 << bit;
-        near.push(Dentry {
-            hash,
-            ..right.clone()
-        });
-    }
-    for place in 0..right.len {
-        let mut name = right.name.clone();
-        name[place] ^= 1 << random.below(8);
-        near.push(with_name(name));
-    }
-    for len in [right.len - 1, right.len + 1] {
-        if (1..=LONGEST_NAME).contains(&len) {
-            let mut name = right.name.clone();
-            name.resize(len, b'x');
-            near.push(with_name(name));
-        }
-    }
-    near
-}
-
 #[test]
 fn near_matches() {
     let mut pulls = Pulls::new("pull by entries that nearly match");
@@ -229,7 +198,7 @@ fn near_matches() {
     for len in (1..=40).chain([200, 254, 255]) {
         let name = good_name(&mut pulls.trial.random, len);
         let right = Dentry::new(&name, slots.scene.ino);
-        for dentry in near(&right, &mut pulls.trial.random) {
+        for dentry in right.near(&mut pulls.trial.random) {
             slots.put_dentry(3, &dentry);
             slots.expect(&mut pulls, &name, 2);
             slots.put_dentry(40, &right);

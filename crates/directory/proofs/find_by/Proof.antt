@@ -1,6 +1,6 @@
 -- `find_by` meets its contract. The loop over levels: what is left of the search is the levels from this one on. The loop over blocks:
 -- what is left of the level is its bucket from block k on. The loop over slots: what is left of the block is its slots from this one
--- on. The laws of the first two are in `Turns`, those of the third in `Slots`. The slices keep their lengths, as each walk says.
+-- on. The laws of the first two are in `Turns`, those of the third in `Scans` of `dentry`. The slices keep their lengths, as each walk says.
 use Prim.Native.Nat.{ℕ, _+_, _-_, _≤_, _<_}
 use native.Mathlib.Omega.{arith}
 use mathlib.Core.Path.{_≡_, sym, ap, subst, _∙_}
@@ -14,22 +14,23 @@ use Rattle.node.specs.Found.{dataOf, DataIn}
 use Rattle.hash_level.specs.declared.Level.{Level}
 use Rattle.hash_level.specs.Level.{blocksOf, bucketOf}
 use Rattle.hash_level.proofs.Levels.{blocks-few, bucket-small}
-use Rattle.directory.specs.Slot.{wanted}
+use Rattle.dentry.specs.Slot.{Wanted, wanted}
 use Rattle.directory.specs.Find.{directoryOf}
-use Rattle.directory.proofs.Slots.{other-bounds, Seeking, seeking-start, seeking-free, seeking-other, seeking-end}
-use Rattle.directory.proofs.Slots.{seeking-found, seeking-malformed}
+use Rattle.dentry.specs.declared.Turn.{Turn}
+use Rattle.dentry.specs.Scan.{Scanning, Took}
+use Rattle.dentry.proofs.Scans.{scanning-start, scanning-end}
 use Rattle.directory.proofs.Turns.{Levels, levels-start, levels-next, levels-out, levels-end, block-fits}
 use Rattle.directory.proofs.Turns.{Bucket, bucket-start, bucket-stop, bucket-hole, bucket-absent, bucket-found, bucket-malformed}
 use Rattle.directory.proofs.find_by.Statement.{statement}
 use Rattle.directory.proofs.find_by.Tie as tie
 
 abbrev Inv-slots : tie.InvT-slots
-Inv-slots image v nodes blocks file dir firsts depth hash name listed level count bucket k at block slot₀ slot =
-    Seeking block (wanted hash name) slot
+Inv-slots image v nodes blocks file dir firsts depth hash name listed level count bucket k at block scan₀ scan =
+    Scanning block (wanted hash name) scan
 
 abbrev μ-slots : tie.MeasureT-slots
-μ-slots image v nodes blocks file dir firsts depth hash name listed level count bucket k at block slot₀ slot =
-    214 - slot
+μ-slots image v nodes blocks file dir firsts depth hash name listed level count bucket k at block scan₀ scan =
+    214 - scan .slot
 
 abbrev Inv-bucket : tie.InvT-bucket
 Inv-bucket image v nodes₀ blocks₀ file dir firsts depth hash name listed₀ level count bucket k₀ nodes blocks listed k =
@@ -86,8 +87,11 @@ abbrev listed-of :
 listed-of k = k .before .before .before .before
 
 abbrev block-of :
-    tie.In-slots Inv-slots μ-slots Inv-bucket μ-bucket Inv-levels μ-levels → tie.After-block-at Inv-slots μ-slots Inv-bucket μ-bucket Inv-levels μ-levels
-block-of k = k .before .before
+    tie.At-slots Inv-slots μ-slots Inv-bucket μ-bucket Inv-levels μ-levels → tie.After-block-at Inv-slots μ-slots Inv-bucket μ-bucket Inv-levels μ-levels
+block-of s = s .before
+
+abbrev slots-of : tie.Then2 Inv-slots μ-slots Inv-bucket μ-bucket Inv-levels μ-levels → tie.At-slots Inv-slots μ-slots Inv-bucket μ-bucket Inv-levels μ-levels
+slots-of t = t .before .before
 
 -- ---- what is known there
 abbrev card-of : tie.In-bucket Inv-slots μ-slots Inv-bucket μ-bucket Inv-levels μ-levels → Card
@@ -114,12 +118,17 @@ held-of : (k : tie.After-block-at Inv-slots μ-slots Inv-bucket μ-bucket Inv-le
 held-of k =
     ap (dataOf (card-of (turn-of (listed-of k)))) (k .before .before .data2 .given .1) ∙ ap (λ (l : List ℕ). ok (held l)) (sym (k .block-at .ensures))
 
--- another entry has a slot at least, and ends before the block does
-passed-within : (k : tie.After-passed Inv-slots μ-slots Inv-bucket μ-bucket Inv-levels μ-levels) →
-    let slot = k .before .before .before .before .slots .slot in
-    let n = k .passed .given .0 .0 in
-    (1 ≤ n) × (slot + n ≤ 214)
-passed-within k = other-bounds _ _ _ _ (sym (k .passed .given .1) ∙ k .before .before .slot-at .ensures)
+-- what a turn of the scan came to, by the variant that was told
+abbrev wanted-of : tie.At-slots Inv-slots μ-slots Inv-bucket μ-bucket Inv-levels μ-levels → Wanted
+wanted-of s = let a = start-of (turn-of (listed-of (block-of s))) .args in wanted (a .hash) (a .name .now)
+
+took : (t : tie.After-take-turn Inv-slots μ-slots Inv-bucket μ-bucket Inv-levels μ-levels) {turn : Turn} → t .take-turn .result .turn ≡ turn
+    → let s = slots-of (t .before) in
+    Took (block-of s .block-at .result .now) (wanted-of s) (s .slots .scan) turn (t .take-turn .result .scan)
+took t told =
+    let s = slots-of (t .before) in
+    let next = t .take-turn .result .scan in
+    subst (λ (turn : Turn). Took (block-of s .block-at .result .now) (wanted-of s) (s .slots .scan) turn next) told (t .take-turn .ensures .0)
 
 -- ---- the needs
 
@@ -181,58 +190,39 @@ block-at-requires c κs =
 
 slots-holds : tie.Need-slots-holds Inv-slots μ-slots Inv-bucket μ-bucket Inv-levels μ-levels
 slots-holds c =
-    seeking-start _ _
+    scanning-start _ _
 
 bucket-less-2 : tie.Need-bucket-less-2 Inv-slots μ-slots Inv-bucket μ-bucket Inv-levels μ-levels
 bucket-less-2 c = search needs
 
 bucket-again-2 : tie.Need-bucket-again-2 Inv-slots μ-slots Inv-bucket μ-bucket Inv-levels μ-levels
 bucket-again-2 c =
-    let k = c .before .before in
+    let s = c .before .before in
+    let k = block-of s in
     let l = listed-of k in
     let b = turn-of l in
-    let none = seeking-end (c .before .slots .inv) (c .slots-test .left) in
+    let none = scanning-end (s .slots .inv) (c .if2 .left) .0 in
     bucket-absent (b .before .bucket .inv) (more b) (index b) (fetch-of l .fetch .ensures .0) (held-of k) none
 
-slot-at-requires : tie.Need-slot-at-requires Inv-slots μ-slots Inv-bucket μ-bucket Inv-levels μ-levels
-slot-at-requires c κs =
-    let k = block-of c in
-    (length-of-block _ _ (in-card (k .before .before)) (k .block-at .ensures), c .slots-test .taken)
+take-turn-requires : tie.Need-take-turn-requires Inv-slots μ-slots Inv-bucket μ-bucket Inv-levels μ-levels
+take-turn-requires c κs =
+    let s = slots-of c in
+    let k = block-of s in
+    (length-of-block _ _ (in-card (k .before .before)) (k .block-at .ensures), c .if2 .taken, s .slots .inv)
 
 enum-told-2 : tie.Need-enum-told-2 Inv-slots μ-slots Inv-bucket μ-bucket Inv-levels μ-levels
 enum-told-2 c = search needs
 
-add-slot : tie.Need-add-slot Inv-slots μ-slots Inv-bucket μ-bucket Inv-levels μ-levels
-add-slot c = search needs
-
 slots-less : tie.Need-slots-less Inv-slots μ-slots Inv-bucket μ-bucket Inv-levels μ-levels
-slots-less c = search needs
+slots-less c =
+    let t = c .before .before .before in
+    omega (arith, took t (c .enum-told2 .given .1) .0, t .before .if2 .taken)
 
 slots-again : tie.Need-slots-again Inv-slots μ-slots Inv-bucket μ-bucket Inv-levels μ-levels
-slots-again c =
-    let s = c .before .before in
-    let slot = s .before in
-    seeking-free (slot .before .slots .inv) (slot .slots-test .taken) (sym (c .enum-told2 .given .1) ∙ s .slot-at .ensures)
+slots-again c = took (c .before .before .before) (c .enum-told2 .given .1) .1
 
-enum-known-ino : tie.Need-enum-known-ino Inv-slots μ-slots Inv-bucket μ-bucket Inv-levels μ-levels
-enum-known-ino c = search needs
-
-enum-known-passed : tie.Need-enum-known-passed Inv-slots μ-slots Inv-bucket μ-bucket Inv-levels μ-levels
-enum-known-passed c = search needs
-
-add-slot-2 : tie.Need-add-slot-2 Inv-slots μ-slots Inv-bucket μ-bucket Inv-levels μ-levels
-add-slot-2 c =
-    omega (arith, passed-within (c .before))
-
-slots-less-2 : tie.Need-slots-less-2 Inv-slots μ-slots Inv-bucket μ-bucket Inv-levels μ-levels
-slots-less-2 c =
-    omega (arith, passed-within (c .before))
-
-slots-again-2 : tie.Need-slots-again-2 Inv-slots μ-slots Inv-bucket μ-bucket Inv-levels μ-levels
-slots-again-2 c =
-    let s = c .before .before .before in
-    let slot = s .before in
-    seeking-other (slot .before .slots .inv) (slot .slots-test .taken) (sym (c .before .passed .given .1) ∙ s .slot-at .ensures)
+enum-known-turn : tie.Need-enum-known-turn Inv-slots μ-slots Inv-bucket μ-bucket Inv-levels μ-levels
+enum-known-turn c = search needs
 
 enum-told-3 : tie.Need-enum-told-3 Inv-slots μ-slots Inv-bucket μ-bucket Inv-levels μ-levels
 enum-told-3 c = search needs
@@ -277,23 +267,21 @@ returns-2 c =
 
 returns-3 : tie.Need-returns-3 Inv-slots μ-slots Inv-bucket μ-bucket Inv-levels μ-levels
 returns-3 c =
-    let s = c .before .before .before in
-    let slot = s .before in
-    let k = block-of slot in
+    let t = c .before .before .before .before in
+    let k = block-of (slots-of (t .before)) in
     let l = listed-of k in
     let b = turn-of l in
-    let told = seeking-found (slot .before .slots .inv) (slot .slots-test .taken) (sym (c .before .ino .given .1) ∙ s .slot-at .ensures) in
+    let told = took t (c .before .turn .given .1) .0 in
     levels-out (levels-of b .levels .inv) (within-of b .if1 .left)
     (bucket-found (b .before .bucket .inv) (more b) (index b) (fetch-of l .fetch .ensures .0) (held-of k) told)
 
 returns-4 : tie.Need-returns-4 Inv-slots μ-slots Inv-bucket μ-bucket Inv-levels μ-levels
 returns-4 c =
-    let s = c .before .before in
-    let slot = s .before in
-    let k = block-of slot in
+    let t = c .before .before .before in
+    let k = block-of (slots-of (t .before)) in
     let l = listed-of k in
     let b = turn-of l in
-    let told = seeking-malformed (slot .before .slots .inv) (slot .slots-test .taken) (sym (c .enum-told3 .given .1) ∙ s .slot-at .ensures) in
+    let told = took t (c .enum-told3 .given .1) .0 in
     levels-out (levels-of b .levels .inv) (within-of b .if1 .left)
     (bucket-malformed (b .before .bucket .inv) (more b) (index b) (fetch-of l .fetch .ensures .0) (held-of k) told)
 
@@ -338,16 +326,11 @@ find-by-spec =
     slots-holds
     bucket-less-2
     bucket-again-2
-    slot-at-requires
+    take-turn-requires
     enum-told-2
-    add-slot
     slots-less
     slots-again
-    enum-known-ino
-    enum-known-passed
-    add-slot-2
-    slots-less-2
-    slots-again-2
+    enum-known-turn
     enum-told-3
     add-level
     levels-less

@@ -11,7 +11,7 @@ use Rattle.walk.specs.Walk.{imageView, lists}
 use Rattle.walk.proofs.Reached.{Reached, reached-start, reached-to, reached-all, reached-done}
 use Rattle.walk.proofs.Fits.{fits-at}
 use Rattle.node.specs.Node.{boundsOf}
-use Rattle.directory.specs.Slot.{wanted}
+use Rattle.dentry.specs.Slot.{wanted}
 use Rattle.directory.specs.Find.{directory, findWalk}
 use Rattle.pull.specs.Walk.{rootIno, atRoot}
 use Rattle.pull.proofs.Cases.{root-other, root-empty, root-search}

@@ -1,13 +1,13 @@
--- `directory::slot_at` meets its contract: each return is one case of a slot's meaning.
+-- `dentry::slot_at` meets its contract: each return is one case of a slot's meaning.
 use native.Mathlib.Omega.{arith}
 use mathlib.Core.Path.{_≡_, sym, _∙_}
 use borrow.Author.Needs.{needs}
 use borrow.Author.Tests.{not-true, not-false}
 use Rattle.field.specs.Map.{lowBit}
-use Rattle.directory.specs.Slot.{wellFormed}
-use Rattle.directory.proofs.Slots.{slot-free, slot-malformed, Formed, other-hash, other-length, other-bytes, slot-match, formed}
-use Rattle.directory.proofs.slot_at.Statement.{statement}
-use Rattle.directory.proofs.slot_at.Tie as tie
+use Rattle.dentry.specs.Slot.{wellFormed}
+use Rattle.dentry.proofs.Slots.{slot-free, slot-malformed, Formed, other-hash, other-length, other-bytes, slot-match, formed}
+use Rattle.dentry.proofs.slot_at.Statement.{statement}
+use Rattle.dentry.proofs.slot_at.Tie as tie
 
 -- ---- the places on the way
 abbrev start-of : tie.Else1 → tie.Start

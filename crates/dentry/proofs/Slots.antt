@@ -1,21 +1,22 @@
--- What a slot is, case by case, and the loop over the slots of a block: its invariant with a start, a turn, the ways out and an end.
+-- What a slot is, case by case.
 use Prim.Native.Nat.{ℕ, zero, suc, _+_, _-_, _*_, _≤_, _<_}
 use native.Mathlib.Omega.{arith}
-use mathlib.Core.Path.{_≡_, refl, ap, _∙_}
+use mathlib.Core.Path.{_≡_, refl, sym, ap, _∙_}
+use mathlib.Core.Logic.{_⊎_, inl, inr}
 use mathlib.Core.Bool.{Bool, true, false, and-false}
 use mathlib.Core.List.{List}
 use lib.ListN.{length}
 use lib.Dec.{eqb}
-use borrow.Author.Tests.{lt-ltb, le-ltb, eq-eqb, ne-eqb}
+use borrow.Author.Tests.{eq-eqb, ne-eqb}
 use Rattle.field.specs.Number.{le32}
 use Rattle.field.specs.Map.{lowBit}
 use Rattle.field.specs.Choice.{choose}
 use Rattle.field.specs.Bytes.{sameAt}
 use Rattle.field.proofs.Choosing.{needed-le}
-use Rattle.directory.specs.declared.Slot.{Slot}
-use Rattle.directory.specs.declared.Slot.the-variants.{Free, Match, Other, Malformed}
-use Rattle.directory.specs.Slot.{Wanted, entryAt, lengthIn, slotsFor, wellFormed, matches, slotAt}
-use Rattle.directory.specs.Slot.{absent, found, malformed, afterSlot, slotsFrom, inBlock}
+use Rattle.field.proofs.Maps.{low-bit}
+use Rattle.dentry.specs.declared.Slot.{Slot}
+use Rattle.dentry.specs.declared.Slot.the-variants.{Free, Match, Other, Malformed}
+use Rattle.dentry.specs.Slot.{Wanted, entryAt, lengthIn, slotsFor, wellFormed, matches, slotAt}
 
 -- ---- one slot, in the order of its tests
 module _ (block : List ℕ) (w : Wanted) (slot : ℕ) where
@@ -83,45 +84,28 @@ other-bounds block w slot n p =
     let q : n ≡ slotsFor size = t .1 in
     omega arith
 
--- ---- the loop over the slots of a block
+-- ---- its bit, which is set in all cases but one
+abbrev pub bitOf : Slot → ℕ
+bitOf Free = 0
+bitOf (Match ino) = 1
+bitOf (Other slots) = 1
+bitOf Malformed = 1
 
--- What the slots from here on come to is what the block comes to; the turns are enough to reach its end.
-pub record Seeking (block : List ℕ) (w : Wanted) (slot : ℕ) : Type 0 where
-  pub turns : ℕ
-  pub enough : 214 ≤ slot + turns
-  pub same : inBlock block w ≡ slotsFrom block w turns slot
+set-bit : (formed same : Bool) (m ino : ℕ) → bitOf (choose formed (choose same (Match ino) (Other m)) Malformed) ≡ 1
+set-bit true true m i = refl
+set-bit true false m i = refl
+set-bit false s m i = refl
 
-pub seeking-start : (block : List ℕ) (w : Wanted) → Seeking block w 0
-seeking-start block w = record { turns = 214; enough = omega arith; same = refl }
+pub slot-bit : (block : List ℕ) (w : Wanted) (slot : ℕ) {o : Slot} → o ≡ slotAt block w slot → lowBit block slot ≡ bitOf o
+unfolding slotAt
+slot-bit block w slot p = go (low-bit block slot) ∙ ap bitOf (sym p)
+  where
+    size : ℕ
+    size = lengthIn block slot
 
-module _ {block : List ℕ} {w : Wanted} {slot : ℕ} (go : Seeking block w slot) where
-  pub seeking-end : 214 ≤ slot → inBlock block w ≡ absent
-  unfolding slotsFrom
-  seeking-end h = go .same ∙ over (go .turns)
-    where
-      over : (turns : ℕ) → slotsFrom block w turns slot ≡ absent
-      over zero = refl
-      over (suc turns) = rw (le-ltb slot 214 h)
-
-  module _ (h : slot < 214) where
-    turn : {o : Slot} → o ≡ slotAt block w slot → inBlock block w ≡ afterSlot (slotsFrom block w (go .turns - 1)) slot o
-    unfolding slotsFrom
-    turn p =
-        let enough = go .enough in
-        let e : go .turns ≡ suc (go .turns - 1) = omega arith in
-        go .same ∙ ap (λ (n : ℕ). slotsFrom block w n slot) e ∙ rw (lt-ltb slot 214 h, p)
-
-    pub seeking-free : Free ≡ slotAt block w slot → Seeking block w (slot + 1)
-    seeking-free p = let enough = go .enough in record { turns = go .turns - 1; enough = omega arith; same = turn p }
-
-    pub seeking-other : {n : ℕ} → Other n ≡ slotAt block w slot → Seeking block w (slot + n)
-    seeking-other p =
-        let enough = go .enough in
-        let bounds = other-bounds block w slot _ p in
-        record { turns = go .turns - 1; enough = omega arith; same = turn p }
-
-    pub seeking-found : {ino : ℕ} → Match ino ≡ slotAt block w slot → inBlock block w ≡ found ino
-    seeking-found p = turn p
-
-    pub seeking-malformed : Malformed ≡ slotAt block w slot → inBlock block w ≡ malformed
-    seeking-malformed p = turn p
+    go : (lowBit block slot ≡ 0) ⊎ (lowBit block slot ≡ 1) → lowBit block slot ≡ bitOf (slotAt block w slot)
+    go (inl z) = rw (eq-eqb (lowBit block slot) 0 z, z)
+    go (inr u) =
+        let used : lowBit block slot ≡ 0 → ⊥ = λ z. omega arith in
+        rw (ne-eqb (lowBit block slot) 0 used, u)
+        (sym (set-bit (wellFormed slot size) (matches block w slot) (slotsFor size) (le32 block (entryAt slot + 4))))

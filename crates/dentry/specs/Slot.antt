@@ -9,8 +9,8 @@ use Rattle.field.specs.Number.{le16, le32}
 use Rattle.field.specs.Map.{lowBit}
 use Rattle.field.specs.Choice.{choose}
 use Rattle.field.specs.Bytes.{sameAt}
-use Rattle.directory.specs.declared.Slot.{Slot}
-use Rattle.directory.specs.declared.Slot.the-variants.{Free, Match, Other, Malformed}
+use Rattle.dentry.specs.declared.Slot.{Slot}
+use Rattle.dentry.specs.declared.Slot.the-variants.{Free, Match, Other, Malformed}
 
 -- the name that is sought, and its hash
 pub record Wanted : Type 0 where

@@ -1,0 +1,49 @@
+// The scan of a directory block alone, for tests and measurement; it is not in the library that the rig links.
+// What it means is in specs/: Scanned.
+ghost use mathlib.Core.Path.{_≡_};
+ghost use Prim.Native.Nat.{_≤_};
+ghost use Rattle.dentry.specs.Scan.{turnsMost};
+ghost use Rattle.scan_export.specs.Scanned.{seeks, scanned};
+
+// A scan's numbers, as they cross to C.
+#[repr(C)]
+pub struct Scanned {
+    pub answer: u32,
+    pub inode: u32,
+    pub turns: u32,
+}
+
+#[no_mangle]
+pub extern "C" fn scan_export_scan(block: &[u8], name: &[u8]) -> Scanned
+    ensures { λ r. ⌜ r ≡ scanned (now (block .entry)) (now (name .entry)) ⌝ }
+    ensures { λ r. ⌜ r .turns ≤ turnsMost (now (block .entry)) (seeks (now (name .entry))) ⌝ }
+{
+    if !((block.len() == 4096) & name_hash::is_name(name)) {
+        return Scanned {
+            answer: answer::OUT_OF_SHAPE,
+            inode: 0,
+            turns: 0,
+        };
+    }
+    let hash = name_hash::hash(name);
+    let step = dentry::scan_block(block, hash, name);
+    let turn = step.turn;
+    let turns = step.scan.turns as u32;
+    match turn {
+        dentry::Turn::On => Scanned {
+            answer: answer::NO_NAME,
+            inode: 0,
+            turns,
+        },
+        dentry::Turn::Found(inode) => Scanned {
+            answer: answer::DATA,
+            inode,
+            turns,
+        },
+        dentry::Turn::Malformed => Scanned {
+            answer: answer::MALFORMED_SLOT,
+            inode: 0,
+            turns,
+        },
+    }
+}

@@ -1,0 +1,129 @@
+//! Scans by the archive, compared with the reference's and with what the paper says.
+
+use std::fmt::{Debug, Formatter, Result};
+
+use crate::answers::Answers;
+use crate::cards::dentry_block::DentryBlock;
+use crate::cards::layout::dentry::MAP_BYTES;
+use crate::scan_export::{scan, Scanned};
+use crate::system::Guarded;
+use crate::trial::Trial;
+
+pub const NAME: &[u8] = b"road.bin";
+pub const INO: u32 = 0xA1B2_C3D4;
+
+const ALIGNMENTS: usize = 16;
+
+pub const OUT_OF_SHAPE: Scanned = ended(4, 0);
+
+pub const fn found(inode: u32, turns: usize) -> Scanned {
+    Scanned {
+        inode,
+        ..ended(0, turns)
+    }
+}
+
+pub const fn missing(turns: usize) -> Scanned {
+    ended(2, turns)
+}
+
+pub const fn malformed(turns: usize) -> Scanned {
+    ended(14, turns)
+}
+
+const fn ended(answer: u32, turns: usize) -> Scanned {
+    Scanned {
+        answer,
+        inode: 0,
+        turns: turns as u32,
+    }
+}
+
+/// What is asked of a scan.
+struct Call<'a> {
+    block: &'a [u8],
+    name: &'a [u8],
+}
+
+impl Debug for Call<'_> {
+    fn fmt(&self, f: &mut Formatter) -> Result {
+        let len = self.block.len();
+        let map = &self.block[..len.min(MAP_BYTES)];
+        let sum = reference::checksum::checksum(self.block);
+        let name = self.name.escape_ascii();
+        write!(f, "'{name}' in {len} bytes, map {map:02X?}, sum {sum:08X}")
+    }
+}
+
+/// A scan, and whether it kept to the most turns for its entries.
+#[derive(Debug, PartialEq, Eq)]
+struct Judged {
+    scanned: Scanned,
+    by_the_paper: Scanned,
+    within_the_bound: bool,
+}
+
+pub struct Scans {
+    pub trial: Trial,
+    answers: Answers,
+    memory: Guarded,
+    alignment: usize,
+}
+
+impl Scans {
+    pub fn new(name: &'static str) -> Scans {
+        Scans {
+            trial: Trial::new(name),
+            answers: Answers::default(),
+            memory: Guarded::new(2),
+            alignment: 0,
+        }
+    }
+
+    /// Compares a scan with the reference's.
+    pub fn compare(&mut self, block: &DentryBlock, name: &[u8]) {
+        let block = block.bytes();
+        self.check(&Call { block, name }, None);
+    }
+
+    /// Compares also with what the paper says.
+    pub fn expect(&mut self, block: &DentryBlock, name: &[u8], paper: Scanned) {
+        self.expect_in(block.bytes(), name, paper);
+    }
+
+    /// The same in any bytes.
+    pub fn expect_in(&mut self, block: &[u8], name: &[u8], paper: Scanned) {
+        self.check(&Call { block, name }, Some(paper));
+    }
+
+    /// Scans a block that ends at a guard page, and one near the other guard page at any alignment.
+    fn check(&mut self, call: &Call, paper: Option<Scanned>) {
+        let at_end = scan(self.memory.lend_at_end(call.block), call.name);
+        let at_start = scan(self.memory.lend(self.alignment, call.block), call.name);
+        self.alignment = (self.alignment + 1) % ALIGNMENTS;
+        let met = reference::slots::scan(call.block, call.name);
+        let library = [at_end, at_start].map(|scanned| Judged {
+            scanned,
+            by_the_paper: scanned,
+            within_the_bound: scanned.turns <= 2 * met.entries + 1,
+        });
+        let reference = Scanned {
+            answer: met.answer,
+            inode: met.inode,
+            turns: met.entries + met.runs,
+        };
+        let reference = [0, 1].map(|_| Judged {
+            scanned: reference,
+            by_the_paper: paper.unwrap_or(reference),
+            within_the_bound: true,
+        });
+        self.answers.note(at_end.answer);
+        self.trial.compare(call, library, reference);
+    }
+
+    /// Ends the trial, in which each of these answers has to have come up.
+    pub fn finish(self, at_least: u64, answers: &[u32]) {
+        self.trial.finish(at_least);
+        self.answers.finish(answers);
+    }
+}
