@@ -18,6 +18,8 @@ pub fn contender<'a, T>(mut call: impl FnMut() -> T + 'a) -> Contender<'a> {
 #[derive(Clone, Copy)]
 pub struct Often {
     pub rounds: usize,
+    /// Calls that aren't timed, before those that are: a card may be in the caches for the second side only.
+    pub warm: usize,
     pub calls: usize,
 }
 
@@ -31,7 +33,7 @@ impl Grid {
     pub fn of(often: Often, mut columns: Vec<Vec<Contender>>) -> Grid {
         let mut round = || -> Vec<Vec<f64>> {
             let column = |sides: &mut Vec<Contender>| {
-                let times = sides.iter_mut().map(|side| time(often.calls, side));
+                let times = sides.iter_mut().map(|side| time(often, side));
                 times.collect()
             };
             columns.iter_mut().map(column).collect()
@@ -92,11 +94,10 @@ impl Grid {
     }
 }
 
-fn time(calls: usize, contender: &mut Contender) -> f64 {
+fn time(often: Often, contender: &mut Contender) -> f64 {
+    (0..often.warm).for_each(|_| contender());
     let start = processor_time();
-    for _ in 0..calls {
-        contender();
-    }
+    (0..often.calls).for_each(|_| contender());
     // A clock that hasn't moved must not divide by zero.
     (processor_time() - start).max(1e-6)
 }

@@ -12,6 +12,7 @@ use std::hint::black_box;
 const CHECKPOINT_BYTES: usize = 4092;
 const OFTEN: Often = Often {
     rounds: 31,
+    warm: 0,
     calls: 100,
 };
 

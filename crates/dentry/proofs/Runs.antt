@@ -1,11 +1,11 @@
 -- Runs of free slots: one slot on there is one slot less of it, a scan passes it at once in one turn, and it meets at most one run more
 -- than entries. So it takes at most 2e + 1 turns for e entries.
-use Prim.Native.Nat.{ℕ, zero, suc, _+_, _-_, _*_, _≤_, _<_}
+use Prim.Native.Nat.{ℕ, zero, suc, _+_, _-_, _≤_, _<_}
 use native.Mathlib.Omega.{arith}
 use native.Mathlib.Nat.{zero-add}
 use mathlib.Core.Path.{_≡_, refl, sym, ap, ap₂, _∙_}
 use mathlib.Core.Logic.{_⊎_, inl, inr}
-use mathlib.Core.Bool.{Bool, true, false}
+use mathlib.Core.Bool.{true, false}
 use mathlib.Core.List.{List}
 use lib.Dec.{ltb}
 use borrow.Author.Tests.{lt-ltb, le-ltb, eq-eqb, ne-eqb, ltb-true, ltb-false}
@@ -20,7 +20,7 @@ use Rattle.dentry.proofs.Slots.{bitOf, slot-free, slot-bit}
 
 -- ---- a run from a slot on
 module _ (block : List ℕ) (slot : ℕ) where
-  pub run-over : 214 ≤ slot → freeRun block slot ≡ 0
+  run-over : 214 ≤ slot → freeRun block slot ≡ 0
   unfolding zerosFrom
   run-over h = let p : 214 - slot ≡ 0 = omega arith in rw p
 
@@ -32,13 +32,20 @@ module _ (block : List ℕ) (slot : ℕ) where
     unfolding zerosFrom
     run-free z = rw (to-next, z)
 
-    pub run-used : lowBit block slot ≡ 1 → freeRun block slot ≡ 0
+    run-used : lowBit block slot ≡ 1 → freeRun block slot ≡ 0
     unfolding zerosFrom
     run-used z = rw (to-next, z)
 
+  -- it is counted at its last slot
+  ends-last : freeRun block slot ≡ 1 → endsRun block slot ≡ 1
+  ends-last e = rw (eq-eqb (freeRun block slot) 1 e)
+
+  ends-not : (freeRun block slot ≡ 1 → ⊥) → endsRun block slot ≡ 0
+  ends-not d = rw (ne-eqb (freeRun block slot) 1 d)
+
 -- ---- one slot of a scan
 module _ (of : ℕ → ℕ) (block : List ℕ) (w : Wanted) where
-  pub tally-none : (slot : ℕ) → tallyFrom of block w 0 slot ≡ 0
+  tally-none : (slot : ℕ) → tallyFrom of block w 0 slot ≡ 0
   unfolding tallyFrom
   tally-none slot = refl
 
@@ -47,45 +54,39 @@ module _ (of : ℕ → ℕ) (block : List ℕ) (w : Wanted) where
   tally-over zero slot h = refl
   tally-over (suc n) slot h = rw (le-ltb slot 214 h)
 
-  pub tally-step : {o : Slot} (n slot : ℕ) → slot < 214 → o ≡ slotAt block w slot
+  tally-step : {o : Slot} (n slot : ℕ) → slot < 214 → o ≡ slotAt block w slot
       → tallyFrom of block w (suc n) slot ≡ of slot + tallyAfter (tallyFrom of block w n) slot o
   unfolding tallyFrom
   tally-step n slot h p = rw (lt-ltb slot 214 h, p)
 
-module _ (block : List ℕ) (w : Wanted) where
-  -- a run is counted at its last slot
-  ends-last : (slot : ℕ) → freeRun block slot ≡ 1 → endsRun block slot ≡ 1
-  ends-last slot e = rw (eq-eqb (freeRun block slot) 1 e)
+module _ (block : List ℕ) (w : Wanted) (n slot : ℕ) (h : slot < 214) where
+  abbrev entries : ℕ
+  entries = entriesFrom block w (suc n) slot
 
-  ends-not : (slot : ℕ) → (freeRun block slot ≡ 1 → ⊥) → endsRun block slot ≡ 0
-  ends-not slot d = rw (ne-eqb (freeRun block slot) 1 d)
+  abbrev runs : ℕ
+  runs = runsFrom block w (suc n) slot
 
-  module _ (n slot : ℕ) (h : slot < 214) where
-    abbrev entries : ℕ
-    entries = entriesFrom block w (suc n) slot
+  -- a free slot: one of several of its run, or the last
+  step-free : Free ≡ slotAt block w slot
+      → (entries ≡ entriesFrom block w n (slot + 1)) × (runs ≡ endsRun block slot + runsFrom block w n (slot + 1))
+  step-free p =
+      let bit = slot-bit block w slot p in
+      let e = tally-step (lowBit block) block w n slot h p in
+      let r = tally-step (endsRun block) block w n slot h p in
+      (omega arith, r)
 
-    abbrev runs : ℕ
-    runs = runsFrom block w (suc n) slot
-
-    -- a free slot: one of several of its run, or the last
-    pub step-free : Free ≡ slotAt block w slot
-        → (entries ≡ entriesFrom block w n (slot + 1)) × (runs ≡ endsRun block slot + runsFrom block w n (slot + 1))
-    step-free p =
-        let bit = slot-bit block w slot p in
-        let e = tally-step (lowBit block) block w n slot h p in
-        let r = tally-step (endsRun block) block w n slot h p in
-        (omega arith, r)
-
-    -- an entry: one is counted, and no run
-    pub step-used : {o : Slot} → o ≡ slotAt block w slot → bitOf o ≡ 1
-        → (entries ≡ 1 + tallyAfter (entriesFrom block w n) slot o) × (runs ≡ tallyAfter (runsFrom block w n) slot o)
-    step-used {o = o} p u =
-        let bit = slot-bit block w slot p ∙ u in
-        let e = tally-step (lowBit block) block w n slot h p in
-        let r = tally-step (endsRun block) block w n slot h p in
-        let none = run-used block slot h bit in
-        let no = ends-not slot (λ q. omega arith) in
-        (e ∙ ap (λ (b : ℕ). b + tallyAfter (entriesFrom block w n) slot o) bit, r ∙ ap (λ (b : ℕ). b + tallyAfter (runsFrom block w n) slot o) no ∙ zero-add _)
+  -- an entry: one is counted, and no run
+  pub step-used : {o : Slot} → o ≡ slotAt block w slot → bitOf o ≡ 1
+      → (entries ≡ 1 + tallyAfter (entriesFrom block w n) slot o) × (runs ≡ tallyAfter (runsFrom block w n) slot o)
+  step-used {o = o} p u =
+      let bit = slot-bit block w slot p ∙ u in
+      let e = tally-step (lowBit block) block w n slot h p in
+      let r = tally-step (endsRun block) block w n slot h p in
+      let none = run-used block slot h bit in
+      let no = ends-not block slot (λ q. omega arith) in (
+        e ∙ ap (λ (b : ℕ). b + tallyAfter (entriesFrom block w n) slot o) bit,
+        r ∙ ap (λ (b : ℕ). b + tallyAfter (runsFrom block w n) slot o) no ∙ zero-add _,
+      )
 
 -- ---- the bound
 module _ (block : List ℕ) (w : Wanted) where
@@ -98,14 +99,14 @@ module _ (block : List ℕ) (w : Wanted) where
   few-free : (n slot : ℕ) → slot < 214 → Free ≡ slotAt block w slot → Few n (slot + 1) → (m : ℕ) → freeRun block (slot + 1) ≡ m → Few (suc n) slot
   few-free n slot h p few zero z =
       let run = run-free block slot h (slot-bit block w slot p) in
-      let one = ends-last block w slot (run ∙ ap suc z) in
+      let one = ends-last block slot (run ∙ ap suc z) in
       let s = step-free block w n slot h p in
       let fewer = few .1 z in
       let most = few .2 in
       (omega arith, λ none. omega arith, omega arith)
   few-free n slot h p few (suc m) z =
       let run = run-free block slot h (slot-bit block w slot p) in
-      let more = ends-not block w slot (λ q. omega arith) in
+      let more = ends-not block slot (λ q. omega arith) in
       let s = step-free block w n slot h p in
       let fewer = few .0 in
       let most = few .2 in
@@ -148,7 +149,7 @@ module _ (block : List ℕ) (w : Wanted) where
 
 -- where a run begins there is a free slot, and behind it the rest of the run
 module _ (block : List ℕ) (slot : ℕ) where
-  pub run-first : {r : ℕ} → freeRun block slot ≡ suc r → (slot < 214) × (lowBit block slot ≡ 0) × (freeRun block (slot + 1) ≡ r)
+  run-first : {r : ℕ} → freeRun block slot ≡ suc r → (slot < 214) × (lowBit block slot ≡ 0) × (freeRun block (slot + 1) ≡ r)
   run-first {r = r} e = go (either (ltb slot 214))
     where
       under : slot < 214 → (lowBit block slot ≡ 0) ⊎ (lowBit block slot ≡ 1) → (slot < 214) × (lowBit block slot ≡ 0) × (freeRun block (slot + 1) ≡ r)
@@ -180,7 +181,7 @@ module _ (block : List ℕ) (w : Wanted) where
   turns-run zero n slot e =
       let first = run-first block slot e in
       let s = step-free block w n slot (first .0) (sym (slot-free block w slot (first .1))) in
-      let one = ends-last block w slot e in
+      let one = ends-last block slot e in
       let p : suc zero + n ≡ suc n = omega arith in
       let q : slot + 1 ≡ slot + suc zero = omega arith in
       let all : turnsFrom block w (suc n) slot ≡ 1 + turnsFrom block w n (slot + 1) = omega arith in
@@ -188,7 +189,7 @@ module _ (block : List ℕ) (w : Wanted) where
   turns-run (suc r) n slot e =
       let first = run-first block slot e in
       let s = step-free block w (suc r + n) slot (first .0) (sym (slot-free block w slot (first .1))) in
-      let more = ends-not block w slot (λ q. omega arith) in
+      let more = ends-not block slot (λ q. omega arith) in
       let p : suc (suc r) + n ≡ suc (suc r + n) = omega arith in
       let q : slot + 1 + suc r ≡ slot + suc (suc r) = omega arith in
       let one : turnsFrom block w (suc (suc r + n)) slot ≡ turnsFrom block w (suc r + n) (slot + 1) = omega arith in

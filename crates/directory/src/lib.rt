@@ -1,8 +1,6 @@
 // A name sought in a directory: the nested search over hash levels, blocks and slots.
 // What it means is in specs/: Find.
-ghost use mathlib.Core.Path.{_≡_};
 ghost use Prim.Native.Nat.{_<_, _≤_};
-ghost use lib.ListN.{length};
 ghost use Rattle.field.specs.Card.{cardOf};
 ghost use Rattle.checkpoint.specs.Volume.{VolumeIn};
 ghost use Rattle.walk.specs.Walk.{imageView, lists, Walked, Fits};

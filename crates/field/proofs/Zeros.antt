@@ -106,6 +106,15 @@ unfolding trailingZeros zerosFrom
 trailing-zeros x zero i = refl
 trailing-zeros x (suc k) i = ap (under (digit x i)) (ap (trailingZeros k) (shr-shr x i 1) ∙ trailing-zeros x k (i + 1))
 
+-- a set digit above a single zero
+single-zero : (x : ℕ) → x % 4 ≡ 2 → trailingZeros 64 x ≡ 1
+unfolding trailingZeros
+single-zero x h =
+    let p : x % 2 ≡ 0 = omega arith in
+    let half : x / 2 ≡ 2 * (x / 4) + 1 = omega arith in
+    let odd : (2 * (x / 4) + 1) % 2 ≡ 1 = omega arith in
+    rw (p, half, odd)
+
 -- those of one number above another of w digits
 module _ (w lo hi : ℕ) where
   lower-digit : (i : ℕ) → i < w → digit (lo + 2 ^ w * hi) i ≡ digit lo i
@@ -185,6 +194,11 @@ module _ (map : List ℕ) (bytes : (k : ℕ) → getD map k 0 < 256) where
     word-ends h =
         let e = trailing-zeros word 64 (b % 8) in
         e ∙ sym (zeros-stop (digit word) 64 most (b % 8) (omega arith) (omega arith)) ∙ word-digits
+
+    pub word-one : word / 2 ^ (b % 8) % 4 ≡ 2 → 1 ≡ lowZeros map most b
+    word-one h =
+        let e = single-zero (word / 2 ^ (b % 8)) h in
+        sym e ∙ word-ends (omega arith)
 
     pub word-passed : most ≤ trailingZeros 64 (word / 2 ^ (b % 8)) → most ≡ lowZeros map most b
     word-passed h =

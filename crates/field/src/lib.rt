@@ -70,12 +70,16 @@ pub fn low_bit(map: &[u8], b: usize) -> u8
 }
 
 // How many bits of a directory map from bit b on are 0, up to the first that is set, counted in one word: the eight bytes from
-// that of bit b on, of which the bits before b are left out.
+// that of bit b on, of which the bits before b are left out. A single zero is told by a test: where the processor foresees it, what
+// comes next needn't wait for the count.
 fn word_zeros(map: &[u8], b: usize) -> usize
     requires { ⌜ b / 8 + 8 ≤ length (now map) ⌝ }
     ensures { λ r. ⌜ r ≡ lowZeros (now (map .entry)) (64 - b % 8) b ⌝ }
 {
     let word = get64(map, b / 8) >> (b % 8);
+    if word % 4 == 2 {
+        return 1;
+    }
     let zeros = u64::trailing_zeros(word) as usize;
     let most = 64 - b % 8;
     if zeros < most {

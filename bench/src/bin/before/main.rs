@@ -8,6 +8,7 @@ mod journalled;
 #[allow(dead_code)] // not every root is pulled from
 #[path = "../ratios/roots.rs"]
 mod roots;
+mod slots;
 
 use archives::{Archive, ARCHIVES, BEFORE, NOW};
 use harptimber_bench::agreed::Agreed;
@@ -23,10 +24,11 @@ use std::env;
 use std::hint::black_box;
 use std::process::ExitCode;
 
-/// Calls enough that it hardly shows that the first side finds a card's blocks in no cache.
+/// Few calls in a row, so that all contenders see the same of what slows the machine.
 const OFTEN: Often = Often {
-    rounds: 200,
-    calls: 200,
+    rounds: 400,
+    warm: 2,
+    calls: 50,
 };
 
 /// The columns: an empty journal and a full one.
@@ -57,6 +59,7 @@ fn main() -> ExitCode {
     let mut agreed = Agreed::default();
     print_by_entries(&earlier, &mut agreed);
     depths::print(&earlier, &mut agreed);
+    slots::print(&earlier, &mut agreed);
     agreed.finish()
 }
 
@@ -92,7 +95,7 @@ fn card(entries: usize) -> Card {
 }
 
 /// Whether both give this answer, the same numbers and the same bytes.
-fn is_same<C>(call: Call<C>, card: &C, answer: u32) -> bool {
+fn is_same<C: ?Sized>(call: Call<C>, card: &C, answer: u32) -> bool {
     let [now, before] = ARCHIVES.each_ref().map(|archive| {
         let mut lent = Lent::default();
         (call(archive, card, &mut lent), lent)
@@ -100,7 +103,7 @@ fn is_same<C>(call: Call<C>, card: &C, answer: u32) -> bool {
     now.0[0] == answer && now == before
 }
 
-fn sides<C>(call: Call<C>, card: &C) -> Vec<Contender<'_>> {
+fn sides<C: ?Sized>(call: Call<C>, card: &C) -> Vec<Contender<'_>> {
     let side = |archive| {
         let mut lent = Lent::default();
         contender(move || call(archive, black_box(card), &mut lent))

@@ -14,6 +14,7 @@ use std::ops::Range;
 /// All rounds together pull every block of the file once.
 pub const OFTEN: Often = Often {
     rounds: 64,
+    warm: 0,
     calls: ROAD_BLOCKS as usize / 64,
 };
 /// For calls that take longer.

@@ -8,6 +8,7 @@ mod journal;
 mod journalled;
 mod roots;
 mod segments;
+mod slots;
 mod versions;
 mod whole;
 
@@ -36,6 +37,7 @@ fn main() -> ExitCode {
     packs_by_version(&mut agreed);
     journals_by_entries(&mut agreed);
     pulls_by_directory_level(&mut agreed);
+    searches_by_slots(&mut agreed);
     agreed.finish()
 }
 
@@ -52,7 +54,7 @@ Every number in the tables is a ratio of two times of this run. No time is claim
               both are built for release
   GRUB        its F2FS reader, by {}
   cards       written by mkfs.f2fs {OPTIONS} and sload.f2fs, sparse files, mapped for reading; those of
-              tables 4, 5 and 8 to 10 are built in memory
+              tables 4, 5 and 8 to 11 are built in memory
   buffers     warm: each card is in the page cache, mapped and read before; what is lent to a pull is
               lent again to the next one, and not cleared in between
   times       the processor's, user and system, children included: other load shows only where it
@@ -217,6 +219,20 @@ fn pulls_by_directory_level(agreed: &mut Agreed) {
    1 is a level that costs nothing. Far out: the same in the block where the level has the name, at 16
    behind two nodes more, from 22 on behind three. No name: depth 63 and no blocks; the higher the level,
    the fewer hash levels lie within a file",
+    );
+}
+
+fn searches_by_slots(agreed: &mut Agreed) {
+    let grid = slots::by_slots(agreed);
+    let mut table = Table::new(slots::heads().map(str::to_string));
+    let pulls = grid.parts(ARCHIVE, REFERENCE);
+    table.row("pull, archive to reference/", &pulls);
+    let searches = grid.added(ARCHIVE, REFERENCE);
+    table.late_row("search, archive to reference/", 1, &searches);
+    table.print(
+        "11. A pull of no name, by what the blocks hold in which it is sought
+   time as a part of reference/'s; lower is better. Depth 9, and 18 blocks alike, which all stand in the
+   inode; in the first column depth 0. A search takes what a pull takes more than in that column",
     );
 }
 

@@ -12,6 +12,7 @@ use std::process::{Command, Stdio};
 
 pub const OFTEN: Often = Often {
     rounds: 5,
+    warm: 0,
     calls: 1,
 };
 

@@ -1,5 +1,5 @@
 -- `dentry::scan_block` meets its contract. Where the loop stands, so does the scan; the laws of a turn are in `Scans`.
-use Prim.Native.Nat.{_-_, _<_}
+use Prim.Native.Nat.{_-_}
 use native.Mathlib.Omega.{arith}
 use mathlib.Core.Path.{_≡_, subst}
 use borrow.Author.Needs.{needs}
@@ -31,13 +31,14 @@ took : (k : tie.After-take-turn Inv-slots μ-slots) {turn : Turn} → k .take-tu
     → Took (start-of (slots-of (k .before)) .args .block .now) (wanted-of k) (slots-of (k .before) .slots .scan) turn (k .take-turn .result .scan)
 took k told =
     let s = slots-of (k .before) in
-    subst (λ (turn : Turn). Took (start-of s .args .block .now) (wanted-of k) (s .slots .scan) turn (k .take-turn .result .scan)) told (k .take-turn .ensures .0)
+    let next = k .take-turn .result .scan in
+    subst (λ (turn : Turn). Took (start-of s .args .block .now) (wanted-of k) (s .slots .scan) turn next) told (k .take-turn .ensures .0)
 
 slots-holds : tie.Need-slots-holds Inv-slots μ-slots
 slots-holds c = scanning-start _ _
 
 take-turn-requires : tie.Need-take-turn-requires Inv-slots μ-slots
-take-turn-requires c κs = (start-of (slots-of c) .pre, c .if1 .taken, slots-of c .slots .inv)
+take-turn-requires c κs = (start-of (slots-of c) .pre, omega (arith, c .if1 .taken), slots-of c .slots .inv)
 
 enum-told : tie.Need-enum-told Inv-slots μ-slots
 enum-told c = search needs

@@ -1,7 +1,7 @@
 -- `dentry::take_turn` meets its contract: each return is a turn of the scan, by what its slot holds.
 use Prim.Native.Nat.{_+_, _-_, _≤_}
 use native.Mathlib.Omega.{arith}
-use mathlib.Core.Path.{_≡_, sym, _∙_}
+use mathlib.Core.Path.{sym, _∙_}
 use borrow.Author.Needs.{needs}
 use Rattle.field.specs.Map.{lowBit}
 use Rattle.field.proofs.Zeros.{zeros-le}

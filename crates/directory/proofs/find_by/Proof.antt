@@ -208,7 +208,7 @@ take-turn-requires : tie.Need-take-turn-requires Inv-slots μ-slots Inv-bucket �
 take-turn-requires c κs =
     let s = slots-of c in
     let k = block-of s in
-    (length-of-block _ _ (in-card (k .before .before)) (k .block-at .ensures), c .if2 .taken, s .slots .inv)
+    (length-of-block _ _ (in-card (k .before .before)) (k .block-at .ensures), omega (arith, c .if2 .taken), s .slots .inv)
 
 enum-told-2 : tie.Need-enum-told-2 Inv-slots μ-slots Inv-bucket μ-bucket Inv-levels μ-levels
 enum-told-2 c = search needs

@@ -50,9 +50,6 @@ returns-2 c =
     let k = counted-at (c .before) in
     sym (run-end _ _ _ _ _ (turn-of k .loop .inv .2) (k .word-zeros .ensures) _ (omega arith) (omega arith))
 
-add-run : tie.Need-add-run Inv-loop μ-loop
-add-run c = omega arith
-
 loop-less : tie.Need-loop-less Inv-loop μ-loop
 loop-less c = omega arith
 
@@ -60,6 +57,10 @@ loop-again : tie.Need-loop-again Inv-loop μ-loop
 loop-again c =
     let k = counted-at (c .before) in
     (omega arith, omega arith, run-on _ _ _ _ _ (turn-of k .loop .inv .2) (k .word-zeros .ensures) _ (omega arith) (omega arith))
+
+-- stands last, so that a run which goes on elsewhere is refused for what it has counted
+add-run : tie.Need-add-run Inv-loop μ-loop
+add-run c = omega arith
 
 pub low-zeros-spec : {M : Type 1} → statement M
 low-zeros-spec =

@@ -6,7 +6,7 @@ use mathlib.Core.List.{List}
 use Prim.Native.Nat.{ℕ, _/_, _%_, _^_, _<_}
 use lib.ListN.{getD}
 use lib.Count.{trailing-le}
-use Rattle.field.proofs.Zeros.{word-ends, word-passed}
+use Rattle.field.proofs.Zeros.{word-ends, word-one, word-passed}
 use Rattle.field.proofs.word_zeros.Statement.{statement}
 use Rattle.field.proofs.word_zeros.Tie as tie
 
@@ -32,17 +32,24 @@ sub-most c = search needs
 returns : tie.Need-returns
 returns c =
     let r = c .before in
-    rw (r .get64 .ensures) (word-ends (map-of r) (bytes r) (start-of r .args .b) (rw (r .get64 .ensures) at (c .if1 .taken)))
+    word-one (map-of r) (bytes r) (start-of r .args .b) (rw (r .get64 .ensures) at (c .if1 .taken))
 
 returns-2 : tie.Need-returns-2
 returns-2 c =
-    let r = c .before in
-    word-passed (map-of r) (bytes r) (start-of r .args .b) (rw (r .get64 .ensures) at (c .if1 .left))
+    let r = c .before .before in
+    rw (r .get64 .ensures) (word-ends (map-of r) (bytes r) (start-of r .args .b) (rw (r .get64 .ensures) at (c .if2 .taken)))
+
+returns-3 : tie.Need-returns-3
+returns-3 c =
+    let r = c .before .before in
+    word-passed (map-of r) (bytes r) (start-of r .args .b) (rw (r .get64 .ensures) at (c .if2 .left))
 
 -- stands last, so that a count of other zeros is refused for what it returns
 cast-zeros : tie.Need-cast-zeros
-cast-zeros c = omega (arith, trailing-le 64 (c .get64 .result / 2 ^ (start-of c .args .b % 8)))
+cast-zeros c =
+    let r = c .before in
+    omega (arith, trailing-le 64 (r .get64 .result / 2 ^ (start-of r .args .b % 8)))
 
 pub word-zeros-spec : {M : Type 1} → statement M
 word-zeros-spec =
-    tie.close (tie.spec get64-requires shr-word cast-zeros sub-most returns returns-2)
+    tie.close (tie.spec get64-requires shr-word returns cast-zeros sub-most returns-2 returns-3)

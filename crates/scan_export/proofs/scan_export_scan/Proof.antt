@@ -13,7 +13,6 @@ use Rattle.dentry.specs.declared.Turn.{Turn}
 use Rattle.dentry.specs.Slot.{inBlock}
 use Rattle.dentry.specs.Scan.{turnsIn, turnsMost, soughtOf}
 use Rattle.dentry.proofs.Runs.{entries-most}
-use Rattle.scan_export.specs.declared.Scanned.{Scanned}
 use Rattle.scan_export.specs.Scanned.{crossing, seeks, isScan, scanned}
 use Rattle.scan_export.proofs.scan_export_scan.Statement.{statement}
 use Rattle.scan_export.proofs.scan_export_scan.Tie as tie
@@ -74,12 +73,6 @@ scan-block-requires c κs =
     let k = c .before .before in
     needed-eq {all = eqb (length (start-of k .args .block .now)) 4096 && k .is-name .result} (λ e. rw e) (not-false _ (c .before .if1 .left))
 
-cast-turns : tie.Need-cast-turns
-cast-turns c =
-    let k = c .before in
-    let a = begun k .args in
-    omega (arith, few k, entries-most (a .block .now) (seeks (a .name .now)))
-
 enum-told : tie.Need-enum-told
 enum-told c = search needs
 
@@ -103,6 +96,13 @@ returns-4 : tie.Need-returns-4
 returns-4 c =
     let k = c .before .before .before in
     (crosses k (c .enum-told2 .given .1), few k)
+
+-- stands last, so that another number in its place is refused for what crosses
+cast-turns : tie.Need-cast-turns
+cast-turns c =
+    let k = c .before in
+    let a = begun k .args in
+    omega (arith, few k, entries-most (a .block .now) (seeks (a .name .now)))
 
 pub scan-export-scan-spec : {M : Type 1} → statement M
 scan-export-scan-spec =
