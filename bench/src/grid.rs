@@ -18,7 +18,7 @@ pub fn contender<'a, T>(mut call: impl FnMut() -> T + 'a) -> Contender<'a> {
 #[derive(Clone, Copy)]
 pub struct Often {
     pub rounds: usize,
-    /// Calls that aren't timed, before those that are: a card may be in the caches for the second side only.
+    /// Calls that aren't timed, before those that are: without them only the second side might find the card in the caches.
     pub warm: usize,
     pub calls: usize,
 }

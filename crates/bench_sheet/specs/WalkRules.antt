@@ -263,7 +263,7 @@ other len = dentry 78 50 len 97
 abbrev sought : Walk (Outcome ℕ) → ℕ
 sought w = ended (λ ino. ino) (run (record { table = λ n. OutOfRange; block = λ b. [] }) empty w .value)
 
--- the inode number or the answer that three turns of the search come to; 2 if they come to nothing
+-- the inode number or the answer that three steps of the search come to; 2 if they come to nothing
 abbrev inSlots : ℕ → List Dentry → ℕ
 inSlots map ds = sought (afterSlots (done (stop 2)) (slotsFrom (slots map ds) (wanted 77 (97 ∷ [])) 3 0))
 
@@ -292,17 +292,16 @@ scanRules =
     -- K5: "A block's scan counts its turns, .. one a run skipped": a run ends with slot 213, whatever stands behind its bit
     (scanned [] is (0 ∷ 1 ∷ 1 ∷ []))
     ∷ (scanned (replicate 26 0 ++ (0xC0 ∷ 0xFF ∷ 0xFF ∷ 0xFF ∷ [])) is (0 ∷ 1 ∷ 1 ∷ []))
-    -- "one an entry looked at": in the first slot, behind a run, behind an entry, and two runs apart; "at most 2e + 1 for e entries"
-    ∷ (scanned (slots 1 (other 1 ∷ [])) is (1 ∷ 2 ∷ 3 ∷ []))
+    -- "one an entry looked at": one between two runs takes all turns that it may; "at most 2e + 1 for e entries"
     ∷ (scanned (slots 2 (other 1 ∷ other 1 ∷ [])) is (1 ∷ 3 ∷ 3 ∷ []))
-    ∷ (scanned (slots 3 (other 8 ∷ other 1 ∷ [])) is (2 ∷ 3 ∷ 5 ∷ []))
-    ∷ (scanned (slots 10 (other 1 ∷ other 1 ∷ other 1 ∷ other 1 ∷ [])) is (2 ∷ 5 ∷ 5 ∷ []))
-    -- the bits of an entry's other slots aren't looked at: 9 bytes have two
-    ∷ (scanned (slots 3 (other 9 ∷ other 1 ∷ [])) is (1 ∷ 2 ∷ 3 ∷ []))
-    -- the match is looked at, or the malformed one, and nothing behind it
-    ∷ (scanned (slots 6 (other 1 ∷ a40 ∷ other 1 ∷ [])) is (1 ∷ 2 ∷ 3 ∷ []))
-    ∷ (scanned (slots 6 (other 1 ∷ other 0 ∷ other 1 ∷ [])) is (1 ∷ 2 ∷ 3 ∷ []))
-    ∷ (scanned (replicate 26 0 ++ (0x20 ∷ [])) is (1 ∷ 2 ∷ 3 ∷ []))
+    -- the match is looked at, or the malformed one, and nothing behind it: here behind an entry, a run, and a run before each
+    ∷ (scanned (slots 3 (other 8 ∷ a40 ∷ [])) is (2 ∷ 2 ∷ 5 ∷ []))
+    ∷ (scanned (slots 5 (other 8 ∷ a40 ∷ a40 ∷ [])) is (2 ∷ 3 ∷ 5 ∷ []))
+    ∷ (scanned (slots 10 (a40 ∷ other 8 ∷ a40 ∷ a40 ∷ [])) is (2 ∷ 4 ∷ 5 ∷ []))
+    ∷ (scanned (slots 6 (a40 ∷ other 0 ∷ other 1 ∷ [])) is (1 ∷ 2 ∷ 3 ∷ []))
+    -- the bits of an entry's other slots aren't looked at: a name of 9 bytes has two
+    ∷ (scanned (slots 7 (other 9 ∷ a40 ∷ a40 ∷ [])) is (2 ∷ 2 ∷ 5 ∷ []))
+    ∷ (scanned (slots 5 (other 9 ∷ a40 ∷ a40 ∷ [])) is (2 ∷ 2 ∷ 5 ∷ []))
     ∷ []
 
 -- ---- the pull

@@ -1,5 +1,5 @@
--- Runs of free slots: one slot on there is one slot less of it, a scan passes it at once in one turn, and it meets at most one run more
--- than entries. So it takes at most 2e + 1 turns for e entries.
+-- A run of free slots is one shorter a slot further on; a scan passes it at once, in one turn, and meets at most one run more than
+-- entries. So it takes at most 2e + 1 turns for e entries.
 use Prim.Native.Nat.{ℕ, zero, suc, _+_, _-_, _≤_, _<_}
 use native.Mathlib.Omega.{arith}
 use native.Mathlib.Nat.{zero-add}

@@ -21,7 +21,7 @@ module _ {block : List ℕ} {w : Wanted} {scan : Scan} (go : Scanning block w sc
   abbrev slot : ℕ
   slot = scan .slot
 
-  -- a scan that goes on took no more turns than the whole takes
+  -- a scan that goes on is within the bound, so that its count fits every number
   pub scanning-most : (scan .turns ≤ turnsMost block w) × (scan .turns < 1000)
   scanning-most =
       let all = go .counted in

@@ -61,7 +61,7 @@ afterSlot next slot (Match ino) = found ino
 afterSlot next slot (Other slots) = next (slot + slots)
 afterSlot next slot Malformed = malformed
 
--- "slots rising": from a slot on. Each turn moves on by a slot at least, so 214 turns are enough for n, which is there only so
+-- "slots rising": from a slot on. Each step moves on by a slot at least, so 214 steps are enough for n, which is there only so
 -- that the recursion ends
 unfoldable pub slotsFrom : List ℕ → Wanted → ℕ → ℕ → Sought
 slotsFrom block w zero slot = absent

@@ -1,7 +1,7 @@
 // The slots of a directory block, and its scan for a name, turn by turn.
 // What each means is in specs/: Slot, Scan.
 ghost use mathlib.Core.Path.{_≡_};
-ghost use Prim.Native.Nat.{_<_, _≤_};
+ghost use Prim.Native.Nat.{_+_, _<_, _≤_};
 ghost use lib.ListN.{length};
 ghost use Rattle.field.specs.Map.{lowBit};
 ghost use Rattle.dentry.specs.Slot.{wanted, slotAt, inBlock};
@@ -83,7 +83,8 @@ fn free_run(block: &[u8], slot: usize) -> usize
 pub fn take_turn(block: &[u8], scan: Scan, hash: u32, name: &[u8]) -> TurnStep
     requires { ⌜ (length (now block) ≡ 4096) × (scan .slot < 214) × Scanning (now block) (wanted hash (now name)) scan ⌝ }
     ensures { λ r. ⌜ Took (now (block .entry)) (wanted hash (now (name .entry))) scan (r .turn) (r .scan) ⌝ }
-    ensures { λ r. ⌜ r .scan .turns ≤ turnsMost (now (block .entry)) (wanted hash (now (name .entry))) ⌝ }
+    ensures { λ r. ⌜ (r .scan .turns ≡ scan .turns + 1)
+        × (r .scan .turns ≤ turnsMost (now (block .entry)) (wanted hash (now (name .entry)))) ⌝ }
 {
     let slot = scan.slot;
     let turns = scan.turns + 1;
@@ -119,7 +120,8 @@ pub fn take_turn(block: &[u8], scan: Scan, hash: u32, name: &[u8]) -> TurnStep
     }
 }
 
-// The whole scan of a block: the turns that the search in a directory takes as well.
+// The whole scan of a block: the turns that the search in a directory takes as well. `On`: it went to the end, and the name isn't
+// there.
 pub fn scan_block(block: &[u8], hash: u32, name: &[u8]) -> TurnStep
     requires { ⌜ length (now block) ≡ 4096 ⌝ }
     ensures { λ r. ⌜ (inBlock (now (block .entry)) (wanted hash (now (name .entry))) ≡ soughtOf (r .turn))

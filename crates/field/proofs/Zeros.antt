@@ -26,7 +26,7 @@ module _ (bit : ℕ → ℕ) where
       step (suc d) h = omega arith
 
   -- over fewer digits than there are zeros, all are
-  pub zeros-part : (n m b : ℕ) → m ≤ zerosFrom bit n b → zerosFrom bit m b ≡ m
+  zeros-part : (n m b : ℕ) → m ≤ zerosFrom bit n b → zerosFrom bit m b ≡ m
   unfolding zerosFrom
   zeros-part n zero b h = refl
   zeros-part zero (suc m) b h = absurd (omega arith)
@@ -37,7 +37,7 @@ module _ (bit : ℕ → ℕ) where
       step (suc d) f k = absurd (omega arith)
 
   -- a set digit ends the count, however many more are counted over
-  pub zeros-stop : (n m b : ℕ) → zerosFrom bit n b < n → zerosFrom bit n b < m → zerosFrom bit m b ≡ zerosFrom bit n b
+  zeros-stop : (n m b : ℕ) → zerosFrom bit n b < n → zerosFrom bit n b < m → zerosFrom bit m b ≡ zerosFrom bit n b
   unfolding zerosFrom
   zeros-stop zero m b h k = absurd (omega arith)
   zeros-stop (suc n) zero b h k = absurd (omega arith)
@@ -48,7 +48,7 @@ module _ (bit : ℕ → ℕ) where
       step (suc d) f p q = refl
 
   -- behind digits that are all 0 the count goes on
-  pub zeros-on : (n m b : ℕ) → zerosFrom bit n b ≡ n → zerosFrom bit (n + m) b ≡ n + zerosFrom bit m (b + n)
+  zeros-on : (n m b : ℕ) → zerosFrom bit n b ≡ n → zerosFrom bit (n + m) b ≡ n + zerosFrom bit m (b + n)
   unfolding zerosFrom
   zeros-on zero m b h =
       let p : zero + m ≡ m = omega arith in

@@ -70,7 +70,7 @@ pub fn low_bit(map: &[u8], b: usize) -> u8
 }
 
 // How many bits of a directory map from bit b on are 0, up to the first that is set, counted in one word: the eight bytes from
-// that of bit b on, of which the bits before b are left out. A single zero is told by a test: where the processor foresees it, what
+// bit b's own on, of which the bits before b are left out. A single zero is told by a test: where the processor foresees it, what
 // comes next needn't wait for the count.
 fn word_zeros(map: &[u8], b: usize) -> usize
     requires { ⌜ b / 8 + 8 ≤ length (now map) ⌝ }

@@ -1,4 +1,4 @@
-// The scan of a directory block alone, for tests and measurement; it is not in the library that the rig links.
+// The scan of a directory block alone, for tests; it is not in the library that the rig links.
 // What it means is in specs/: Scanned.
 ghost use mathlib.Core.Path.{_≡_};
 ghost use Prim.Native.Nat.{_≤_};

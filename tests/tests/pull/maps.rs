@@ -1,4 +1,4 @@
-//! Pull: maps of every shape in the blocks of a root directory, over entries of one slot.
+//! Pull: maps of every shape in the blocks of a root directory, over entries of one slot, and random blocks.
 
 use harptimber_tests::calls::pulls::Pulls;
 use harptimber_tests::cards::card::ROOT;

@@ -32,7 +32,7 @@ fn block_lengths() {
     scans.finish(11 * 2 + 1, &[0, 4]);
 }
 
-/// A name has 1 to 255 bytes, none of them 0 or the slash. Otherwise it isn't sought, though the block have it.
+/// A name has 1 to 255 bytes, none of them 0 or the slash. Otherwise it isn't sought, even if the block has it.
 #[test]
 fn names() {
     let mut scans = Scans::new("scan by the shape of the name");

@@ -105,7 +105,7 @@ impl Scans {
         let library = [at_end, at_start].map(|scanned| Judged {
             scanned,
             by_the_paper: scanned,
-            within_the_bound: scanned.turns <= 2 * met.entries + 1,
+            within_the_bound: scanned.turns <= met.most_turns(),
         });
         let reference = Scanned {
             answer: met.answer,

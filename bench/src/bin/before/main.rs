@@ -24,7 +24,7 @@ use std::env;
 use std::hint::black_box;
 use std::process::ExitCode;
 
-/// Few calls in a row, so that all contenders see the same of what slows the machine.
+/// Few calls in a row, so that what slows the machine slows all contenders alike.
 const OFTEN: Often = Often {
     rounds: 400,
     warm: 2,

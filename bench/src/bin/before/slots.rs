@@ -8,7 +8,7 @@ use harptimber_bench::grid::Grid;
 use harptimber_bench::pulls::Lent;
 use harptimber_bench::table::Table;
 
-/// One bucket; the most hash levels whose blocks all stand in the inode; the last that lies within a file.
+/// One bucket; the most hash levels whose blocks all stand in the inode; all that lie within a file.
 const DEPTHS: [u32; 3] = [1, 9, 29];
 /// The search of one bucket is too short to be told from the rest of a pull.
 const SHORT: u32 = 1;

@@ -64,7 +64,8 @@ fn held() -> [Entries; HELD.len()] {
     [vec![], middle, every_other, short, full_of_long()]
 }
 
-/// Cards by what the blocks hold in which the name is sought, which are two of each hash level. None has the name.
+/// Cards by what the blocks hold in which the name is sought, the two of its bucket in each hash level. None has the
+/// name.
 pub fn by_held(depth: u32) -> [Vec<u8>; HELD.len()] {
     held().map(|entries| {
         let (card, ..) = searched_card(depth, &entries);

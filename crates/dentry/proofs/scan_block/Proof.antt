@@ -1,4 +1,4 @@
--- `dentry::scan_block` meets its contract. Where the loop stands, so does the scan; the laws of a turn are in `Scans`.
+-- `dentry::scan_block` meets its contract. The loop's invariant is `Scanning`; the laws of a turn are in `Scans`.
 use Prim.Native.Nat.{_-_}
 use native.Mathlib.Omega.{arith}
 use mathlib.Core.Path.{_≡_, subst}
@@ -57,7 +57,7 @@ enum-known-turn c = search needs
 returns : tie.Need-returns Inv-slots μ-slots
 returns c =
     let k = c .before .before .before .before in
-    (took k (c .before .turn .given .1), k .take-turn .ensures .1)
+    (took k (c .before .turn .given .1), k .take-turn .ensures .1 .1)
 
 enum-told-2 : tie.Need-enum-told-2 Inv-slots μ-slots
 enum-told-2 c = search needs
@@ -65,7 +65,7 @@ enum-told-2 c = search needs
 returns-2 : tie.Need-returns-2 Inv-slots μ-slots
 returns-2 c =
     let k = c .before .before .before in
-    (took k (c .enum-told2 .given .1), k .take-turn .ensures .1)
+    (took k (c .enum-told2 .given .1), k .take-turn .ensures .1 .1)
 
 returns-3 : tie.Need-returns-3 Inv-slots μ-slots
 returns-3 c =

@@ -65,7 +65,7 @@ returns c =
     let k = c .before .before .before in
     let s = start-of k in
     let turn = scanning-free (s .pre .2) (s .pre .1) (sym (c .before .enum-told .given .1) ∙ k .slot-at .ensures) (c .free-run .ensures) in
-    (turn, scanning-most (turn .1) .0)
+    (turn, (omega arith, scanning-most (turn .1) .0))
 
 returns-2 : tie.Need-returns-2
 returns-2 c =
@@ -73,14 +73,14 @@ returns-2 c =
     let s = start-of k in
     let turn = scanning-found (s .pre .2) (s .pre .1) (sym (c .before .ino .given .1) ∙ k .slot-at .ensures) in
     let most = turns-most (s .args .block .now) (wanted (s .args .hash) (s .args .name .now)) in
-    (turn, omega (arith, turn .1))
+    (turn, (omega arith, omega (arith, turn .1)))
 
 returns-3 : tie.Need-returns-3
 returns-3 c =
     let k = looked-at c in
     let s = start-of k in
     let turn = scanning-other (s .pre .2) (s .pre .1) (sym (c .before .passed .given .1) ∙ k .slot-at .ensures) in
-    (turn, scanning-most (turn .1) .0)
+    (turn, (omega arith, scanning-most (turn .1) .0))
 
 returns-4 : tie.Need-returns-4
 returns-4 c =
@@ -88,7 +88,7 @@ returns-4 c =
     let s = start-of k in
     let turn = scanning-malformed (s .pre .2) (s .pre .1) (sym (c .enum-told2 .given .1) ∙ k .slot-at .ensures) in
     let most = turns-most (s .args .block .now) (wanted (s .args .hash) (s .args .name .now)) in
-    (turn, omega (arith, turn .1))
+    (turn, (omega arith, omega (arith, turn .1)))
 
 pub take-turn-spec : {M : Type 1} → statement M
 take-turn-spec =
