@@ -8,11 +8,16 @@ use Rattle.field.specs.Map.{lowBit}
 use Rattle.dentry.specs.declared.Slot.{Slot}
 use Rattle.dentry.specs.declared.Slot.the-variants.{Free, Match, Other, Malformed}
 use Rattle.dentry.specs.declared.Scan.{Scan}
+use Rattle.dentry.specs.declared.Turn.{Turn}
 use Rattle.dentry.specs.Slot.{Wanted, slotAt, absent, found, malformed, afterSlot, slotsFrom, inBlock}
-use Rattle.dentry.specs.Scan.{freeRun, entriesFrom, runsFrom, turnsFrom, tallyAfter, endsRun, turnsIn, turnsMost, Scanning}
+use Rattle.dentry.specs.Scan.{freeRun, entriesFrom, runsFrom, turnsFrom, tallyAfter, endsRun, turnsIn, turnsMost, Scanning, Took}
 use Rattle.field.proofs.Zeros.{zeros-le}
 use Rattle.dentry.proofs.Slots.{bitOf, slot-bit, other-bounds}
 use Rattle.dentry.proofs.Runs.{tally-over, run-free, slots-run, turns-run, step-used, turns-most, entries-most}
+
+-- what a turn came to, by the variant that was told
+pub took-told : (block : List ℕ) (w : Wanted) (scan next : Scan) {turn told : Turn} → Took block w scan turn next → turn ≡ told → Took block w scan told next
+took-told block w scan next took e = subst (λ (turn : Turn). Took block w scan turn next) e took
 
 pub scanning-start : (block : List ℕ) (w : Wanted) → Scanning block w (record { slot = 0; turns = 0 })
 scanning-start block w = record { left = 214; enough = omega arith; same = refl; counted = omega arith }

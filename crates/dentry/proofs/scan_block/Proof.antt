@@ -1,12 +1,10 @@
 -- `dentry::scan_block` meets its contract. The loop's invariant is `Scanning`; the laws of a turn are in `Scans`.
 use Prim.Native.Nat.{_-_}
 use native.Mathlib.Omega.{arith}
-use mathlib.Core.Path.{_≡_, subst}
 use borrow.Author.Needs.{needs}
-use Rattle.dentry.specs.declared.Turn.{Turn}
-use Rattle.dentry.specs.Slot.{Wanted, wanted}
-use Rattle.dentry.specs.Scan.{Scanning, Took}
-use Rattle.dentry.proofs.Scans.{scanning-start, scanning-end, scanning-most}
+use Rattle.dentry.specs.Slot.{wanted}
+use Rattle.dentry.specs.Scan.{Scanning}
+use Rattle.dentry.proofs.Scans.{took-told, scanning-start, scanning-end, scanning-most}
 use Rattle.dentry.proofs.scan_block.Statement.{statement}
 use Rattle.dentry.proofs.scan_block.Tie as tie
 
@@ -23,17 +21,6 @@ slots-of k = k .before .before
 abbrev start-of : tie.At-slots Inv-slots μ-slots → tie.Start Inv-slots μ-slots
 start-of k = k .before .before .before
 
-abbrev wanted-of : tie.After-take-turn Inv-slots μ-slots → Wanted
-wanted-of k = let a = start-of (slots-of (k .before)) .args in wanted (a .hash) (a .name .now)
-
--- what the turn came to, by the variant that was told
-took : (k : tie.After-take-turn Inv-slots μ-slots) {turn : Turn} → k .take-turn .result .turn ≡ turn
-    → Took (start-of (slots-of (k .before)) .args .block .now) (wanted-of k) (slots-of (k .before) .slots .scan) turn (k .take-turn .result .scan)
-took k told =
-    let s = slots-of (k .before) in
-    let next = k .take-turn .result .scan in
-    subst (λ (turn : Turn). Took (start-of s .args .block .now) (wanted-of k) (s .slots .scan) turn next) told (k .take-turn .ensures .0)
-
 slots-holds : tie.Need-slots-holds Inv-slots μ-slots
 slots-holds c = scanning-start _ _
 
@@ -46,10 +33,10 @@ enum-told c = search needs
 slots-less : tie.Need-slots-less Inv-slots μ-slots
 slots-less c =
     let k = c .before .before .before in
-    omega (arith, took k (c .enum-told .given .1) .0, k .before .if1 .taken)
+    omega (arith, took-told _ _ _ _ (k .take-turn .ensures .0) (c .enum-told .given .1) .0, k .before .if1 .taken)
 
 slots-again : tie.Need-slots-again Inv-slots μ-slots
-slots-again c = took (c .before .before .before) (c .enum-told .given .1) .1
+slots-again c = took-told _ _ _ _ (c .before .before .before .take-turn .ensures .0) (c .enum-told .given .1) .1
 
 enum-known-turn : tie.Need-enum-known-turn Inv-slots μ-slots
 enum-known-turn c = search needs
@@ -57,7 +44,7 @@ enum-known-turn c = search needs
 returns : tie.Need-returns Inv-slots μ-slots
 returns c =
     let k = c .before .before .before .before in
-    (took k (c .before .turn .given .1), k .take-turn .ensures .1 .1)
+    (took-told _ _ _ _ (k .take-turn .ensures .0) (c .before .turn .given .1), k .take-turn .ensures .1 .1)
 
 enum-told-2 : tie.Need-enum-told-2 Inv-slots μ-slots
 enum-told-2 c = search needs
@@ -65,7 +52,7 @@ enum-told-2 c = search needs
 returns-2 : tie.Need-returns-2 Inv-slots μ-slots
 returns-2 c =
     let k = c .before .before .before in
-    (took k (c .enum-told2 .given .1), k .take-turn .ensures .1 .1)
+    (took-told _ _ _ _ (k .take-turn .ensures .0) (c .enum-told2 .given .1), k .take-turn .ensures .1 .1)
 
 returns-3 : tie.Need-returns-3 Inv-slots μ-slots
 returns-3 c =

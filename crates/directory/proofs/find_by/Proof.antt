@@ -14,11 +14,10 @@ use Rattle.node.specs.Found.{dataOf, DataIn}
 use Rattle.hash_level.specs.declared.Level.{Level}
 use Rattle.hash_level.specs.Level.{blocksOf, bucketOf}
 use Rattle.hash_level.proofs.Levels.{blocks-few, bucket-small}
-use Rattle.dentry.specs.Slot.{Wanted, wanted}
+use Rattle.dentry.specs.Slot.{wanted}
 use Rattle.directory.specs.Find.{directoryOf}
-use Rattle.dentry.specs.declared.Turn.{Turn}
-use Rattle.dentry.specs.Scan.{Scanning, Took}
-use Rattle.dentry.proofs.Scans.{scanning-start, scanning-end}
+use Rattle.dentry.specs.Scan.{Scanning}
+use Rattle.dentry.proofs.Scans.{took-told, scanning-start, scanning-end}
 use Rattle.directory.proofs.Turns.{Levels, levels-start, levels-next, levels-out, levels-end, block-fits}
 use Rattle.directory.proofs.Turns.{Bucket, bucket-start, bucket-stop, bucket-hole, bucket-absent, bucket-found, bucket-malformed}
 use Rattle.directory.proofs.find_by.Statement.{statement}
@@ -118,18 +117,6 @@ held-of : (k : tie.After-block-at Inv-slots μ-slots Inv-bucket μ-bucket Inv-le
 held-of k =
     ap (dataOf (card-of (turn-of (listed-of k)))) (k .before .before .data2 .given .1) ∙ ap (λ (l : List ℕ). ok (held l)) (sym (k .block-at .ensures))
 
--- what a turn of the scan came to, by the variant that was told
-abbrev wanted-of : tie.At-slots Inv-slots μ-slots Inv-bucket μ-bucket Inv-levels μ-levels → Wanted
-wanted-of s = let a = start-of (turn-of (listed-of (block-of s))) .args in wanted (a .hash) (a .name .now)
-
-took : (t : tie.After-take-turn Inv-slots μ-slots Inv-bucket μ-bucket Inv-levels μ-levels) {turn : Turn} → t .take-turn .result .turn ≡ turn
-    → let s = slots-of (t .before) in
-    Took (block-of s .block-at .result .now) (wanted-of s) (s .slots .scan) turn (t .take-turn .result .scan)
-took t told =
-    let s = slots-of (t .before) in
-    let next = t .take-turn .result .scan in
-    subst (λ (turn : Turn). Took (block-of s .block-at .result .now) (wanted-of s) (s .slots .scan) turn next) told (t .take-turn .ensures .0)
-
 -- ---- the needs
 
 levels-holds : tie.Need-levels-holds Inv-slots μ-slots Inv-bucket μ-bucket Inv-levels μ-levels
@@ -216,10 +203,10 @@ enum-told-2 c = search needs
 slots-less : tie.Need-slots-less Inv-slots μ-slots Inv-bucket μ-bucket Inv-levels μ-levels
 slots-less c =
     let t = c .before .before .before in
-    omega (arith, took t (c .enum-told2 .given .1) .0, t .before .if2 .taken)
+    omega (arith, took-told _ _ _ _ (t .take-turn .ensures .0) (c .enum-told2 .given .1) .0, t .before .if2 .taken)
 
 slots-again : tie.Need-slots-again Inv-slots μ-slots Inv-bucket μ-bucket Inv-levels μ-levels
-slots-again c = took (c .before .before .before) (c .enum-told2 .given .1) .1
+slots-again c = took-told _ _ _ _ (c .before .before .before .take-turn .ensures .0) (c .enum-told2 .given .1) .1
 
 enum-known-turn : tie.Need-enum-known-turn Inv-slots μ-slots Inv-bucket μ-bucket Inv-levels μ-levels
 enum-known-turn c = search needs
@@ -271,7 +258,7 @@ returns-3 c =
     let k = block-of (slots-of (t .before)) in
     let l = listed-of k in
     let b = turn-of l in
-    let told = took t (c .before .turn .given .1) .0 in
+    let told = took-told _ _ _ _ (t .take-turn .ensures .0) (c .before .turn .given .1) .0 in
     levels-out (levels-of b .levels .inv) (within-of b .if1 .left)
     (bucket-found (b .before .bucket .inv) (more b) (index b) (fetch-of l .fetch .ensures .0) (held-of k) told)
 
@@ -281,7 +268,7 @@ returns-4 c =
     let k = block-of (slots-of (t .before)) in
     let l = listed-of k in
     let b = turn-of l in
-    let told = took t (c .enum-told3 .given .1) .0 in
+    let told = took-told _ _ _ _ (t .take-turn .ensures .0) (c .enum-told3 .given .1) .0 in
     levels-out (levels-of b .levels .inv) (within-of b .if1 .left)
     (bucket-malformed (b .before .bucket .inv) (more b) (index b) (fetch-of l .fetch .ensures .0) (held-of k) told)
 
