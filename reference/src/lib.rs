@@ -12,6 +12,7 @@ pub mod levels;
 pub mod bytes;
 pub mod open;
 pub mod lookup;
+mod inode;
 pub mod slots;
 pub mod pull;
 pub mod compare;

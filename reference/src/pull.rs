@@ -2,17 +2,16 @@
 
 use std::collections::BTreeSet;
 
-use crate::bytes::{le16, le32, le64, BLOCK_SIZE};
+use crate::bytes::{le32, BLOCK_SIZE};
 use crate::hash::{is_name, raw_hash};
-use crate::levels::{hash_levels, HashLevel};
+use crate::inode::{DirectorySlots, FileBytes, Inode};
+use crate::levels::HashLevel;
 use crate::lookup::lookup_in;
 use crate::open::{is_image_length, open, Volume};
-use crate::place::{directory_place, file_place, Place, Way, ADDRESSES, ADDRESSES_WITH_XATTR};
-use crate::slots::search_block;
+use crate::place::{directory_place, file_place, Place, Way};
+use crate::slots::{search_block, search_inline};
 
 const ROOT: u32 = 3;
-const DIRECTORY: u16 = 4;
-const REGULAR: u16 = 8;
 
 /// "a node list of at least 179 and a block list of at least 238 32-bit numbers"
 const NODES_LENT: usize = 179;
@@ -94,50 +93,6 @@ impl Found<'_> {
     }
 }
 
-/// An inode that was read and checked.
-#[derive(Clone, Copy)]
-struct Inode<'a> {
-    number: u32,
-    block: &'a [u8],
-}
-
-impl Inode<'_> {
-    /// "size 16 (64 bits)"
-    fn size(&self) -> u64 {
-        le64(self.block, 16)
-    }
-
-    fn inline(&self) -> u8 {
-        self.block.get(3).copied().unwrap_or(0)
-    }
-
-    /// "Inline bit 1 set: A = 873 addresses, else A = 923."
-    fn addresses(&self) -> u32 {
-        if self.inline() & 1 != 0 {
-            ADDRESSES_WITH_XATTR
-        } else {
-            ADDRESSES
-        }
-    }
-
-    /// "The root must be a directory and the file regular, both with inline bits 2, 4 and 20 hex
-    /// clear, else 12."
-    fn expect_kind(&self, kind: u16) -> Result<(), u32> {
-        let mode = le16(self.block, 0);
-        if mode >> 12 != kind || self.inline() & 0x26 != 0 {
-            return Err(12);
-        }
-        Ok(())
-    }
-
-    /// The hash levels of a directory, or 12 for its depth or level: "depth 72, directory level 347
-    /// (one byte)". A file's level isn't consulted.
-    fn hash_levels(&self) -> Result<Vec<HashLevel>, u32> {
-        let level = self.block.get(347).copied().unwrap_or(0);
-        hash_levels(level, le32(self.block, 72))
-    }
-}
-
 /// The walk through an opened volume, with the node numbers asked of the table and the blocks of
 /// the main area read so far. Errors are answer numbers.
 struct Walk<'a> {
@@ -161,19 +116,32 @@ impl<'a> Walk<'a> {
     /// Block `index` of the regular file with this inode number.
     fn read_file(&mut self, number: u32, index: u32) -> Result<Found<'a>, u32> {
         let inode = self.read_inode(number)?;
-        inode.expect_kind(REGULAR)?;
+        let bytes = inode.file_bytes()?;
         // "Answer 3 if index × 4,096 ≥ size or the index is larger."
         let start = u64::from(index) * BLOCK_SIZE as u64;
         if start >= inode.size() {
             return Err(3);
         }
-        let Place::Way(way) = file_place(inode.addresses(), index) else {
-            return Err(3);
-        };
         // "Count: the smaller of 4,096 and size − 4,096 × index."
         let count = (inode.size() - start).min(BLOCK_SIZE as u64) as u32;
-        let data = self.read_data(&inode, &way)?;
+        let data = match bytes {
+            // No inline file has 4,096 bytes, so the index is 0 and the block is all of them.
+            FileBytes::Inline(bytes) => Some(bytes),
+            FileBytes::Blocks => self.read_file_block(&inode, index)?,
+        };
         Ok(Found { count, data })
+    }
+
+    /// A file's block by its addresses and node numbers; `None` is a hole.
+    fn read_file_block(
+        &mut self,
+        inode: &Inode<'a>,
+        index: u32,
+    ) -> Result<Option<&'a [u8]>, u32> {
+        match file_place(inode.addresses(), index) {
+            Place::Way(way) => self.read_data(inode, &way),
+            Place::BadAddresses | Place::Past => Err(3),
+        }
     }
 
     fn read_inode(&mut self, number: u32) -> Result<Inode<'a>, u32> {
@@ -255,13 +223,17 @@ impl<'a> Walk<'a> {
     /// The inode number under this name: "The name is sought in the root directory."
     fn search_root(&mut self, name: &[u8]) -> Result<u32, u32> {
         let root = self.read_inode(ROOT)?;
-        root.expect_kind(DIRECTORY)?;
-        let levels = root.hash_levels()?;
+        let slots = root.directory_slots()?;
         // "Then size 0: 2; size isn't consulted otherwise."
         if root.size() == 0 {
             return Err(2);
         }
-        self.search(&root, &levels, name, raw_hash(name))
+        let hash = raw_hash(name);
+        match slots {
+            // "An inline inode is listed with its block and no data block of its own."
+            DirectorySlots::Inline => search_inline(root.block, name, hash)?.ok_or(2),
+            DirectorySlots::Blocks(levels) => self.search(&root, &levels, name, hash),
+        }
     }
 
     /// The name in these hash levels: "in each the bucket hash mod buckets, its blocks in order,
@@ -302,8 +274,9 @@ impl<'a> Walk<'a> {
 #[cfg(test)]
 mod tests {
     use super::*;
+    use crate::place::ADDRESSES;
     use crate::sample::{Sample, DAMAGE, FIRST_PACK};
-    use crate::slots::scan;
+    use crate::slots::{scan, scan_inline};
 
     const NAME: &[u8] = b"file";
     const DATA: usize = 4200;
@@ -399,7 +372,13 @@ mod tests {
     #[test]
     fn kinds_not_read() {
         assert_eq!(answer(&sample(0), b".", 0).answer, 12);
-        for (block, at, value) in [(4098, 3, 2), (4098, 3, 0x20), (4096, 3, 4), (4096, 347, 31)] {
+        for (block, at, value) in [
+            (4098, 3, 4),
+            (4098, 3, 0x20),
+            (4096, 3, 2),
+            (4096, 3, 0x20),
+            (4096, 347, 31),
+        ] {
             let mut sample = sample(4097);
             sample.bytes[block * 4096 + at] = value;
             assert_eq!(answer(&sample, NAME, 0).answer, 12);
@@ -407,6 +386,149 @@ mod tests {
         let mut sample = sample(4097);
         sample.put32(4096, 72, 64);
         assert_eq!(answer(&sample, NAME, 0).answer, 12);
+    }
+
+    /// The sample with these inline bits on the file. Its address words behind the first, its
+    /// attributes and its five node numbers hold 1 to 251 in turn, so no byte of them is 0.
+    fn inline_file(bits: u8, size: u64) -> Sample {
+        let mut sample = sample(size);
+        sample.put(4098, 3, &[bits]);
+        let bytes: Vec<u8> = (1..=251).cycle().take(4072 - 364).collect();
+        sample.put(4098, 364, &bytes);
+        sample
+    }
+
+    /// The sample with these inline bits on the root. Its inline slots name the file 7; its block
+    /// names another, 8, which isn't inline.
+    fn inline_root(bits: u8, size: u64) -> Sample {
+        let mut sample = inline_file(2, 100);
+        sample.put(4096, 3, &[bits]);
+        sample.put64(4096, 16, size);
+        sample.put_inline_dentry(4096, 0, 0, 3, b".");
+        sample.put_inline_dentry(4096, 1, 0, 3, b"..");
+        sample.put_inline_dentry(4096, 2, raw_hash(NAME), 7, NAME);
+        sample.put32(4097, 30 + 11 * 2 + 4, 8);
+        sample.put_inode(8, 0x81A4, 1, 4099);
+        // Node numbers that nobody may look up.
+        for (at, number) in (4052..4072).step_by(4).zip(20..) {
+            sample.put32(4096, at, number);
+        }
+        sample
+    }
+
+    /// The pull of block `index` of `NAME` with both lists, and the block buffer.
+    fn listed(sample: &Sample, index: u32) -> ([u32; 2], Vec<u32>, Vec<u32>, Vec<u8>) {
+        let mut lent = Lent::new();
+        let pulled = lent.pull(sample, NAME, index);
+        let nodes = numbers(&lent.nodes, pulled.node_count);
+        let blocks = numbers(&lent.blocks, pulled.block_count);
+        ([pulled.answer, pulled.byte_count], nodes, blocks, lent.block)
+    }
+
+    /// "With 50 words kept for attributes that is 3,488 bytes, without them 3,688"; "A size above
+    /// the room is 12."
+    #[test]
+    fn sizes_of_inline_files() {
+        let bytes: Vec<u8> = (1..=251).cycle().take(3688).collect();
+        let sizes = [0, 1, 3487, 3488, 3489, 3687, 3688, 3689, 4096, 1 << 32, u64::MAX];
+        for (bits, room) in [(2, 3688), (3, 3488), (0x0A, 3688), (0x0B, 3488)] {
+            for size in sizes {
+                let sample = inline_file(bits, size);
+                let expect = |index, numbers, block| {
+                    let expected = (numbers, vec![3, 7], vec![4096, 4097, 4098], block);
+                    assert_eq!(listed(&sample, index), expected, "bits {bits:x} size {size}");
+                };
+                // "then 12, then 2 or 3": above the room no index is past the end.
+                let past = if size > room { 12 } else { 3 };
+                if (1..=room).contains(&size) {
+                    let mut block = bytes[..size as usize].to_vec();
+                    block.resize(4096, 0);
+                    expect(0, [0, size as u32], block);
+                } else {
+                    expect(0, [past, 0], vec![0xAA; 4096]);
+                }
+                for index in [1, 2, 922, 1_057_053_439, u32::MAX] {
+                    expect(index, [past, 0], vec![0xAA; 4096]);
+                }
+            }
+        }
+    }
+
+    /// All inline bytes, so every mix of bits 1, 2, 4, 8 and 20 hex among them.
+    #[test]
+    fn inline_bits_of_a_file() {
+        let mut sample = inline_file(0, 100);
+        sample.put32(4098, 360, DATA as u32);
+        sample.put(DATA, 0, &[0xBB; 4096]);
+        let inline: Vec<u8> = (1..=100).collect();
+        for bits in 0..=255 {
+            sample.put(4098, 3, &[bits]);
+            let (numbers, nodes, mut blocks, block) = listed(&sample, 0);
+            assert_eq!(nodes, [3, 7]);
+            let data = (blocks.len() == 4).then(|| blocks.pop().unwrap());
+            assert_eq!(blocks, [4096, 4097, 4098]);
+            if bits & 0x24 != 0 {
+                assert_eq!((numbers, data), ([12, 0], None), "bits {bits:x}");
+                assert_eq!(block, [0xAA; 4096]);
+            } else if bits & 2 != 0 {
+                assert_eq!((numbers, data), ([0, 100], None), "bits {bits:x}");
+                assert_eq!(block[..100], inline);
+            } else {
+                assert_eq!((numbers, data), ([0, 100], Some(DATA as u32)), "bits {bits:x}");
+                assert_eq!(block[..100], [0xBB; 100]);
+            }
+        }
+    }
+
+    /// The same on the root: without bit 4 its block is searched, which leads to the file 8.
+    #[test]
+    fn inline_bits_of_the_root() {
+        for bits in 0..=255 {
+            let (numbers, nodes, blocks, _) = listed(&inline_root(bits, 3488), 0);
+            if bits & 0x22 != 0 {
+                let refused = ([12, 0], vec![3], vec![4096]);
+                assert_eq!((numbers, nodes, blocks), refused, "bits {bits:x}");
+            } else if bits & 4 != 0 {
+                let inline = ([0, 100], vec![3, 7], vec![4096, 4098]);
+                assert_eq!((numbers, nodes, blocks), inline, "bits {bits:x}");
+            } else {
+                let blockwise = ([1, 1], vec![3, 8], vec![4096, 4097, 4099]);
+                assert_eq!((numbers, nodes, blocks), blockwise, "bits {bits:x}");
+            }
+        }
+    }
+
+    /// "an inline directory always keeps the 50, attribute bit or not"; "Then size 0: 2".
+    #[test]
+    fn sizes_of_an_inline_root() {
+        for bits in [4, 5, 0x0C, 0x0D] {
+            for size in [0, 1, 3487, 3488, 3489, 3687, 3688, 3689, 4096, 1 << 32, u64::MAX] {
+                let (numbers, nodes, blocks, _) = listed(&inline_root(bits, size), 0);
+                let expected = match size {
+                    0 => ([2, 0], vec![3], vec![4096]),
+                    1..=3488 => ([0, 100], vec![3, 7], vec![4096, 4098]),
+                    _ => ([12, 0], vec![3], vec![4096]),
+                };
+                assert_eq!((numbers, nodes, blocks), expected, "bits {bits:x} size {size}");
+            }
+        }
+    }
+
+    /// "scanned at any depth up to 63"; depth and level come before the size.
+    #[test]
+    fn depth_and_level_of_an_inline_root() {
+        for (depth, level) in [0, 1, 63, 64, u32::MAX].into_iter().flat_map(|depth| {
+            [0, 1, 30, 31, 255].map(|level| (depth, level))
+        }) {
+            for (size, read) in [(0, 2), (1, 0), (3488, 0), (3489, 12)] {
+                let mut sample = inline_root(4, size);
+                sample.put32(4096, 72, depth);
+                sample.put(4096, 347, &[level]);
+                let expected = if depth > 63 || level > 30 { 12 } else { read };
+                let pulled = answer(&sample, NAME, 0);
+                assert_eq!(pulled.answer, expected, "depth {depth} level {level} size {size}");
+            }
+        }
     }
 
     /// The sample with this directory level and depth, and no blocks in the root.
@@ -651,6 +773,75 @@ mod tests {
                 assert_eq!(numbers(&lent.nodes, pulled.node_count), [3]);
                 assert_eq!(numbers(&lent.blocks, pulled.block_count), [4096, 4097]);
             }
+        }
+    }
+
+    /// The same of an inline root, at any depth once: its slots are no block.
+    #[test]
+    fn the_pull_meets_what_the_inline_scan_meets() {
+        // The map's first byte and last one, then answer, entries and runs of the scan.
+        for (map, last, expected) in [
+            (0b111, 0, [0, 3, 0]),
+            (0b101, 0, [0, 2, 1]),
+            (0b011, 0, [2, 2, 1]),
+            (0b000, 0, [2, 0, 1]),
+            // Slot 181 holds a name of 9 bytes, so it is malformed; 182 and 183 are no slots.
+            (0b111, 0x20, [0, 3, 0]),
+            (0b011, 0x20, [14, 3, 1]),
+            (0b000, 0x20, [14, 1, 1]),
+            (0b011, 0xC0, [2, 2, 1]),
+            (0b000, 0xE0, [14, 1, 1]),
+        ] {
+            for depth in [0, 1, 2, 63] {
+                let mut sample = inline_root(4, 1);
+                sample.put32(4096, 72, depth);
+                sample.put(4096, 364, &[map]);
+                sample.put(4096, 386, &[last, 255, 255, 255, 255, 255, 255, 255]);
+                sample.put16(4096, 394 + 11 * 181 + 8, 9);
+                let scan = scan_inline(&sample.bytes[4096 * 4096..4097 * 4096], NAME);
+                assert_eq!([scan.answer, scan.entries, scan.runs], expected);
+                let (numbers, nodes, blocks, _) = listed(&sample, 0);
+                if scan.answer == 0 {
+                    assert_eq!((numbers, scan.inode), ([0, 100], 7));
+                    assert_eq!((nodes, blocks), (vec![3, 7], vec![4096, 4098]));
+                } else {
+                    assert_eq!((numbers, scan.inode), ([scan.answer, 0], 0));
+                    assert_eq!((nodes, blocks), (vec![3], vec![4096]));
+                }
+            }
+        }
+    }
+
+    /// "." and a file number 0 in inline slots: the root is no file, and 0 is listed and 9.
+    #[test]
+    fn what_an_inline_root_may_lead_to() {
+        let mut sample = inline_root(4, 3488);
+        let root = Pulled { answer: 12, byte_count: 0, node_count: 1, block_count: 1 };
+        assert_eq!(answer(&sample, b".", 0), root);
+        assert_eq!(answer(&sample, b"..", 0), root);
+        let missing = Pulled { answer: 2, ..root };
+        assert_eq!(answer(&sample, b"other", 0), missing);
+        let name = b"8 bytes.";
+        sample.put_inline_dentry(4096, 181, raw_hash(name), 8, name);
+        let hole = Pulled { answer: 1, byte_count: 1, node_count: 2, block_count: 2 };
+        assert_eq!(answer(&sample, name, 0), hole);
+        sample.put32(4096, 394 + 11 * 2 + 4, 0);
+        let (numbers, nodes, blocks, _) = listed(&sample, 0);
+        assert_eq!((numbers, nodes, blocks), ([9, 0], vec![0, 3], vec![4096]));
+    }
+
+    /// "then the block is read and listed, then 11, then 12"
+    #[test]
+    fn inline_inodes_belong_like_others() {
+        let (nodes, blocks) = ([3, 7], [4096, 4098]);
+        // Sizes in the room and above it, of the root and of the file.
+        for (size, read) in [(100, 1), (4096, 1), (100, 2), (4096, 2)] {
+            let mut sample = inline_root(4, 3488);
+            let block = blocks[read - 1] as usize;
+            sample.put64(block, 16, size);
+            sample.put32(block, 4080, 8);
+            let (nodes, blocks) = (nodes[..read].to_vec(), blocks[..read].to_vec());
+            assert_eq!(listed(&sample, 0), ([11, 0], nodes, blocks, vec![0xAA; 4096]));
         }
     }
 

@@ -136,12 +136,37 @@ impl Sample {
 
     /// A dentry at a slot: its map bit, hash, inode, length and name.
     pub fn put_dentry(&mut self, block: usize, slot: usize, hash: u32, inode: u32, name: &[u8]) {
-        self.bytes[block * 4096 + slot / 8] |= 1 << (slot % 8);
-        let entry = 30 + 11 * slot;
+        self.put_dentry_from(block, [0, 30, 2384], slot, (hash, inode), name);
+    }
+
+    /// The same at a slot of an inline directory: its 23-byte map at 364, its entries 23 + 7 bytes
+    /// later, its names behind 182 entries.
+    pub fn put_inline_dentry(
+        &mut self,
+        block: usize,
+        slot: usize,
+        hash: u32,
+        inode: u32,
+        name: &[u8],
+    ) {
+        self.put_dentry_from(block, [364, 394, 2396], slot, (hash, inode), name);
+    }
+
+    /// Where map, entries and names start is given.
+    fn put_dentry_from(
+        &mut self,
+        block: usize,
+        [map, entries, names]: [usize; 3],
+        slot: usize,
+        (hash, inode): (u32, u32),
+        name: &[u8],
+    ) {
+        self.bytes[block * 4096 + map + slot / 8] |= 1 << (slot % 8);
+        let entry = entries + 11 * slot;
         self.put32(block, entry, hash);
         self.put32(block, entry + 4, inode);
         self.put16(block, entry + 8, name.len() as u16);
-        self.put(block, 2384 + 8 * slot, name);
+        self.put(block, names + 8 * slot, name);
     }
 }
 

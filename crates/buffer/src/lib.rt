@@ -1,8 +1,8 @@
 // The block buffer that a pull fills.
 ghost use mathlib.Core.Path.{_≡_};
 ghost use mathlib.Core.List.{_++_};
-ghost use Prim.Native.Nat.{_-_, _≤_};
-ghost use lib.ListN.{length, take, replicate};
+ghost use Prim.Native.Nat.{_+_, _-_, _≤_};
+ghost use lib.ListN.{length, take, drop, replicate};
 
 pub fn clear(bytes: &mut [u8])
     ensures { λ _. ⌜ now (bytes .exit) ≡ replicate (length (now (bytes .entry))) 0 ⌝ }
@@ -14,11 +14,11 @@ pub fn clear(bytes: &mut [u8])
     }
 }
 
-// The first bytes of a block, then zeros.
-pub fn put_block(block: &[u8], count: usize, buffer: &mut [u8])
-    requires { ⌜ (length (now block) ≡ 4096) × (count ≤ 4096) × (length (now buffer) ≡ 4096) ⌝ }
-    ensures { λ _. ⌜ now (buffer .exit) ≡ take count (now (block .entry)) ++ replicate (4096 - count) 0 ⌝ }
+// `count` bytes of a block, from `start` on, then zeros.
+pub fn put_block(block: &[u8], start: usize, count: usize, buffer: &mut [u8])
+    requires { ⌜ (length (now block) ≡ 4096) × (start + count ≤ 4096) × (length (now buffer) ≡ 4096) ⌝ }
+    ensures { λ _. ⌜ now (buffer .exit) ≡ take count (drop start (now (block .entry))) ++ replicate (4096 - count) 0 ⌝ }
 {
-    bytes::copy(&block[..count], buffer);
+    bytes::copy(&block[start..start + count], buffer);
     clear(&mut buffer[count..]);
 }

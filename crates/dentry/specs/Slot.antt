@@ -1,6 +1,5 @@
--- The slots of a directory block. "A block has 214 slots: map 27 bytes, 3 reserved, entries of 11 (hash, inode, 16-bit length,
--- type) from 30, names of 8 bytes a slot from 2,384."
-use Prim.Native.Nat.{ℕ, zero, suc, _+_, _*_, _/_}
+-- The slots of a directory block and of an inline directory.
+use Prim.Native.Nat.{ℕ, zero, suc, _+_, _*_, _/_, _≤_}
 use mathlib.Core.Bool.{Bool, _&&_}
 use mathlib.Core.List.{List}
 use lib.ListN.{length}
@@ -9,6 +8,8 @@ use Rattle.field.specs.Number.{le16, le32}
 use Rattle.field.specs.Map.{lowBit}
 use Rattle.field.specs.Choice.{choose}
 use Rattle.field.specs.Bytes.{sameAt}
+use Rattle.inode.specs.Inode.{inlineStart}
+use Rattle.dentry.specs.declared.Layout.{Layout}
 use Rattle.dentry.specs.declared.Slot.{Slot}
 use Rattle.dentry.specs.declared.Slot.the-variants.{Free, Match, Other, Malformed}
 
@@ -20,35 +21,62 @@ pub record Wanted : Type 0 where
 abbrev pub wanted : ℕ → List ℕ → Wanted
 wanted hash name = record { hash = hash; name = name }
 
-abbrev pub entryAt : ℕ → ℕ
-entryAt slot = 30 + 11 * slot
+-- ---- where slots are: a layout has the byte that it starts at, its number of slots, and where behind its start their names begin
 
-abbrev pub lengthIn : List ℕ → ℕ → ℕ
-lengthIn block slot = le16 block (entryAt slot + 8)
+-- "A block has 214 slots: map 27 bytes, 3 reserved, entries of 11 (hash, inode, 16-bit length, type) from 30, names of 8 bytes a slot
+-- from 2,384."
+abbrev pub blockLayout : Layout
+blockLayout = record { start = 0; slots = 214; names = 2384 }
+
+-- K4: "Its 3,488 bytes are a 23-byte map, 7 reserved, 182 entries, 182 name slots": entries from 30 here too
+abbrev pub inlineLayout : Layout
+inlineLayout = record { start = inlineStart; slots = 182; names = 2032 }
+
+-- a slot's bit in the map
+abbrev pub slotBit : Layout → List ℕ → ℕ → ℕ
+slotBit l block slot = lowBit block (8 * l .start + slot)
+
+abbrev pub entryAt : Layout → ℕ → ℕ
+entryAt l slot = l .start + 30 + 11 * slot
+
+abbrev pub nameAt : Layout → ℕ → ℕ
+nameAt l slot = l .start + l .names + 8 * slot
+
+-- what the code asks of a layout: map, entries and names follow each other inside a block
+pub record LayoutIn (l : Layout) : Type 0 where
+  pub map : l .slots ≤ 240
+  pub entries : 30 + 11 * l .slots ≤ l .names
+  pub names : l .start + l .names + 8 * l .slots ≤ 4096
+
+-- ---- what a slot holds
+
+abbrev pub lengthIn : Layout → List ℕ → ℕ → ℕ
+lengthIn l block slot = le16 block (entryAt l slot + 8)
 
 -- "⌈length/8⌉ slots"
 abbrev pub slotsFor : ℕ → ℕ
 slotsFor len = (len + 7) / 8
 
 -- "A set one needs length 1 to 255 and ⌈length/8⌉ slots before the end"
-unfoldable pub wellFormed : ℕ → ℕ → Bool
-wellFormed slot len = leb 1 len && leb len 255 && leb (slot + slotsFor len) 214
+unfoldable pub wellFormed : Layout → ℕ → ℕ → Bool
+wellFormed l slot len = leb 1 len && leb len 255 && leb (slot + slotsFor len) (l .slots)
 
 -- "it matches by hash, length and bytes"
-unfoldable pub matches : List ℕ → Wanted → ℕ → Bool
-matches block w slot =
-    eqb (le32 block (entryAt slot)) (w .hash) && eqb (lengthIn block slot) (length (w .name))
-    && sameAt block (2384 + 8 * slot) (w .name)
+unfoldable pub matches : Layout → List ℕ → Wanted → ℕ → Bool
+matches l block w slot =
+    eqb (le32 block (entryAt l slot)) (w .hash) && eqb (lengthIn l block slot) (length (w .name))
+    && sameAt block (nameAt l slot) (w .name)
 
--- what a slot holds: free, the name's inode number, another entry with its slots, or malformed
-unfoldable pub slotAt : List ℕ → Wanted → ℕ → Slot
-slotAt block w slot =
-    choose (eqb (lowBit block slot) 0) Free
-    (choose (wellFormed slot (lengthIn block slot))
-    (choose (matches block w slot) (Match (le32 block (entryAt slot + 4))) (Other (slotsFor (lengthIn block slot))))
+-- free, the name's inode number, another entry with its slots, or malformed
+unfoldable pub slotAt : Layout → List ℕ → Wanted → ℕ → Slot
+slotAt l block w slot =
+    choose (eqb (slotBit l block slot) 0) Free
+    (choose (wellFormed l slot (lengthIn l block slot))
+    (choose (matches l block w slot) (Match (le32 block (entryAt l slot + 4))) (Other (slotsFor (lengthIn l block slot))))
     Malformed)
 
--- what the slots of a block come to
+-- ---- what all slots come to
+
 pub data Sought : Type 0 where
   absent : Sought
   found : ℕ → Sought
@@ -61,11 +89,20 @@ afterSlot next slot (Match ino) = found ino
 afterSlot next slot (Other slots) = next (slot + slots)
 afterSlot next slot Malformed = malformed
 
--- "slots rising": from a slot on. Each step moves on by a slot at least, so 214 steps are enough for n, which is there only so
--- that the recursion ends
-unfoldable pub slotsFrom : List ℕ → Wanted → ℕ → ℕ → Sought
-slotsFrom block w zero slot = absent
-slotsFrom block w (suc n) slot = choose (ltb slot 214) (afterSlot (slotsFrom block w n) slot (slotAt block w slot)) absent
+-- "slots rising": from a slot on. Each step moves on by a slot at least, so as many steps as there are slots are enough for n, which
+-- is there only so that the recursion ends
+unfoldable pub slotsFrom : Layout → List ℕ → Wanted → ℕ → ℕ → Sought
+slotsFrom l block w zero slot = absent
+slotsFrom l block w (suc n) slot =
+    choose (ltb slot (l .slots)) (afterSlot (slotsFrom l block w n) slot (slotAt l block w slot)) absent
 
+abbrev pub inSlots : Layout → List ℕ → Wanted → Sought
+inSlots l block w = slotsFrom l block w (l .slots) 0
+
+-- of a directory block
 abbrev pub inBlock : List ℕ → Wanted → Sought
-inBlock block w = slotsFrom block w 214 0
+inBlock block w = inSlots blockLayout block w
+
+-- of an inline directory, by the bytes of its inode
+abbrev pub inInode : List ℕ → Wanted → Sought
+inInode inode w = inSlots inlineLayout inode w

@@ -1,14 +1,39 @@
-// The slots of a directory block, and its scan for a name, turn by turn.
+// The slots of a directory block or of an inline directory, and their scan for a name, turn by turn.
 // What each means is in specs/: Slot, Scan.
 ghost use mathlib.Core.Path.{_≡_};
 ghost use Prim.Native.Nat.{_+_, _<_, _≤_};
 ghost use lib.ListN.{length};
-ghost use Rattle.field.specs.Map.{lowBit};
-ghost use Rattle.dentry.specs.Slot.{wanted, slotAt, inBlock};
+ghost use Rattle.dentry.specs.Slot.{LayoutIn, blockLayout, inlineLayout, wanted, slotBit, slotAt, inSlots};
 ghost use Rattle.dentry.specs.Scan.{freeRun, turnsIn, turnsMost, Scanning, soughtOf, Took};
 
-// What one slot of a directory block holds: nothing, the name's inode number, another entry and how many slots it has, or an
-// entry that doesn't fit.
+// Where slots are: the byte that the map starts at, how many slots there are, and where behind that byte their names begin.
+pub struct Layout {
+    pub start: usize,
+    pub slots: usize,
+    pub names: usize,
+}
+
+pub fn block_layout() -> Layout
+    ensures { λ r. ⌜ (r ≡ blockLayout) × LayoutIn r ⌝ }
+{
+    Layout {
+        start: 0,
+        slots: 214,
+        names: 2384,
+    }
+}
+
+pub fn inline_layout() -> Layout
+    ensures { λ r. ⌜ (r ≡ inlineLayout) × LayoutIn r ⌝ }
+{
+    Layout {
+        start: inode::INLINE_START,
+        slots: 182,
+        names: 2032,
+    }
+}
+
+// What one slot holds: nothing, the name's inode number, another entry and how many slots it has, or an entry that doesn't fit.
 pub enum Slot {
     Free,
     Match(u32),
@@ -16,7 +41,7 @@ pub enum Slot {
     Malformed,
 }
 
-// Where the scan of a block's slots stands, and how many turns it took up to there.
+// Where a scan stands, and how many turns it took up to there.
 pub struct Scan {
     pub slot: usize,
     pub turns: usize,
@@ -35,26 +60,26 @@ pub struct TurnStep {
     pub scan: Scan,
 }
 
-// A slot's bit in the block's map: the order of a directory map's bits is chosen here, and in `free_run`.
-fn slot_bit(block: &[u8], slot: usize) -> u8
-    requires { ⌜ (length (now block) ≡ 4096) × (slot < 214) ⌝ }
-    ensures { λ r. ⌜ r ≡ lowBit (now (block .entry)) slot ⌝ }
+// A slot's bit in the map: the order of a directory map's bits is chosen here, and in `free_run`.
+fn slot_bit(block: &[u8], l: Layout, slot: usize) -> u8
+    requires { ⌜ (length (now block) ≡ 4096) × LayoutIn l × (slot < l .slots) ⌝ }
+    ensures { λ r. ⌜ r ≡ slotBit l (now (block .entry)) slot ⌝ }
 {
-    field::low_bit(block, slot)
+    field::low_bit(block, 8 * l.start + slot)
 }
 
-// One slot of a directory block. The name's bytes are compared only where hash and length are the name's.
-fn slot_at(block: &[u8], slot: usize, hash: u32, name: &[u8]) -> Slot
-    requires { ⌜ (length (now block) ≡ 4096) × (slot < 214) ⌝ }
-    ensures { λ r. ⌜ r ≡ slotAt (now (block .entry)) (wanted hash (now (name .entry))) slot ⌝ }
+// One slot. The name's bytes are compared only where hash and length are the name's.
+fn slot_at(block: &[u8], l: Layout, slot: usize, hash: u32, name: &[u8]) -> Slot
+    requires { ⌜ (length (now block) ≡ 4096) × LayoutIn l × (slot < l .slots) ⌝ }
+    ensures { λ r. ⌜ r ≡ slotAt l (now (block .entry)) (wanted hash (now (name .entry))) slot ⌝ }
 {
-    if slot_bit(block, slot) == 0 {
+    if slot_bit(block, l, slot) == 0 {
         return Slot::Free;
     }
-    let entry = 30 + 11 * slot;
+    let entry = l.start + 30 + 11 * slot;
     let len = field::get16(block, entry + 8) as usize;
     let slots = (len + 7) / 8;
-    let fits = (1 <= len) & (len <= 255) & (slot + slots <= 214);
+    let fits = (1 <= len) & (len <= 255) & (slot + slots <= l.slots);
     if !fits {
         return Slot::Malformed;
     }
@@ -64,7 +89,7 @@ fn slot_at(block: &[u8], slot: usize, hash: u32, name: &[u8]) -> Slot
     if len != name.len() {
         return Slot::Other(slots);
     }
-    let at = 2384 + 8 * slot;
+    let at = l.start + l.names + 8 * slot;
     if field::same_at(block, at, name) {
         return Slot::Match(field::get32(block, entry + 4));
     }
@@ -72,25 +97,26 @@ fn slot_at(block: &[u8], slot: usize, hash: u32, name: &[u8]) -> Slot
 }
 
 // How many slots are free from a free one on. Bits behind the last slot's belong to no run.
-fn free_run(block: &[u8], slot: usize) -> usize
-    requires { ⌜ (length (now block) ≡ 4096) × (slot < 214) ⌝ }
-    ensures { λ r. ⌜ r ≡ freeRun (now (block .entry)) slot ⌝ }
+fn free_run(block: &[u8], l: Layout, slot: usize) -> usize
+    requires { ⌜ (length (now block) ≡ 4096) × LayoutIn l × (slot < l .slots) ⌝ }
+    ensures { λ r. ⌜ r ≡ freeRun l (now (block .entry)) slot ⌝ }
 {
-    field::low_zeros(block, slot, 214)
+    let first = 8 * l.start;
+    field::low_zeros(block, first + slot, first + l.slots)
 }
 
-// One turn of a block's scan: a run of free slots is skipped, or an entry looked at.
-pub fn take_turn(block: &[u8], scan: Scan, hash: u32, name: &[u8]) -> TurnStep
-    requires { ⌜ (length (now block) ≡ 4096) × (scan .slot < 214) × Scanning (now block) (wanted hash (now name)) scan ⌝ }
-    ensures { λ r. ⌜ Took (now (block .entry)) (wanted hash (now (name .entry))) scan (r .turn) (r .scan) ⌝ }
+// One turn of a scan: a run of free slots is skipped, or an entry looked at.
+pub fn take_turn(block: &[u8], l: Layout, scan: Scan, hash: u32, name: &[u8]) -> TurnStep
+    requires { ⌜ (length (now block) ≡ 4096) × LayoutIn l × (scan .slot < l .slots) × Scanning l (now block) (wanted hash (now name)) scan ⌝ }
+    ensures { λ r. ⌜ Took l (now (block .entry)) (wanted hash (now (name .entry))) scan (r .turn) (r .scan) ⌝ }
     ensures { λ r. ⌜ (r .scan .turns ≡ scan .turns + 1)
-        × (r .scan .turns ≤ turnsMost (now (block .entry)) (wanted hash (now (name .entry)))) ⌝ }
+        × (r .scan .turns ≤ turnsMost l (now (block .entry)) (wanted hash (now (name .entry)))) ⌝ }
 {
     let slot = scan.slot;
     let turns = scan.turns + 1;
-    match slot_at(block, slot, hash, name) {
+    match slot_at(block, l, slot, hash, name) {
         Slot::Free => {
-            let behind = slot + free_run(block, slot);
+            let behind = slot + free_run(block, l, slot);
             TurnStep {
                 turn: Turn::On,
                 scan: Scan {
@@ -120,17 +146,17 @@ pub fn take_turn(block: &[u8], scan: Scan, hash: u32, name: &[u8]) -> TurnStep
     }
 }
 
-// The whole scan of a block: the turns that the search in a directory takes as well. `On`: it went to the end, and the name isn't
-// there.
-pub fn scan_block(block: &[u8], hash: u32, name: &[u8]) -> TurnStep
-    requires { ⌜ length (now block) ≡ 4096 ⌝ }
-    ensures { λ r. ⌜ (inBlock (now (block .entry)) (wanted hash (now (name .entry))) ≡ soughtOf (r .turn))
-        × (r .scan .turns ≡ turnsIn (now (block .entry)) (wanted hash (now (name .entry)))) ⌝ }
-    ensures { λ r. ⌜ r .scan .turns ≤ turnsMost (now (block .entry)) (wanted hash (now (name .entry))) ⌝ }
+// The whole scan of a layout's slots: the turns that the search in a directory takes as well. `On`: it went to the end, and the
+// name isn't there.
+pub fn scan_slots(block: &[u8], l: Layout, hash: u32, name: &[u8]) -> TurnStep
+    requires { ⌜ (length (now block) ≡ 4096) × LayoutIn l ⌝ }
+    ensures { λ r. ⌜ (inSlots l (now (block .entry)) (wanted hash (now (name .entry))) ≡ soughtOf (r .turn))
+        × (r .scan .turns ≡ turnsIn l (now (block .entry)) (wanted hash (now (name .entry)))) ⌝ }
+    ensures { λ r. ⌜ r .scan .turns ≤ turnsMost l (now (block .entry)) (wanted hash (now (name .entry))) ⌝ }
 {
     let mut scan = Scan { slot: 0, turns: 0 };
-    'slots: while scan.slot < 214 {
-        let step = take_turn(block, scan, hash, name);
+    'slots: while scan.slot < l.slots {
+        let step = take_turn(block, l, scan, hash, name);
         scan = step.scan;
         let turn = step.turn;
         match turn {

@@ -5,19 +5,31 @@ use native.Mathlib.Omega.{arith}
 use native.Mathlib.Nat.{add-zero}
 use mathlib.Core.Path.{_≡_, refl, sym, ap, subst}
 use mathlib.Core.Bool.{Bool, true, false}
+use mathlib.Core.List.{List}
 use lib.Dec.{leb}
 use borrow.Author.Tests.{leb-false}
 use Rattle.field.specs.Choice.{choose}
 use Rattle.place.specs.Place.{lastIndex}
 use Rattle.walk.specs.Walk.{Walk, Outcome, ends}
 use Rattle.walk.proofs.Sizes.{within-then, within-le}
+use Rattle.node.specs.Node.{Bounds}
 use Rattle.node.specs.Block.{Fetched, hole, held}
 use Rattle.node.proofs.Sizes.{Small, block-within, block-past}
 use Rattle.hash_level.specs.Level.{blocksOf, bucketOf}
 use Rattle.hash_level.specs.Reach.{upTo, inReach}
 use Rattle.hash_level.proofs.Reach.{at-most-58}
-use Rattle.dentry.specs.Slot.{Wanted, Sought, absent, found, malformed, inBlock}
-use Rattle.directory.specs.Find.{Directory, fetchWalk, afterSlots, afterBlock, bucketWalk, levelsWalk, findWalk}
+use Rattle.dentry.specs.Slot.{Wanted, Sought, absent, found, malformed, inBlock, inInode}
+use Rattle.directory.specs.Find.{Directory, fetchWalk, afterSlots, afterBlock, bucketWalk, levelsWalk, findWalk, inlineWalk}
+
+-- the slots of a block, or of an inline directory, ask nothing
+slots-within : (m : Bounds) {ns bs : ℕ} {rest : Walk (Outcome ℕ)} → Small m ns bs rest → (o : Sought) → Small m ns bs (afterSlots rest o)
+slots-within m h absent = h
+slots-within m h (found ino) = ends tt
+slots-within m h malformed = ends refl
+
+pub inline-within : (m : Bounds) (inode : List ℕ) (w : Wanted) → Small m 0 0 (inlineWalk inode w)
+unfolding inlineWalk
+inline-within m inode w = slots-within m (ends refl) (inInode inode w)
 
 module _ (d : Directory) where
   abbrev last : ℕ
@@ -33,15 +45,10 @@ module _ (d : Directory) where
           subst (Small (d .bounds) 0 0) (sym past) (ends tt)
 
   module _ (w : Wanted) where
-    slots-within : {ns bs : ℕ} {rest : Walk (Outcome ℕ)} → Small (d .bounds) ns bs rest → (o : Sought) → Small (d .bounds) ns bs (afterSlots rest o)
-    slots-within h absent = h
-    slots-within h (found ino) = ends tt
-    slots-within h malformed = ends refl
-
     after-within : {ns bs : ℕ} {rest : Walk (Outcome ℕ)} → Small (d .bounds) ns bs rest → (x : Fetched) → Small (d .bounds) ns bs (afterBlock w rest x)
     unfolding afterBlock
     after-within h hole = h
-    after-within h (held block) = slots-within h (inBlock block w)
+    after-within h (held block) = slots-within (d .bounds) h (inBlock block w)
 
     module _ (level : ℕ) where
       abbrev bucket : ℕ

@@ -1,4 +1,4 @@
--- The search of a name in a directory: levels, in each its bucket's blocks, in each its slots.
+-- The search of a name in a directory: levels, in each its bucket's blocks, in each its slots; in an inline directory, its slots.
 use Prim.Native.Nat.{ℕ, zero, suc, _+_}
 use mathlib.Core.List.{List}
 use Rattle.walk.specs.Walk.{Walk, done, Outcome, ok, stop, andThen}
@@ -10,7 +10,7 @@ use Rattle.node.specs.Block.{Fetched, hole, held, blockWalk}
 use Rattle.hash_level.specs.Level.{blocksOf, bucketOf}
 use Rattle.directory.specs.declared.Entry.{Entry}
 use Rattle.directory.specs.declared.Entry.the-variants.{Found, Stop}
-use Rattle.dentry.specs.Slot.{Wanted, Sought, absent, found, malformed, inBlock}
+use Rattle.dentry.specs.Slot.{Wanted, Sought, absent, found, malformed, inBlock, inInode}
 
 -- a directory: the main area bounds, its inode's number and bytes, how many addresses the inode holds, and its directory level
 pub record Directory : Type 0 where
@@ -55,6 +55,10 @@ levelsWalk d w (suc n) level = bucketWalk d w level (levelsWalk d w n (level + 1
 -- "Search levels 0 to depth − 1": the inode number in the name's entry
 unfoldable pub findWalk : Directory → Wanted → ℕ → Walk (Outcome ℕ)
 findWalk d w depth = levelsWalk d w depth 0
+
+-- K4: an inline directory, by the bytes of its inode: its slots are "scanned at any depth up to 63", and nothing is asked
+unfoldable pub inlineWalk : List ℕ → Wanted → Walk (Outcome ℕ)
+inlineWalk inode w = afterSlots (done (stop 2)) (inInode inode w)
 
 -- the code's answer as the walk's
 abbrev pub entryOf : Entry → Outcome ℕ

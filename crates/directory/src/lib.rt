@@ -1,15 +1,17 @@
-// A name sought in a directory: the nested search over hash levels, blocks and slots.
+// A name sought in a directory: the nested search over hash levels, blocks and slots; in an inline directory, the scan of its slots.
 // What it means is in specs/: Find.
+ghost use mathlib.Core.Path.{_≡_};
 ghost use Prim.Native.Nat.{_<_, _≤_};
+ghost use lib.ListN.{length};
 ghost use Rattle.field.specs.Card.{cardOf};
 ghost use Rattle.checkpoint.specs.Volume.{VolumeIn};
-ghost use Rattle.walk.specs.Walk.{imageView, lists, Walked, Fits};
+ghost use Rattle.walk.specs.Walk.{imageView, lists, done, Walked, Fits};
 ghost use Rattle.node.specs.Node.{boundsOf};
 ghost use Rattle.node.specs.Block.{blockWalk};
 ghost use Rattle.node.specs.Found.{dataOf, DataIn, FileIn};
 ghost use Rattle.hash_level.specs.Table.{IsTable};
 ghost use Rattle.dentry.specs.Slot.{wanted};
-ghost use Rattle.directory.specs.Find.{directoryOf, findWalk, entryOf};
+ghost use Rattle.directory.specs.Find.{directoryOf, findWalk, inlineWalk, entryOf};
 
 // The inode number in the name's entry, or the answer that ends the walk.
 pub enum Entry {
@@ -78,6 +80,7 @@ fn find_by(
         (lists (now (nodes .entry)) (now (blocks .entry)) counts) (entryOf (r .entry))
         (lists (now (nodes .exit)) (now (blocks .exit)) (r .counts)) ⌝ }
 {
+    let layout = dentry::block_layout();
     let mut listed = counts;
     let mut level: usize = 0;
     let entry = 'levels: loop {
@@ -100,8 +103,8 @@ fn find_by(
             };
             let block = field::block_at(image, at);
             let mut scan = dentry::Scan { slot: 0, turns: 0 };
-            'slots: while scan.slot < 214 {
-                let step = dentry::take_turn(block, scan, hash, name);
+            'slots: while scan.slot < layout.slots {
+                let step = dentry::take_turn(block, layout, scan, hash, name);
                 scan = step.scan;
                 let turn = step.turn;
                 match turn {
@@ -172,4 +175,19 @@ pub fn find(
         hash,
         name,
     )
+}
+
+// The name sought in an inline directory, by the bytes of its inode.
+pub fn find_inline(block: &[u8], hash: u32, name: &[u8]) -> Entry
+    requires { ⌜ length (now block) ≡ 4096 ⌝ }
+    ensures { λ r. ⌜ inlineWalk (now (block .entry)) (wanted hash (now (name .entry))) ≡ done (entryOf r) ⌝ }
+{
+    let layout = dentry::inline_layout();
+    let step = dentry::scan_slots(block, layout, hash, name);
+    let turn = step.turn;
+    match turn {
+        dentry::Turn::On => Entry::Stop(answer::NO_NAME),
+        dentry::Turn::Found(ino) => Entry::Found(ino),
+        dentry::Turn::Malformed => Entry::Stop(answer::MALFORMED_SLOT),
+    }
 }

@@ -1,23 +1,28 @@
 -- What the directory level decides: of a directory whether it is read, of a file nothing.
 use Prim.Native.Nat.{ℕ, _/_, _≤_, _<_}
 use mathlib.Core.Path.{_≡_, refl, sym, ap, _∙_}
-use mathlib.Core.Bool.{Bool, true, false, _&&_, and-false}
+use mathlib.Core.Bool.{Bool, true, false, not, _&&_, _||_, and-false}
 use mathlib.Core.Logic.{⊎-elim}
 use lib.Dec.{ltb, leb, eqb}
 use borrow.Author.Tests.{lt-ltb, le-ltb, ltb-true, ltb-false}
 use Rattle.field.proofs.Choosing.{either, clash}
 use Rattle.inode.specs.declared.Inode.{Inode}
-use Rattle.inode.specs.Inode.{notInline, isDirectory, isRegular, addressesIn, isPast, countIn}
+use Rattle.inode.specs.Inode.{hasInlineData, hasInlineDentry, hasExtraAttr, dataRoom, dentryRoom, isDirectory, isRegular, addressesIn, isPast, countIn}
 
 -- an inode with another level
 abbrev pub withLevel : Inode → ℕ → Inode
 withLevel i level = record { mode = i .mode; inline = i .inline; size = i .size; depth = i .depth; level = level }
 
 module _ (i : Inode) (level : ℕ) where
-  by-level : {low : Bool} → ltb level 31 ≡ low
-      → isDirectory (withLevel i level) ≡ (eqb (i .mode / 4096) 4 && notInline (i .inline) && leb (i .depth) 63 && low)
-  unfolding isDirectory
-  by-level e = ap (λ (low : Bool). eqb (i .mode / 4096) 4 && notInline (i .inline) && leb (i .depth) 63 && low) e
+  -- all that is tested of a directory but its level
+  abbrev read : Bool
+  read =
+      eqb (i .mode / 4096) 4 && not (hasInlineData i) && not (hasExtraAttr i) && (not (hasInlineDentry i) || leb (i .size) dentryRoom)
+      && leb (i .depth) 63
+
+  by-level : {low : Bool} → ltb level 31 ≡ low → isDirectory (withLevel i level) ≡ (read && low)
+  unfolding isDirectory hasInlineData hasExtraAttr hasInlineDentry
+  by-level e = ap (λ (low : Bool). read && low) e
 
   -- "refusal 12 for a level now starts at 31"
   pub level-refused : 31 ≤ level → isDirectory (withLevel i level) ≡ false
@@ -26,7 +31,7 @@ module _ (i : Inode) (level : ℕ) where
   -- a file's level isn't consulted
   pub file-level : (index : ℕ) → (isRegular (withLevel i level) ≡ isRegular i) × (addressesIn (withLevel i level) ≡ addressesIn i)
       × (isPast (withLevel i level) index ≡ isPast i index) × (countIn (withLevel i level) index ≡ countIn i index)
-  unfolding isRegular addressesIn isPast countIn
+  unfolding isRegular hasInlineData hasExtraAttr hasInlineDentry dataRoom addressesIn isPast countIn
   file-level index = (refl, refl, refl, refl)
 
 -- a directory of a level below 31 is read exactly if it is at level 0

@@ -1,7 +1,7 @@
 -- What is read of an inode, and which inodes are read. "In an inode: mode 0 (16 bits; top four bits 4 directory, 8 regular), inline
 -- byte 3, size 16 (64 bits), depth 72, directory level 347 (one byte)"
 use Prim.Native.Nat.{ℕ, _-_, _*_, _/_, _%_}
-use mathlib.Core.Bool.{Bool, _&&_, _||_}
+use mathlib.Core.Bool.{Bool, not, _&&_, _||_}
 use mathlib.Core.List.{List}
 use lib.ListN.{getD}
 use lib.Dec.{ltb, leb, eqb}
@@ -14,17 +14,49 @@ unfoldable pub inodeOf : List ℕ → Inode
 inodeOf block =
     record { mode = le16 block 0; inline = getD block 3 0; size = le64 block 16; depth = le32 block 72; level = getD block 347 0 }
 
--- "inline bits 2, 4 and 20 hex clear"
-unfoldable pub notInline : ℕ → Bool
-notInline inline = eqb (inline / 2 % 2) 0 && eqb (inline / 4 % 2) 0 && eqb (inline / 32 % 2) 0
+-- ---- K4: contents that are in the inode itself
 
--- "The root must be a directory .., else 12"; "Depth over 63 ..: 12"; "refusal 12 for a level now starts at 31"
+-- "inline data (inline bit 2)"
+unfoldable pub hasInlineData : Inode → Bool
+hasInlineData i = eqb (i .inline / 2 % 2) 1
+
+-- "inline directories (bit 4)"
+unfoldable pub hasInlineDentry : Inode → Bool
+hasInlineDentry i = eqb (i .inline / 4 % 2) 1
+
+-- bit 20 hex, extra attributes
+unfoldable pub hasExtraAttr : Inode → Bool
+hasExtraAttr i = eqb (i .inline / 32 % 2) 1
+
+-- "Both start one address word into the address area": "addresses from 360"
+abbrev pub inlineStart : ℕ
+inlineStart = 364
+
+-- a file's room: "With 50 words kept for attributes that is 3,488 bytes, without them 3,688". Inline bit 1 keeps them.
+unfoldable pub dataRoom : Inode → ℕ
+dataRoom i = choose (eqb (i .inline % 2) 1) 3488 3688
+
+-- "an inline directory always keeps the 50, attribute bit or not"
+abbrev pub dentryRoom : ℕ
+dentryRoom = 3488
+
+-- ---- which inodes are read
+
+-- "The root must be a directory .., else 12"; "2 on a directory .. stay[s] 12"; bit 20 hex does; "A size above the room is 12."; "Depth over
+-- 63 ..: 12"; "refusal 12 for a level now starts at 31"
 unfoldable pub isDirectory : Inode → Bool
-isDirectory i = eqb (i .mode / 4096) 4 && notInline (i .inline) && leb (i .depth) 63 && ltb (i .level) 31
+isDirectory i =
+    eqb (i .mode / 4096) 4 && not (hasInlineData i) && not (hasExtraAttr i)
+    && (not (hasInlineDentry i) || leb (i .size) dentryRoom)
+    && leb (i .depth) 63 && ltb (i .level) 31
 
--- ".. and the file regular .., else 12"
+-- ".. and the file regular .., else 12"; "4 on a regular file stay[s] 12"; bit 20 hex does; "A size above the room is 12."
 unfoldable pub isRegular : Inode → Bool
-isRegular i = eqb (i .mode / 4096) 8 && notInline (i .inline)
+isRegular i =
+    eqb (i .mode / 4096) 8 && not (hasInlineDentry i) && not (hasExtraAttr i)
+    && (not (hasInlineData i) || leb (i .size) (dataRoom i))
+
+-- ---- how much of it there is
 
 -- "Inline bit 1 set: A = 873 addresses, else A = 923."
 unfoldable pub addressesIn : Inode → ℕ

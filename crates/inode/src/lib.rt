@@ -4,7 +4,11 @@ ghost use mathlib.Core.Path.{_≡_};
 ghost use mathlib.Core.Bool.{false};
 ghost use Prim.Native.Nat.{_≤_};
 ghost use lib.ListN.{length};
-ghost use Rattle.inode.specs.Inode.{inodeOf, notInline, isDirectory, isRegular, addressesIn, isPast, countIn};
+ghost use Rattle.inode.specs.Inode.{inodeOf, hasInlineData, hasInlineDentry, hasExtraAttr, dataRoom, isDirectory, isRegular};
+ghost use Rattle.inode.specs.Inode.{addressesIn, isPast, countIn};
+
+// Where contents start that are in the inode itself.
+pub const INLINE_START: usize = 364;
 
 // What is read of an inode.
 pub struct Inode {
@@ -28,22 +32,54 @@ pub fn inode_of(block: &[u8]) -> Inode
     }
 }
 
-fn not_inline(inline: u8) -> bool
-    ensures { λ r. ⌜ r ≡ notInline inline ⌝ }
+// Whether a file's bytes are in the inode itself.
+pub fn has_inline_data(i: Inode) -> bool
+    ensures { λ r. ⌜ r ≡ hasInlineData i ⌝ }
 {
-    (inline / 2 % 2 == 0) & (inline / 4 % 2 == 0) & (inline / 32 % 2 == 0)
+    i.inline / 2 % 2 == 1
+}
+
+// Whether a directory's entries are in the inode itself.
+pub fn has_inline_dentry(i: Inode) -> bool
+    ensures { λ r. ⌜ r ≡ hasInlineDentry i ⌝ }
+{
+    i.inline / 4 % 2 == 1
+}
+
+fn has_extra_attr(i: Inode) -> bool
+    ensures { λ r. ⌜ r ≡ hasExtraAttr i ⌝ }
+{
+    i.inline / 32 % 2 == 1
+}
+
+// How many bytes of a file an inode has room for.
+fn data_room(i: Inode) -> u64
+    ensures { λ r. ⌜ r ≡ dataRoom i ⌝ }
+{
+    if i.inline % 2 == 1 {
+        return 3488;
+    }
+    3688
 }
 
 pub fn is_directory(i: Inode) -> bool
     ensures { λ r. ⌜ r ≡ isDirectory i ⌝ }
 {
-    (i.mode / 4096 == 4) & not_inline(i.inline) & (i.depth <= 63) & (i.level < 31)
+    (i.mode / 4096 == 4)
+        & !has_inline_data(i)
+        & !has_extra_attr(i)
+        & (!has_inline_dentry(i) | (i.size <= 3488))
+        & (i.depth <= 63)
+        & (i.level < 31)
 }
 
 pub fn is_regular(i: Inode) -> bool
     ensures { λ r. ⌜ r ≡ isRegular i ⌝ }
 {
-    (i.mode / 4096 == 8) & not_inline(i.inline)
+    (i.mode / 4096 == 8)
+        & !has_inline_dentry(i)
+        & !has_extra_attr(i)
+        & (!has_inline_data(i) | (i.size <= data_room(i)))
 }
 
 pub fn addresses_in(i: Inode) -> u32

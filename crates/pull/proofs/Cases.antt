@@ -3,23 +3,24 @@ use Prim.Native.Nat.{ℕ, _≤_}
 use mathlib.Core.Path.{_≡_, refl}
 use mathlib.Core.Bool.{true, false}
 use mathlib.Core.List.{List}
+use lib.ListN.{drop}
 use borrow.Author.Tests.{eq-eqb, ne-eqb}
 use Rattle.field.specs.Card.{Card}
-use Rattle.walk.specs.Walk.{View, Walk, done, Outcome, ok, stop, andThen, Lists, Walked, Fits}
+use Rattle.walk.specs.Walk.{View, Walk, done, Outcome, ok, stop, bind, onward, andThen, Lists, Walked, Fits}
 use Rattle.walk.proofs.Reached.{reached-start, reached-then, reached-stop, reached-done, reached-all}
 use Rattle.walk.proofs.Fits.{fits-at}
 use Rattle.inode.specs.declared.Inode.{Inode}
-use Rattle.inode.specs.Inode.{inodeOf, isDirectory, isRegular, addressesIn, isPast, countIn}
+use Rattle.inode.specs.Inode.{inodeOf, hasInlineData, hasInlineDentry, inlineStart, isDirectory, isRegular, addressesIn, isPast, countIn}
 use Rattle.inode.proofs.DirectoryLevel.{level-refused}
 use Rattle.node.specs.Node.{Bounds}
-use Rattle.node.specs.Block.{Fetched, blockWalk}
+use Rattle.node.specs.Block.{Fetched, held, blockWalk}
 use Rattle.node.specs.Found.{dataOf}
 use Rattle.node.specs.declared.Data.{Data}
 use Rattle.node.specs.declared.Data.the-variants as d
 use Rattle.name_hash.specs.Hash.{hashOf}
 use Rattle.dentry.specs.Slot.{wanted}
-use Rattle.directory.specs.Find.{directory, findWalk}
-use Rattle.pull.specs.Walk.{rootIno, counted, atFile, atRoot, blockFound}
+use Rattle.directory.specs.Find.{directory, findWalk, inlineWalk}
+use Rattle.pull.specs.Walk.{rootIno, counted, contentWalk, atFile, searchWalk, atRoot, blockFound}
 
 -- ---- a file, once its inode is read
 module _ (m : Bounds) (index ino : ℕ) (inode : List ℕ) {i : Inode} (read : i ≡ inodeOf inode) where
@@ -31,10 +32,26 @@ module _ (m : Bounds) (index ino : ℕ) (inode : List ℕ) {i : Inode} (read : i
   unfolding atFile
   file-past r p = rw (← read, r, p)
 
-  pub file-block : (A count : ℕ) → isRegular i ≡ true → isPast i index ≡ false → A ≡ addressesIn i → count ≡ countIn i index
-      → atFile m index ino inode ≡ andThen (blockWalk m ino inode A index) (counted count)
-  unfolding atFile
-  file-block A count r p a c = rw (← read, r, p, a, c)
+  content-inline : hasInlineData i ≡ true → contentWalk m index ino inode ≡ done (ok (held (drop inlineStart inode)))
+  unfolding contentWalk
+  content-inline d = rw (← read, d)
+
+  content-block : (A : ℕ) → hasInlineData i ≡ false → A ≡ addressesIn i → contentWalk m index ino inode ≡ blockWalk m ino inode A index
+  unfolding contentWalk
+  content-block A d a = rw (← read, d, a)
+
+  module _ (count : ℕ) (r : isRegular i ≡ true) (p : isPast i index ≡ false) (c : count ≡ countIn i index) where
+    by-content : {w : Walk (Outcome Fetched)} → contentWalk m index ino inode ≡ w → atFile m index ino inode ≡ andThen w (counted count)
+    unfolding atFile
+    by-content {w = w} e = rw (← read, r, p, ← c, e)
+
+    pub file-inline : hasInlineData i ≡ true → atFile m index ino inode ≡ counted count (held (drop inlineStart inode))
+    unfolding andThen bind onward
+    file-inline d = by-content (content-inline d)
+
+    pub file-block : (A : ℕ) → hasInlineData i ≡ false → A ≡ addressesIn i
+        → atFile m index ino inode ≡ andThen (blockWalk m ino inode A index) (counted count)
+    file-block A d a = by-content (content-block A d a)
 
 -- ---- the root, once its inode is read
 module _ (m : Bounds) (name inode : List ℕ) {i : Inode} (read : i ≡ inodeOf inode) where
@@ -50,14 +67,19 @@ module _ (m : Bounds) (name inode : List ℕ) {i : Inode} (read : i ≡ inodeOf 
   unfolding atRoot
   root-empty r z = rw (← read, r, eq-eqb _ _ z)
 
-  pub root-search : (A hash : ℕ) → isDirectory i ≡ true → (i .size ≡ 0 → ⊥) → A ≡ addressesIn i → hash ≡ hashOf name
-      → atRoot m name inode ≡ findWalk (directory m rootIno inode A (i .level)) (wanted hash name) (i .depth)
-  unfolding atRoot
-  root-search A hash r z a h = rw (← read, r, ne-eqb _ _ z, a, h)
+  module _ (hash : ℕ) (r : isDirectory i ≡ true) (z : i .size ≡ 0 → ⊥) (h : hash ≡ hashOf name) where
+    pub root-inline : hasInlineDentry i ≡ true → atRoot m name inode ≡ inlineWalk inode (wanted hash name)
+    unfolding atRoot searchWalk
+    root-inline d = rw (← read, r, ne-eqb _ _ z, d, h)
+
+    pub root-search : (A : ℕ) → hasInlineDentry i ≡ false → A ≡ addressesIn i
+        → atRoot m name inode ≡ findWalk (directory m rootIno inode A (i .level)) (wanted hash name) (i .depth)
+    unfolding atRoot searchWalk
+    root-search A d a = rw (← read, r, ne-eqb _ _ z, d, a, h)
 
 -- ---- a data block with its count
 pub counted-walked : (card : Card) (found : Data) (count : ℕ) {v : View} {p : Walk (Outcome Fetched)} {s t : Lists}
-    → Walked v p s (dataOf card found) t → Walked v (andThen p (counted count)) s (blockFound card found count) t
+    → Walked v p s (dataOf card found) t → Walked v (andThen p (counted count)) s (blockFound card found 0 count) t
 counted-walked card d.Hole count left = reached-done (reached-then (counted count) (reached-start _ _ _) left refl)
 counted-walked card (d.At address) count left = reached-done (reached-then (counted count) (reached-start _ _ _) left refl)
 counted-walked card (d.Stop answer) count left = reached-stop (counted count) (reached-start _ _ _) left refl

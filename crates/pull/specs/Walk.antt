@@ -2,6 +2,7 @@
 -- first of 2, 3, 9 to 14 that it meets. At a node: 9, 10, then the block is read and listed, then 11, then 12, then 2 or 3."
 use Prim.Native.Nat.{ℕ}
 use mathlib.Core.List.{List}
+use lib.ListN.{drop}
 use lib.Dec.{eqb}
 use Rattle.field.specs.Choice.{choose}
 use Rattle.walk.specs.Walk.{Walk, done, Outcome, ok, stop, andThen}
@@ -12,8 +13,8 @@ use Rattle.node.specs.declared.Data.the-variants as d
 use Rattle.field.specs.Card.{Card}
 use Rattle.name_hash.specs.Hash.{hashOf}
 use Rattle.dentry.specs.Slot.{wanted}
-use Rattle.directory.specs.Find.{directory, findWalk}
-use Rattle.inode.specs.Inode.{inodeOf, isDirectory, isRegular, addressesIn, isPast, countIn}
+use Rattle.directory.specs.Find.{directory, findWalk, inlineWalk}
+use Rattle.inode.specs.Inode.{inodeOf, hasInlineData, hasInlineDentry, inlineStart, isDirectory, isRegular, addressesIn, isPast, countIn}
 
 -- the inode number of the root directory
 abbrev pub rootIno : ℕ
@@ -27,24 +28,35 @@ pub record Block : Type 0 where
 abbrev pub counted : ℕ → Fetched → Walk (Outcome Block)
 counted count content = done (ok (record { count = count; content = content }))
 
+-- K4: an inline file's bytes are the inode's own, "one address word into the address area", and "no data block" is read for them
+unfoldable pub contentWalk : Bounds → ℕ → ℕ → List ℕ → Walk (Outcome Fetched)
+contentWalk m index ino inode =
+    choose (hasInlineData (inodeOf inode)) (done (ok (held (drop inlineStart inode))))
+    (blockWalk m ino inode (addressesIn (inodeOf inode)) index)
+
 unfoldable pub atFile : Bounds → ℕ → ℕ → List ℕ → Walk (Outcome Block)
 atFile m index ino inode =
     choose (isRegular (inodeOf inode))
     (choose (isPast (inodeOf inode) index) (done (stop 3))
-    (andThen (blockWalk m ino inode (addressesIn (inodeOf inode)) index) (counted (countIn (inodeOf inode) index))))
+    (andThen (contentWalk m index ino inode) (counted (countIn (inodeOf inode) index))))
     (done (stop 12))
 
 -- block `index` of the file of an inode number
 unfoldable pub fileWalk : Bounds → ℕ → ℕ → Walk (Outcome Block)
 fileWalk m index ino = andThen (inodeWalk m ino) (atFile m index ino)
 
+-- the search in a directory, by the bytes of its inode
+unfoldable pub searchWalk : Bounds → List ℕ → List ℕ → Walk (Outcome ℕ)
+searchWalk m name inode =
+    choose (hasInlineDentry (inodeOf inode)) (inlineWalk inode (wanted (hashOf name) name))
+    (findWalk (directory m rootIno inode (addressesIn (inodeOf inode)) (inodeOf inode .level)) (wanted (hashOf name) name)
+    (inodeOf inode .depth))
+
 -- "Then size 0: 2"
 unfoldable pub atRoot : Bounds → List ℕ → List ℕ → Walk (Outcome ℕ)
 atRoot m name inode =
     choose (isDirectory (inodeOf inode))
-    (choose (eqb (inodeOf inode .size) 0) (done (stop 2))
-    (findWalk (directory m rootIno inode (addressesIn (inodeOf inode)) (inodeOf inode .level)) (wanted (hashOf name) name)
-    (inodeOf inode .depth)))
+    (choose (eqb (inodeOf inode .size) 0) (done (stop 2)) (searchWalk m name inode))
     (done (stop 12))
 
 -- the inode number of a name in the root directory
@@ -54,8 +66,8 @@ rootWalk m name = andThen (inodeWalk m rootIno) (atRoot m name)
 unfoldable pub pullWalk : Bounds → List ℕ → ℕ → Walk (Outcome Block)
 pullWalk m name index = andThen (rootWalk m name) (fileWalk m index)
 
--- what the code found as a block of the file: an address stands for the bytes of its block
-abbrev pub blockFound : Card → Data → ℕ → Outcome Block
-blockFound card d.Hole count = ok (record { count = count; content = hole })
-blockFound card (d.At address) count = ok (record { count = count; content = held (card .block address) })
-blockFound card (d.Stop answer) count = stop answer
+-- what the code found as a block of the file: an address stands for the bytes of its block, from a start on
+abbrev pub blockFound : Card → Data → ℕ → ℕ → Outcome Block
+blockFound card d.Hole start count = ok (record { count = count; content = hole })
+blockFound card (d.At address) start count = ok (record { count = count; content = held (drop start (card .block address)) })
+blockFound card (d.Stop answer) start count = stop answer

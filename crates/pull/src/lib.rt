@@ -2,7 +2,7 @@
 // What each means is in specs/: Walk, Pull.
 ghost use mathlib.Core.Path.{_≡_};
 ghost use mathlib.Core.Bool.{true, _&&_};
-ghost use Prim.Native.Nat.{_/_, _≤_, _<_};
+ghost use Prim.Native.Nat.{_+_, _/_, _≤_, _<_};
 ghost use lib.Dec.{eqb, leb};
 ghost use lib.ListN.{length};
 ghost use Rattle.field.specs.Card.{cardOf};
@@ -29,9 +29,10 @@ pub struct Pulled {
     pub block_count: u32,
 }
 
-// A block of a file, how many of its bytes are the file's, and how many nodes and blocks are listed then.
+// A block of a file, where in it the file's bytes start and how many they are, and how many nodes and blocks are listed then.
 struct BlockStep {
     pub data: node::Data,
+    pub start: usize,
     pub bytes: usize,
     pub counts: walk::Counts,
 }
@@ -52,14 +53,15 @@ fn block_from_inode(
     requires { ⌜ VolumeIn (cardOf (now image)) v ⌝ }
     requires { ⌜ at < cardOf (now image) .blocks ⌝ }
     ensures { λ r. ⌜ Walked (imageView (now (image .entry)) v) (atFile (boundsOf v) index ino (cardOf (now (image .entry)) .block at))
-        (lists (now (nodes .entry)) (now (blocks .entry)) counts) (blockFound (cardOf (now (image .entry))) (r .data) (r .bytes))
+        (lists (now (nodes .entry)) (now (blocks .entry)) counts) (blockFound (cardOf (now (image .entry))) (r .data) (r .start) (r .bytes))
         (lists (now (nodes .exit)) (now (blocks .exit)) (r .counts)) ⌝ }
-    ensures { λ r. ⌜ DataIn (cardOf (now (image .entry))) (r .data) × (r .bytes ≤ 4096) ⌝ }
+    ensures { λ r. ⌜ DataIn (cardOf (now (image .entry))) (r .data) × (r .start + r .bytes ≤ 4096) ⌝ }
 {
     let i = inode::inode_of(field::block_at(image, at));
     if !inode::is_regular(i) {
         return BlockStep {
             data: node::Data::Stop(answer::KIND_NOT_READ),
+            start: 0,
             bytes: 0,
             counts,
         };
@@ -67,11 +69,20 @@ fn block_from_inode(
     if inode::is_past(i, index) {
         return BlockStep {
             data: node::Data::Stop(answer::PAST_END),
+            start: 0,
             bytes: 0,
             counts,
         };
     }
     let bytes = inode::count_in(i, index);
+    if inode::has_inline_data(i) {
+        return BlockStep {
+            data: node::Data::At(at),
+            start: inode::INLINE_START,
+            bytes,
+            counts,
+        };
+    }
     let file = node::File {
         ino,
         inode: at,
@@ -82,6 +93,7 @@ fn block_from_inode(
     let listed = step.counts;
     BlockStep {
         data,
+        start: 0,
         bytes,
         counts: listed,
     }
@@ -100,9 +112,9 @@ fn block_of_file(
     requires { ⌜ Fits (imageView (now image) v) (fileWalk (boundsOf v) index ino) (lists (now nodes) (now blocks) counts) ⌝ }
     requires { ⌜ VolumeIn (cardOf (now image)) v ⌝ }
     ensures { λ r. ⌜ Walked (imageView (now (image .entry)) v) (fileWalk (boundsOf v) index ino)
-        (lists (now (nodes .entry)) (now (blocks .entry)) counts) (blockFound (cardOf (now (image .entry))) (r .data) (r .bytes))
+        (lists (now (nodes .entry)) (now (blocks .entry)) counts) (blockFound (cardOf (now (image .entry))) (r .data) (r .start) (r .bytes))
         (lists (now (nodes .exit)) (now (blocks .exit)) (r .counts)) ⌝ }
-    ensures { λ r. ⌜ DataIn (cardOf (now (image .entry))) (r .data) × (r .bytes ≤ 4096) ⌝ }
+    ensures { λ r. ⌜ DataIn (cardOf (now (image .entry))) (r .data) × (r .start + r .bytes ≤ 4096) ⌝ }
 {
     let step = node::node_step(image, v, nodes, blocks, counts, ino, ino, 0);
     let found = step.found;
@@ -110,6 +122,7 @@ fn block_of_file(
     match found {
         node::Found::Stop(answer) => BlockStep {
             data: node::Data::Stop(answer),
+            start: 0,
             bytes: 0,
             counts: listed,
         },
@@ -136,7 +149,8 @@ fn find_from_inode(
         (lists (now (nodes .entry)) (now (blocks .entry)) counts) (entryOf (r .entry))
         (lists (now (nodes .exit)) (now (blocks .exit)) (r .counts)) ⌝ }
 {
-    let i = inode::inode_of(field::block_at(image, at));
+    let block = field::block_at(image, at);
+    let i = inode::inode_of(block);
     if !inode::is_directory(i) {
         return directory::EntryStep {
             entry: directory::Entry::Stop(answer::KIND_NOT_READ),
@@ -149,6 +163,13 @@ fn find_from_inode(
             counts,
         };
     }
+    let hash = name_hash::hash(name);
+    if inode::has_inline_dentry(i) {
+        return directory::EntryStep {
+            entry: directory::find_inline(block, hash, name),
+            counts,
+        };
+    }
     let file = node::File {
         ino: 3,
         inode: at,
@@ -156,7 +177,6 @@ fn find_from_inode(
     };
     let dir_level = i.level as usize;
     let depth = i.depth as usize;
-    let hash = name_hash::hash(name);
     directory::find(
         image,
         v,
@@ -210,9 +230,9 @@ fn walk_to(
     requires { ⌜ Fits (imageView (now image) v) (pullWalk (boundsOf v) (now name) index) (lists (now nodes) (now blocks) none) ⌝ }
     requires { ⌜ VolumeIn (cardOf (now image)) v ⌝ }
     ensures { λ r. ⌜ Walked (imageView (now (image .entry)) v) (pullWalk (boundsOf v) (now (name .entry)) index)
-        (lists (now (nodes .entry)) (now (blocks .entry)) none) (blockFound (cardOf (now (image .entry))) (r .data) (r .bytes))
+        (lists (now (nodes .entry)) (now (blocks .entry)) none) (blockFound (cardOf (now (image .entry))) (r .data) (r .start) (r .bytes))
         (lists (now (nodes .exit)) (now (blocks .exit)) (r .counts)) ⌝ }
-    ensures { λ r. ⌜ DataIn (cardOf (now (image .entry))) (r .data) × (r .bytes ≤ 4096) ⌝ }
+    ensures { λ r. ⌜ DataIn (cardOf (now (image .entry))) (r .data) × (r .start + r .bytes ≤ 4096) ⌝ }
 {
     let empty = walk::Counts {
         nodes: 0,
@@ -224,6 +244,7 @@ fn walk_to(
     match entry {
         directory::Entry::Stop(answer) => BlockStep {
             data: node::Data::Stop(answer),
+            start: 0,
             bytes: 0,
             counts: listed,
         },
@@ -238,12 +259,12 @@ struct Delivered {
 }
 
 // The block buffer filled, unless the walk was stopped.
-fn deliver(image: &[u8], data: node::Data, count: usize, buffer: &mut [u8]) -> Delivered
-    requires { ⌜ DataIn (cardOf (now image)) «data» × (count ≤ 4096) ⌝ }
+fn deliver(image: &[u8], data: node::Data, start: usize, count: usize, buffer: &mut [u8]) -> Delivered
+    requires { ⌜ DataIn (cardOf (now image)) «data» × (start + count ≤ 4096) ⌝ }
     requires { ⌜ length (now buffer) ≡ 4096 ⌝ }
-    ensures { λ r. ⌜ (r .answer ≡ answerOf (blockFound (cardOf (now (image .entry))) «data» count))
-        × (r .count ≡ countOf (blockFound (cardOf (now (image .entry))) «data» count))
-        × (now (buffer .exit) ≡ bufferAfter (blockFound (cardOf (now (image .entry))) «data» count) (now (buffer .entry))) ⌝ }
+    ensures { λ r. ⌜ (r .answer ≡ answerOf (blockFound (cardOf (now (image .entry))) «data» start count))
+        × (r .count ≡ countOf (blockFound (cardOf (now (image .entry))) «data» start count))
+        × (now (buffer .exit) ≡ bufferAfter (blockFound (cardOf (now (image .entry))) «data» start count) (now (buffer .entry))) ⌝ }
 {
     let bytes = count as u32;
     match data {
@@ -255,7 +276,7 @@ fn deliver(image: &[u8], data: node::Data, count: usize, buffer: &mut [u8]) -> D
             }
         }
         node::Data::At(at) => {
-            buffer::put_block(field::block_at(image, at), count, buffer);
+            buffer::put_block(field::block_at(image, at), start, count, buffer);
             Delivered {
                 answer: answer::DATA,
                 count: bytes,
@@ -305,7 +326,7 @@ fn pull_opened(
     let step = walk_to(image, v, nodes, blocks, name, index);
     let data = step.data;
     let listed = step.counts;
-    let done = deliver(image, data, step.bytes, block);
+    let done = deliver(image, data, step.start, step.bytes, block);
     Pulled {
         answer: done.answer,
         byte_count: done.count,

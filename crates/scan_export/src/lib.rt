@@ -1,7 +1,8 @@
-// The scan of a directory block alone, for tests; it is not in the library that the rig links.
+// The scan of a directory block, or of an inline directory, alone, for tests; it is not in the library that the rig links.
 // What it means is in specs/: Scanned.
 ghost use mathlib.Core.Path.{_≡_};
 ghost use Prim.Native.Nat.{_≤_};
+ghost use Rattle.dentry.specs.Slot.{LayoutIn, blockLayout, inlineLayout};
 ghost use Rattle.dentry.specs.Scan.{turnsMost};
 ghost use Rattle.scan_export.specs.Scanned.{seeks, scanned};
 
@@ -13,10 +14,10 @@ pub struct Scanned {
     pub turns: u32,
 }
 
-#[no_mangle]
-pub extern "C" fn scan_export_scan(block: &[u8], name: &[u8]) -> Scanned
-    ensures { λ r. ⌜ r ≡ scanned (now (block .entry)) (now (name .entry)) ⌝ }
-    ensures { λ r. ⌜ r .turns ≤ turnsMost (now (block .entry)) (seeks (now (name .entry))) ⌝ }
+fn scan(block: &[u8], l: dentry::Layout, name: &[u8]) -> Scanned
+    requires { ⌜ LayoutIn l ⌝ }
+    ensures { λ r. ⌜ r ≡ scanned l (now (block .entry)) (now (name .entry)) ⌝ }
+    ensures { λ r. ⌜ r .turns ≤ turnsMost l (now (block .entry)) (seeks (now (name .entry))) ⌝ }
 {
     if !((block.len() == 4096) & name_hash::is_name(name)) {
         return Scanned {
@@ -26,7 +27,7 @@ pub extern "C" fn scan_export_scan(block: &[u8], name: &[u8]) -> Scanned
         };
     }
     let hash = name_hash::hash(name);
-    let step = dentry::scan_block(block, hash, name);
+    let step = dentry::scan_slots(block, l, hash, name);
     let turn = step.turn;
     let turns = step.scan.turns as u32;
     match turn {
@@ -46,4 +47,22 @@ pub extern "C" fn scan_export_scan(block: &[u8], name: &[u8]) -> Scanned
             turns,
         },
     }
+}
+
+// The slots of a directory block.
+#[no_mangle]
+pub extern "C" fn scan_export_scan(block: &[u8], name: &[u8]) -> Scanned
+    ensures { λ r. ⌜ r ≡ scanned blockLayout (now (block .entry)) (now (name .entry)) ⌝ }
+    ensures { λ r. ⌜ r .turns ≤ turnsMost blockLayout (now (block .entry)) (seeks (now (name .entry))) ⌝ }
+{
+    scan(block, dentry::block_layout(), name)
+}
+
+// The slots of an inline directory, in the bytes of its inode.
+#[no_mangle]
+pub extern "C" fn scan_export_scan_inline(inode: &[u8], name: &[u8]) -> Scanned
+    ensures { λ r. ⌜ r ≡ scanned inlineLayout (now (inode .entry)) (now (name .entry)) ⌝ }
+    ensures { λ r. ⌜ r .turns ≤ turnsMost inlineLayout (now (inode .entry)) (seeks (now (name .entry))) ⌝ }
+{
+    scan(inode, dentry::inline_layout(), name)
 }

@@ -17,36 +17,36 @@ use Rattle.hash_level.proofs.Levels.{blocks-few, bucket-small}
 use Rattle.dentry.specs.Slot.{wanted}
 use Rattle.directory.specs.Find.{directoryOf}
 use Rattle.dentry.specs.Scan.{Scanning}
-use Rattle.dentry.proofs.Scans.{took-told, scanning-start, scanning-end}
+use Rattle.dentry.proofs.Scans.{took-told, by-layout, scanning-start, scanning-end}
 use Rattle.directory.proofs.Turns.{Levels, levels-start, levels-next, levels-out, levels-end, block-fits}
 use Rattle.directory.proofs.Turns.{Bucket, bucket-start, bucket-stop, bucket-hole, bucket-absent, bucket-found, bucket-malformed}
 use Rattle.directory.proofs.find_by.Statement.{statement}
 use Rattle.directory.proofs.find_by.Tie as tie
 
 abbrev Inv-slots : tie.InvT-slots
-Inv-slots image v nodes blocks file dir firsts depth hash name listed level count bucket k at block scan₀ scan =
-    Scanning block (wanted hash name) scan
+Inv-slots image v nodes blocks file dir firsts depth hash name layout listed level count bucket k at block scan₀ scan =
+    Scanning layout block (wanted hash name) scan
 
 abbrev μ-slots : tie.MeasureT-slots
-μ-slots image v nodes blocks file dir firsts depth hash name listed level count bucket k at block scan₀ scan =
-    214 - scan .slot
+μ-slots image v nodes blocks file dir firsts depth hash name layout listed level count bucket k at block scan₀ scan =
+    layout .slots - scan .slot
 
 abbrev Inv-bucket : tie.InvT-bucket
-Inv-bucket image v nodes₀ blocks₀ file dir firsts depth hash name listed₀ level count bucket k₀ nodes blocks listed k =
+Inv-bucket image v nodes₀ blocks₀ file dir firsts depth hash name layout listed₀ level count bucket k₀ nodes blocks listed k =
     Bucket (imageView image v) (directoryOf (cardOf image) v file dir) (wanted hash name) depth level
     (lists nodes₀ blocks₀ listed₀) k (lists nodes blocks listed)
 
 abbrev μ-bucket : tie.MeasureT-bucket
-μ-bucket image v nodes₀ blocks₀ file dir firsts depth hash name listed₀ level count bucket k₀ nodes blocks listed k =
+μ-bucket image v nodes₀ blocks₀ file dir firsts depth hash name layout listed₀ level count bucket k₀ nodes blocks listed k =
     count - k
 
 abbrev Inv-levels : tie.InvT-levels
-Inv-levels image v nodes₀ blocks₀ file dir firsts depth hash name listed₀ level₀ nodes blocks listed level =
+Inv-levels image v nodes₀ blocks₀ file dir firsts depth hash name layout listed₀ level₀ nodes blocks listed level =
     Levels (imageView image v) (directoryOf (cardOf image) v file dir) (wanted hash name) depth
     (lists nodes₀ blocks₀ listed₀) level (lists nodes blocks listed)
 
 abbrev μ-levels : tie.MeasureT-levels
-μ-levels image v nodes₀ blocks₀ file dir firsts depth hash name listed₀ level₀ nodes blocks listed level =
+μ-levels image v nodes₀ blocks₀ file dir firsts depth hash name layout listed₀ level₀ nodes blocks listed level =
     depth - level
 
 -- ---- the places on the way
@@ -66,7 +66,7 @@ levels-of b = within-of b .before
 
 abbrev begun :
     tie.At-levels Inv-slots μ-slots Inv-bucket μ-bucket Inv-levels μ-levels → tie.Start Inv-slots μ-slots Inv-bucket μ-bucket Inv-levels μ-levels
-begun l = l .before .before .before .before .before
+begun l = l .before .before .before .before .before .before
 
 abbrev start-of :
     tie.In-bucket Inv-slots μ-slots Inv-bucket μ-bucket Inv-levels μ-levels → tie.Start Inv-slots μ-slots Inv-bucket μ-bucket Inv-levels μ-levels
@@ -90,7 +90,7 @@ abbrev block-of :
 block-of s = s .before
 
 abbrev slots-of : tie.Then2 Inv-slots μ-slots Inv-bucket μ-bucket Inv-levels μ-levels → tie.At-slots Inv-slots μ-slots Inv-bucket μ-bucket Inv-levels μ-levels
-slots-of t = t .before .before
+slots-of t = t .before .before .before
 
 -- ---- what is known there
 abbrev card-of : tie.In-bucket Inv-slots μ-slots Inv-bucket μ-bucket Inv-levels μ-levels → Card
@@ -111,6 +111,11 @@ in-card k =
     let l = k .before .before in
     subst (DataIn (card-of (turn-of l))) (k .data2 .given .1) (fetch-of l .fetch .ensures .1)
 
+-- the layout is a block's
+abbrev layout-of :
+    tie.At-slots Inv-slots μ-slots Inv-bucket μ-bucket Inv-levels μ-levels → tie.After-block-layout Inv-slots μ-slots Inv-bucket μ-bucket Inv-levels μ-levels
+layout-of s = levels-of (turn-of (listed-of (block-of s))) .before
+
 -- and is the one whose slots are searched
 held-of : (k : tie.After-block-at Inv-slots μ-slots Inv-bucket μ-bucket Inv-levels μ-levels) → let l = listed-of k in
     dataOf (card-of (turn-of l)) (fetch-of l .fetch .result .data) ≡ ok (held (k .block-at .result .now))
@@ -118,6 +123,9 @@ held-of k =
     ap (dataOf (card-of (turn-of (listed-of k)))) (k .before .before .data2 .given .1) ∙ ap (λ (l : List ℕ). ok (held l)) (sym (k .block-at .ensures))
 
 -- ---- the needs
+
+block-layout-requires : tie.Need-block-layout-requires Inv-slots μ-slots Inv-bucket μ-bucket Inv-levels μ-levels
+block-layout-requires c κs = search needs
 
 levels-holds : tie.Need-levels-holds Inv-slots μ-slots Inv-bucket μ-bucket Inv-levels μ-levels
 levels-holds c =
@@ -177,25 +185,26 @@ block-at-requires c κs =
 
 slots-holds : tie.Need-slots-holds Inv-slots μ-slots Inv-bucket μ-bucket Inv-levels μ-levels
 slots-holds c =
-    scanning-start _ _
+    scanning-start _ _ _
 
 bucket-less-2 : tie.Need-bucket-less-2 Inv-slots μ-slots Inv-bucket μ-bucket Inv-levels μ-levels
 bucket-less-2 c = search needs
 
 bucket-again-2 : tie.Need-bucket-again-2 Inv-slots μ-slots Inv-bucket μ-bucket Inv-levels μ-levels
 bucket-again-2 c =
-    let s = c .before .before in
+    let s = c .before .before .before in
     let k = block-of s in
     let l = listed-of k in
     let b = turn-of l in
-    let none = scanning-end (s .slots .inv) (c .if2 .left) .0 in
+    let none = by-layout (layout-of s .block-layout .ensures .0) _ _ (scanning-end (s .slots .inv) (c .if2 .left) .0) in
     bucket-absent (b .before .bucket .inv) (more b) (index b) (fetch-of l .fetch .ensures .0) (held-of k) none
 
 take-turn-requires : tie.Need-take-turn-requires Inv-slots μ-slots Inv-bucket μ-bucket Inv-levels μ-levels
 take-turn-requires c κs =
     let s = slots-of c in
     let k = block-of s in
-    (length-of-block _ _ (in-card (k .before .before)) (k .block-at .ensures), omega (arith, c .if2 .taken), s .slots .inv)
+    let whole = length-of-block _ _ (in-card (k .before .before)) (k .block-at .ensures) in
+    (whole, layout-of s .block-layout .ensures .1, omega (arith, c .if2 .taken), s .slots .inv)
 
 enum-told-2 : tie.Need-enum-told-2 Inv-slots μ-slots Inv-bucket μ-bucket Inv-levels μ-levels
 enum-told-2 c = search needs
@@ -203,10 +212,10 @@ enum-told-2 c = search needs
 slots-less : tie.Need-slots-less Inv-slots μ-slots Inv-bucket μ-bucket Inv-levels μ-levels
 slots-less c =
     let t = c .before .before .before in
-    omega (arith, took-told _ _ _ _ (t .take-turn .ensures .0) (c .enum-told2 .given .1) .0, t .before .if2 .taken)
+    omega (arith, took-told _ _ _ _ _ (t .take-turn .ensures .0) (c .enum-told2 .given .1) .0, t .before .if2 .taken)
 
 slots-again : tie.Need-slots-again Inv-slots μ-slots Inv-bucket μ-bucket Inv-levels μ-levels
-slots-again c = took-told _ _ _ _ (c .before .before .before .take-turn .ensures .0) (c .enum-told2 .given .1) .1
+slots-again c = took-told _ _ _ _ _ (c .before .before .before .take-turn .ensures .0) (c .enum-told2 .given .1) .1
 
 enum-known-turn : tie.Need-enum-known-turn Inv-slots μ-slots Inv-bucket μ-bucket Inv-levels μ-levels
 enum-known-turn c = search needs
@@ -255,20 +264,24 @@ returns-2 c =
 returns-3 : tie.Need-returns-3 Inv-slots μ-slots Inv-bucket μ-bucket Inv-levels μ-levels
 returns-3 c =
     let t = c .before .before .before .before in
-    let k = block-of (slots-of (t .before)) in
+    let s = slots-of (t .before) in
+    let k = block-of s in
     let l = listed-of k in
     let b = turn-of l in
-    let told = took-told _ _ _ _ (t .take-turn .ensures .0) (c .before .turn .given .1) .0 in
+    let turn = took-told _ _ _ _ _ (t .take-turn .ensures .0) (c .before .turn .given .1) in
+    let told = by-layout (layout-of s .block-layout .ensures .0) _ _ (turn .0) in
     levels-out (levels-of b .levels .inv) (within-of b .if1 .left)
     (bucket-found (b .before .bucket .inv) (more b) (index b) (fetch-of l .fetch .ensures .0) (held-of k) told)
 
 returns-4 : tie.Need-returns-4 Inv-slots μ-slots Inv-bucket μ-bucket Inv-levels μ-levels
 returns-4 c =
     let t = c .before .before .before in
-    let k = block-of (slots-of (t .before)) in
+    let s = slots-of (t .before) in
+    let k = block-of s in
     let l = listed-of k in
     let b = turn-of l in
-    let told = took-told _ _ _ _ (t .take-turn .ensures .0) (c .enum-told3 .given .1) .0 in
+    let turn = took-told _ _ _ _ _ (t .take-turn .ensures .0) (c .enum-told3 .given .1) in
+    let told = by-layout (layout-of s .block-layout .ensures .0) _ _ (turn .0) in
     levels-out (levels-of b .levels .inv) (within-of b .if1 .left)
     (bucket-malformed (b .before .bucket .inv) (more b) (index b) (fetch-of l .fetch .ensures .0) (held-of k) told)
 
@@ -298,6 +311,7 @@ find-by-spec =
     μ-bucket
     Inv-levels
     μ-levels
+    block-layout-requires
     levels-holds
     level-at-requires
     bucket-holds

@@ -6,13 +6,14 @@ use borrow.Author.Tests.{not-true, not-false}
 use Rattle.field.specs.Card.{cardOf}
 use Rattle.field.proofs.Blocks.{length-of-block}
 use Rattle.inode.specs.Inode.{inodeOf, isRegular, isPast}
+use Rattle.inode.proofs.Inline.{inline-room}
 use Rattle.walk.specs.Walk.{imageView, Walk, Outcome, andThen, lists}
 use Rattle.walk.proofs.Reached.{Reached, reached-start, reached-to, reached-all, reached-done}
 use Rattle.walk.proofs.Fits.{fits-at, fits-first}
 use Rattle.node.specs.Node.{boundsOf}
 use Rattle.node.specs.Block.{blockWalk}
 use Rattle.pull.specs.Walk.{Block, counted, atFile}
-use Rattle.pull.proofs.Cases.{file-other, file-past, file-block, counted-walked}
+use Rattle.pull.proofs.Cases.{file-other, file-past, file-inline, file-block, counted-walked}
 use borrow.Author.Needs.{needs}
 use Rattle.pull.proofs.block_from_inode.Statement.{statement}
 use Rattle.pull.proofs.block_from_inode.Tie as tie
@@ -32,8 +33,12 @@ regular-at k = k .before .before
 abbrev begun : tie.Else2 → tie.Start
 begun k = start-of (inode-at (regular-at k))
 
-abbrev inside-at : tie.After-addresses-in → tie.Else2
+-- its bytes are counted, and whether they are inline is known
+abbrev inside-at : tie.After-has-inline-data → tie.Else2
 inside-at k = k .before .before
+
+abbrev told-at : tie.After-addresses-in → tie.After-has-inline-data
+told-at k = k .before .before
 
 -- ---- what is known there
 read-of : (k : tie.After-inode-of) → let a = start-of k .args in k .inode-of .result ≡ inodeOf (cardOf (a .image .now) .block (a .at))
@@ -52,14 +57,16 @@ Here s rest =
     let t = lists (a .nodes .now) (a .blocks .now) (a .counts) in
     Reached (imageView (a .image .now) (a .v)) (atFile (boundsOf (a .v)) (a .index) (a .ino) (cardOf (a .image .now) .block (a .at))) t rest t
 
-to-block : (k : tie.After-addresses-in) → let s = begun (inside-at k) in let a = s .args in
+to-block : (k : tie.After-addresses-in) → let s = begun (inside-at (told-at k)) in let a = s .args in
     Here s (andThen (blockWalk (boundsOf (a .v)) (a .ino) (cardOf (a .image .now) .block (a .at)) (k .addresses-in .result) (a .index))
-    (counted (k .before .count-in .result)))
+    (counted (told-at k .before .count-in .result)))
 to-block k =
-    let e = inside-at k in
+    let t = told-at k in
+    let e = inside-at t in
     let r = regular-at e in
+    let apart = sym (t .has-inline-data .ensures) ∙ k .before .if3 .left in
     reached-to (reached-start _ _ _)
-    (file-block _ _ _ _ (read-of (inode-at r)) _ _ (regular r) (inside e) (k .addresses-in .ensures .0) (k .before .count-in .ensures .0))
+    (file-block _ _ _ _ (read-of (inode-at r)) _ (regular r) (inside e) (t .before .count-in .ensures .0) _ apart (k .addresses-in .ensures .0))
 
 -- ---- the needs
 
@@ -92,13 +99,29 @@ count-in-requires : tie.Need-count-in-requires
 count-in-requires c κs =
     inside c
 
+has-inline-data-requires : tie.Need-has-inline-data-requires
+has-inline-data-requires c κs = search needs
+
+returns-3 : tie.Need-returns-3
+returns-3 c =
+    let t = c .before in
+    let e = inside-at t in
+    let r = regular-at e in
+    let s = begun e in
+    let own = sym (t .has-inline-data .ensures) ∙ c .if3 .taken in
+    let count = t .before .count-in .ensures .0 in
+    let few = inline-room _ (regular r) own _ (inside e) in (
+      reached-done (reached-to (reached-start _ _ _) (file-inline _ _ _ _ (read-of (inode-at r)) _ (regular r) (inside e) count own)),
+      (s .pre .1 .1, omega arith),
+    )
+
 addresses-in-requires : tie.Need-addresses-in-requires
 addresses-in-requires c κs = search needs
 
 data-block-requires : tie.Need-data-block-requires
 data-block-requires c κs =
     let k = c .before .before in
-    let s = begun (inside-at k) in
+    let s = begun (inside-at (told-at k)) in
     (fits-first _ (fits-at (s .pre .0) (to-block k)), (s .pre .1 .0, (s .pre .1 .1, k .addresses-in .ensures .1)))
 
 same-length : tie.Need-same-length
@@ -107,14 +130,14 @@ same-length c = search needs
 same-length-2 : tie.Need-same-length-2
 same-length-2 c = search needs
 
-returns-3 : tie.Need-returns-3
-returns-3 c =
+returns-4 : tie.Need-returns-4
+returns-4 c =
     let step = c .before .before .before .before .before in
     let k = step .before .before .before in
-    let card = cardOf (begun (inside-at k) .args .image .now) in
-    let count = k .before .count-in in (
+    let card = cardOf (begun (inside-at (told-at k)) .args .image .now) in
+    let count = told-at k .before .count-in in (
       reached-all (to-block k) (counted-walked card (step .data-block .result .«data») (count .result) (step .data-block .ensures .0)),
-      (step .data-block .ensures .1, count .ensures .2),
+      (step .data-block .ensures .1, omega (arith, count .ensures .2)),
     )
 
 pub block-from-inode-spec : {M : Type 1} → statement M
@@ -128,8 +151,10 @@ block-from-inode-spec =
     is-past-requires
     returns-2
     count-in-requires
+    has-inline-data-requires
+    returns-3
     addresses-in-requires
     data-block-requires
     same-length
     same-length-2
-    returns-3)
+    returns-4)

@@ -1,4 +1,4 @@
--- `scan_export_scan` meets its contract: a call out of shape, or what the scan of the block came to.
+-- `scan` meets its contract: a call out of shape, or what the scan of the slots came to.
 use Prim.Native.Nat.{ℕ, _≤_}
 use native.Mathlib.Omega.{arith}
 use mathlib.Core.Path.{_≡_, sym, ap, ap₂, _∙_}
@@ -9,19 +9,20 @@ use lib.Dec.{eqb}
 use borrow.Author.Needs.{needs}
 use borrow.Author.Tests.{not-true, not-false}
 use Rattle.field.proofs.Choosing.{needed-eq}
+use Rattle.dentry.specs.declared.Layout.{Layout}
 use Rattle.dentry.specs.declared.Turn.{Turn}
-use Rattle.dentry.specs.Slot.{inBlock}
+use Rattle.dentry.specs.Slot.{inSlots}
 use Rattle.dentry.specs.Scan.{turnsIn, turnsMost, soughtOf}
 use Rattle.dentry.proofs.Runs.{entries-most}
 use Rattle.scan_export.specs.Scanned.{crossing, seeks, isScan, scanned}
-use Rattle.scan_export.proofs.scan_export_scan.Statement.{statement}
-use Rattle.scan_export.proofs.scan_export_scan.Tie as tie
+use Rattle.scan_export.proofs.scan.Statement.{statement}
+use Rattle.scan_export.proofs.scan.Tie as tie
 
 -- ---- the places on the way
 abbrev start-of : tie.After-is-name → tie.Start
 start-of k = k .before .before .before
 
-abbrev begun : tie.After-scan-block → tie.Start
+abbrev begun : tie.After-scan-slots → tie.Start
 begun k = start-of (k .before .before .before)
 
 -- ---- what is known there
@@ -29,33 +30,33 @@ tested : (k : tie.After-is-name) → let a = start-of k .args in
     isScan (a .block .now) (a .name .now) ≡ (eqb (length (a .block .now)) 4096 && k .is-name .result)
 tested k = rw (← k .is-name .ensures)
 
-is-scan : (k : tie.After-scan-block) → let a = begun k .args in isScan (a .block .now) (a .name .now) ≡ true
+is-scan : (k : tie.After-scan-slots) → let a = begun k .args in isScan (a .block .now) (a .name .now) ≡ true
 is-scan k = tested (k .before .before .before) ∙ not-false _ (k .before .before .if1 .left)
 
 -- the scan was for the name and its hash
-came : (k : tie.After-scan-block) {turn : Turn} → k .scan-block .result .turn ≡ turn → let a = begun k .args in
-    (inBlock (a .block .now) (seeks (a .name .now)) ≡ soughtOf turn) × (k .scan-block .result .scan .turns ≡ turnsIn (a .block .now) (seeks (a .name .now)))
+came : (k : tie.After-scan-slots) {turn : Turn} → k .scan-slots .result .turn ≡ turn → let a = begun k .args in
+    (inSlots (a .l) (a .block .now) (seeks (a .name .now)) ≡ soughtOf turn) × (k .scan-slots .result .scan .turns ≡ turnsIn (a .l) (a .block .now) (seeks (a .name .now)))
 came k told =
-    let is = rw (k .before .hash .ensures) at (k .scan-block .ensures .0) in
+    let is = rw (k .before .hash .ensures) at (k .scan-slots .ensures .0) in
     (is .0 ∙ ap soughtOf told, is .1)
 
-few : (k : tie.After-scan-block) → let a = begun k .args in k .scan-block .result .scan .turns ≤ turnsMost (a .block .now) (seeks (a .name .now))
-few k = rw (k .before .hash .ensures) at (k .scan-block .ensures .1)
+few : (k : tie.After-scan-slots) → let a = begun k .args in k .scan-slots .result .scan .turns ≤ turnsMost (a .l) (a .block .now) (seeks (a .name .now))
+few k = rw (k .before .hash .ensures) at (k .scan-slots .ensures .1)
 
-out-of-shape : (block name : List ℕ) → isScan block name ≡ false → scanned block name ≡ record { answer = 4; inode = 0; turns = 0 }
+out-of-shape : (l : Layout) (block name : List ℕ) → isScan block name ≡ false → scanned l block name ≡ record { answer = 4; inode = 0; turns = 0 }
 unfolding scanned
-out-of-shape block name f = rw f
+out-of-shape l block name f = rw f
 
-in-shape : (block name : List ℕ) → isScan block name ≡ true → scanned block name ≡ crossing (inBlock block (seeks name)) (turnsIn block (seeks name))
+in-shape : (l : Layout) (block name : List ℕ) → isScan block name ≡ true → scanned l block name ≡ crossing (inSlots l block (seeks name)) (turnsIn l block (seeks name))
 unfolding scanned
-in-shape block name t = rw t
+in-shape l block name t = rw t
 
 -- what crosses is the scan's
-crosses : (k : tie.After-scan-block) {turn : Turn} → k .scan-block .result .turn ≡ turn → let a = begun k .args in
-    crossing (soughtOf turn) (k .scan-block .result .scan .turns) ≡ scanned (a .block .now) (a .name .now)
+crosses : (k : tie.After-scan-slots) {turn : Turn} → k .scan-slots .result .turn ≡ turn → let a = begun k .args in
+    crossing (soughtOf turn) (k .scan-slots .result .scan .turns) ≡ scanned (a .l) (a .block .now) (a .name .now)
 crosses k told =
     let is = came k told in
-    sym (in-shape _ _ (is-scan k) ∙ ap₂ crossing (is .0) (sym (is .1)))
+    sym (in-shape _ _ _ (is-scan k) ∙ ap₂ crossing (is .0) (sym (is .1)))
 
 -- ---- the needs
 
@@ -63,13 +64,13 @@ is-name-requires : tie.Need-is-name-requires
 is-name-requires c κs = search needs
 
 returns : tie.Need-returns
-returns c = (sym (out-of-shape _ _ (tested (c .before) ∙ not-true _ (c .if1 .taken))), omega arith)
+returns c = (sym (out-of-shape _ _ _ (tested (c .before) ∙ not-true _ (c .if1 .taken))), omega arith)
 
 hash-requires : tie.Need-hash-requires
 hash-requires c κs = search needs
 
-scan-block-requires : tie.Need-scan-block-requires
-scan-block-requires c κs =
+scan-slots-requires : tie.Need-scan-slots-requires
+scan-slots-requires c κs =
     let k = c .before .before in
     needed-eq {all = eqb (length (start-of k .args .block .now)) 4096 && k .is-name .result} (λ e. rw e) (not-false _ (c .before .if1 .left))
 
@@ -102,16 +103,16 @@ cast-turns : tie.Need-cast-turns
 cast-turns c =
     let k = c .before in
     let a = begun k .args in
-    omega (arith, few k, entries-most (a .block .now) (seeks (a .name .now)))
+    omega (arith, few k, entries-most (a .l) (a .block .now) (seeks (a .name .now)))
 
-pub scan-export-scan-spec : {M : Type 1} → statement M
-scan-export-scan-spec =
+pub scan-spec : {M : Type 1} → statement M
+scan-spec =
     tie.close
     (tie.spec
     is-name-requires
     returns
     hash-requires
-    scan-block-requires
+    scan-slots-requires
     cast-turns
     enum-told
     enum-known-turn
