@@ -35,7 +35,8 @@ is-scan k = tested (k .before .before .before) ∙ not-false _ (k .before .befor
 
 -- the scan was for the name and its hash
 came : (k : tie.After-scan-slots) {turn : Turn} → k .scan-slots .result .turn ≡ turn → let a = begun k .args in
-    (inSlots (a .l) (a .block .now) (seeks (a .name .now)) ≡ soughtOf turn) × (k .scan-slots .result .scan .turns ≡ turnsIn (a .l) (a .block .now) (seeks (a .name .now)))
+    (inSlots (a .l) (a .block .now) (seeks (a .name .now)) ≡ soughtOf turn)
+    × (k .scan-slots .result .scan .turns ≡ turnsIn (a .l) (a .block .now) (seeks (a .name .now)))
 came k told =
     let is = rw (k .before .hash .ensures) at (k .scan-slots .ensures .0) in
     (is .0 ∙ ap soughtOf told, is .1)
@@ -47,7 +48,8 @@ out-of-shape : (l : Layout) (block name : List ℕ) → isScan block name ≡ fa
 unfolding scanned
 out-of-shape l block name f = rw f
 
-in-shape : (l : Layout) (block name : List ℕ) → isScan block name ≡ true → scanned l block name ≡ crossing (inSlots l block (seeks name)) (turnsIn l block (seeks name))
+in-shape : (l : Layout) (block name : List ℕ) → isScan block name ≡ true
+    → scanned l block name ≡ crossing (inSlots l block (seeks name)) (turnsIn l block (seeks name))
 unfolding scanned
 in-shape l block name t = rw t
 
@@ -72,7 +74,10 @@ hash-requires c κs = search needs
 scan-slots-requires : tie.Need-scan-slots-requires
 scan-slots-requires c κs =
     let k = c .before .before in
-    needed-eq {all = eqb (length (start-of k .args .block .now)) 4096 && k .is-name .result} (λ e. rw e) (not-false _ (c .before .if1 .left))
+    let s = start-of k in
+    let whole : length (s .args .block .now) ≡ 4096 =
+    needed-eq {all = eqb (length (s .args .block .now)) 4096 && k .is-name .result} (λ e. rw e) (not-false _ (c .before .if1 .left)) in
+    (whole, s .pre)
 
 enum-told : tie.Need-enum-told
 enum-told c = search needs
@@ -102,7 +107,9 @@ returns-4 c =
 cast-turns : tie.Need-cast-turns
 cast-turns c =
     let k = c .before in
-    let a = begun k .args in
+    let s = begun k in
+    let a = s .args in
+    let slots = s .pre .map in
     omega (arith, few k, entries-most (a .l) (a .block .now) (seeks (a .name .now)))
 
 pub scan-spec : {M : Type 1} → statement M
