@@ -3,6 +3,7 @@ pub mod Volume004
 pub mod Sheet
 pub mod OpeningRules
 pub mod WalkRules
+pub mod InlineRules
 pub mod LevelRules
 pub mod SegmentRules
 pub mod CompareRules

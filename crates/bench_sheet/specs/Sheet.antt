@@ -18,7 +18,7 @@ use Rattle.list.specs.Lists.{bytesOf}
 use Rattle.walk.specs.Walk.{Walk, done, look, read, Outcome, ok, stop}
 use Rattle.node.specs.Block.{held}
 use Rattle.hash_level.specs.Level.{firstOf}
-use Rattle.dentry.specs.Slot.{wanted, entryAt, wellFormed, matches, slotAt, slotsFrom}
+use Rattle.dentry.specs.Slot.{blockLayout, wanted, entryAt, wellFormed, matches, slotAt, slotsFrom}
 use Rattle.directory.specs.Find.{afterBlock}
 use Rattle.bench_sheet.specs.Line.{Line, _is_, Holds}
 use Rattle.bench_sheet.specs.Volume004.{superblock, card004, mainNumbers}
@@ -41,7 +41,7 @@ main004 feature = mainNumbers (found (card004 (λ b. superblock 0 feature)))
 
 -- a directory block whose one entry, at a slot, has a name of so many bytes: its bit, and the length in its entry
 abbrev oneEntry : ℕ → ℕ → List ℕ
-oneEntry slot len = set (set (replicate 4096 0) (slot / 8) (2 ^ (slot % 8))) (entryAt slot + 8) len
+oneEntry slot len = set (set (replicate 4096 0) (slot / 8) (2 ^ (slot % 8))) (entryAt blockLayout slot + 8) len
 
 -- the answer of a search that comes to a block of a directory and to none behind it; 0 with a match
 abbrev answerIn : Walk (Outcome ℕ) → List ℕ

@@ -20,15 +20,16 @@ use Rattle.nat.specs.Entry.{inJournal}
 use Rattle.nat.specs.Table.{inRange, tableAddress, entryIn, inTable, tableAnswer}
 use Rattle.walk.specs.Walk.{Walk, done, Outcome, ok, stop, Ran, empty, run, bind, onward, andThen}
 use Rattle.inode.specs.declared.Inode.{Inode}
-use Rattle.inode.specs.Inode.{inodeOf, notInline, isDirectory, isRegular, addressesIn, isPast, countIn}
+use Rattle.inode.specs.Inode.{inodeOf, hasInlineData, hasInlineDentry, hasExtraAttr, dataRoom, isDirectory, isRegular, addressesIn, isPast, countIn}
 use Rattle.node.specs.Node.{Bounds, inMain, belongs, atBlock, atEntry, nodeWalk}
 use Rattle.node.specs.Block.{isHole, dataWalk, followWalk, wayWalk, blockWalk}
-use Rattle.dentry.specs.Slot.{wanted, wellFormed, matches, slotAt, slotsFrom}
+use Rattle.dentry.specs.declared.Layout.{Layout}
+use Rattle.dentry.specs.Slot.{blockLayout, wanted, wellFormed, matches, slotAt, slotsFrom}
 use Rattle.dentry.specs.Scan.{tallyFrom, entriesIn, turnsIn, turnsMost}
 use Rattle.directory.specs.Find.{Directory, afterSlots, afterBlock, bucketWalk, levelsWalk, findWalk}
 use Rattle.hash_level.specs.Level.{firstOf, bucketOf}
 use Rattle.name_hash.specs.Hash.{hashOf}
-use Rattle.pull.specs.Walk.{Block, atFile, fileWalk, atRoot, rootWalk}
+use Rattle.pull.specs.Walk.{Block, contentWalk, atFile, fileWalk, searchWalk, atRoot, rootWalk}
 use Rattle.pull.specs.Pull.{lending, lentInShape, contentAnswer}
 use Rattle.bench_sheet.specs.Line.{Line, _is_, Holds, yes}
 
@@ -100,21 +101,21 @@ lookupRules =
 
 -- ---- nodes
 
-abbrev main : Bounds
+abbrev pub main : Bounds
 main = record { start = 4096; end = 25600 }
 
 -- the answer of a walk, then the node numbers that it lists, then the blocks. Node numbers are below 100 here, blocks 4,096 or more
-abbrev ended : {A : Type 0} → (A → ℕ) → Outcome A → ℕ
+abbrev pub ended : {A : Type 0} → (A → ℕ) → Outcome A → ℕ
 ended answer (ok a) = answer a
 ended answer (stop number) = number
 
-abbrev lists : {A : Type 0} → (A → ℕ) → (ℕ → TableAnswer) → (ℕ → List ℕ) → Walk (Outcome A) → List ℕ
+abbrev pub lists : {A : Type 0} → (A → ℕ) → (ℕ → TableAnswer) → (ℕ → List ℕ) → Walk (Outcome A) → List ℕ
 lists {A = A} answer table block w =
     let r : Ran (Outcome A) = run (record { table = table; block = block }) empty w in
     ended answer (r .value) ∷ (r .seen .nodes ++ r .seen .blocks)
 
 -- a node's block: what it starts with, and the number, inode and flag that it ends with
-abbrev footed : List ℕ → ℕ → ℕ → ℕ → List ℕ
+abbrev pub footed : List ℕ → ℕ → ℕ → ℕ → List ℕ
 footed front number ino flag = front ++ replicate (4072 - length front) 0 ++ bytesOf (number ∷ ino ∷ flag ∷ [])
 
 -- node 5 of file 4, at place 1, where the table and the node's block say so
@@ -173,7 +174,7 @@ nodeRules =
 
 -- ---- inodes
 
-abbrev inode : ℕ → ℕ → ℕ → ℕ → ℕ → Inode
+abbrev pub inode : ℕ → ℕ → ℕ → ℕ → ℕ → Inode
 inode mode inline size depth level = record { mode = mode; inline = inline; size = size; depth = depth; level = level }
 
 abbrev regular : ℕ → ℕ → ℕ
@@ -192,7 +193,7 @@ abbrev fields : Inode → List ℕ
 fields i = i .mode ∷ i .inline ∷ i .size ∷ i .depth ∷ i .level ∷ []
 
 -- the start of an inode's block; the size is below 2^32
-abbrev inodeBlock : ℕ → ℕ → ℕ → ℕ → ℕ → List ℕ
+abbrev pub inodeBlock : ℕ → ℕ → ℕ → ℕ → ℕ → List ℕ
 inodeBlock mode inline size depth level =
     (mode % 256 ∷ mode / 256 ∷ 0 ∷ inline ∷ [])
     ++ replicate 12 0
@@ -210,9 +211,9 @@ inodeRules =
     -- "top four bits 4 directory, 8 regular"
     ∷ (List.map (λ mode. regular mode 0) (0x7FFF ∷ 0x8000 ∷ 0x8FFF ∷ 0x9000 ∷ 0x4000 ∷ []) is (0 ∷ 1 ∷ 1 ∷ 0 ∷ 0 ∷ []))
     ∷ (List.map (λ mode. directory mode 0 1 0) (0x3FFF ∷ 0x4000 ∷ 0x4FFF ∷ 0x5000 ∷ 0x8000 ∷ []) is (0 ∷ 1 ∷ 1 ∷ 0 ∷ 0 ∷ []))
-    -- "both with inline bits 2, 4 and 20 hex clear, else 12"
-    ∷ (List.map (regular 0x8000) (1 ∷ 2 ∷ 4 ∷ 8 ∷ 0x10 ∷ 0x20 ∷ 0x40 ∷ 0x80 ∷ []) is (1 ∷ 0 ∷ 0 ∷ 1 ∷ 1 ∷ 0 ∷ 1 ∷ 1 ∷ []))
-    ∷ (List.map (λ inline. directory 0x4000 inline 1 0) (1 ∷ 2 ∷ 4 ∷ 8 ∷ 0x10 ∷ 0x20 ∷ 0x40 ∷ 0x80 ∷ []) is (1 ∷ 0 ∷ 0 ∷ 1 ∷ 1 ∷ 0 ∷ 1 ∷ 1 ∷ []))
+    -- "2 on a directory, and 4 on a regular file stay 12", and so does bit 20 hex
+    ∷ (List.map (regular 0x8000) (1 ∷ 2 ∷ 4 ∷ 8 ∷ 0x10 ∷ 0x20 ∷ 0x40 ∷ 0x80 ∷ []) is (1 ∷ 1 ∷ 0 ∷ 1 ∷ 1 ∷ 0 ∷ 1 ∷ 1 ∷ []))
+    ∷ (List.map (λ inline. directory 0x4000 inline 1 0) (1 ∷ 2 ∷ 4 ∷ 8 ∷ 0x10 ∷ 0x20 ∷ 0x40 ∷ 0x80 ∷ []) is (1 ∷ 0 ∷ 1 ∷ 1 ∷ 1 ∷ 0 ∷ 1 ∷ 1 ∷ []))
     -- "Depth over 63 ..: 12"; "refusal 12 for a level now starts at 31"
     ∷ (List.map (λ depth. directory 0x4000 0 depth 0) (0 ∷ 63 ∷ 64 ∷ []) is (1 ∷ 1 ∷ 0 ∷ []))
     ∷ (List.map (directory 0x4000 0 1) (0 ∷ 1 ∷ 30 ∷ 31 ∷ 32 ∷ 255 ∷ []) is (1 ∷ 1 ∷ 1 ∷ 0 ∷ 0 ∷ 0 ∷ []))
@@ -260,32 +261,35 @@ abbrev other : ℕ → Dentry
 other len = dentry 78 50 len 97
 
 -- the inode number that a search came to without another block, or the answer
-abbrev sought : Walk (Outcome ℕ) → ℕ
+abbrev pub sought : Walk (Outcome ℕ) → ℕ
 sought w = ended (λ ino. ino) (run (record { table = λ n. OutOfRange; block = λ b. [] }) empty w .value)
 
 -- the inode number or the answer that three steps of the search come to; 2 if they come to nothing
-abbrev inSlots : ℕ → List Dentry → ℕ
-inSlots map ds = sought (afterSlots (done (stop 2)) (slotsFrom (slots map ds) (wanted 77 (97 ∷ [])) 3 0))
+abbrev three : ℕ → List Dentry → ℕ
+three map ds = sought (afterSlots (done (stop 2)) (slotsFrom blockLayout (slots map ds) (wanted 77 (97 ∷ [])) 3 0))
 
 abbrev directoryRules : List Line
 directoryRules =
     -- "A set one needs length 1 to 255 and ⌈length/8⌉ slots before the end, else 14"
-    (List.map (λ len. yes (wellFormed 0 len)) (0 ∷ 1 ∷ 255 ∷ 256 ∷ []) is (0 ∷ 1 ∷ 1 ∷ 0 ∷ []))
-    ∷ ((yes (wellFormed 182 255) ∷ yes (wellFormed 183 255) ∷ []) is (1 ∷ 0 ∷ []))
-    ∷ ((inSlots 1 (other 0 ∷ []) ∷ inSlots 0 (other 0 ∷ []) ∷ []) is (14 ∷ 2 ∷ []))
+    (List.map (λ len. yes (wellFormed blockLayout 0 len)) (0 ∷ 1 ∷ 255 ∷ 256 ∷ []) is (0 ∷ 1 ∷ 1 ∷ 0 ∷ []))
+    ∷ ((yes (wellFormed blockLayout 182 255) ∷ yes (wellFormed blockLayout 183 255) ∷ []) is (1 ∷ 0 ∷ []))
+    ∷ ((three 1 (other 0 ∷ []) ∷ three 0 (other 0 ∷ []) ∷ []) is (14 ∷ 2 ∷ []))
     -- "slots rising, stopping at the first match": a malformed slot before it is met, one behind it isn't
-    ∷ ((inSlots 1 (a40 ∷ []) ∷ inSlots 0 (a40 ∷ []) ∷ []) is (40 ∷ 2 ∷ []))
-    ∷ ((inSlots 3 (a40 ∷ a41 ∷ []) ∷ inSlots 2 (a40 ∷ a41 ∷ []) ∷ []) is (40 ∷ 41 ∷ []))
-    ∷ ((inSlots 3 (other 0 ∷ a40 ∷ []) ∷ inSlots 3 (a40 ∷ other 0 ∷ []) ∷ []) is (14 ∷ 40 ∷ []))
+    ∷ ((three 1 (a40 ∷ []) ∷ three 0 (a40 ∷ []) ∷ []) is (40 ∷ 2 ∷ []))
+    ∷ ((three 3 (a40 ∷ a41 ∷ []) ∷ three 2 (a40 ∷ a41 ∷ []) ∷ []) is (40 ∷ 41 ∷ []))
+    ∷ ((three 3 (other 0 ∷ a40 ∷ []) ∷ three 3 (a40 ∷ other 0 ∷ []) ∷ []) is (14 ∷ 40 ∷ []))
     -- "then it matches by hash, length and bytes"
-    ∷ ((inSlots 1 (dentry 78 40 1 97 ∷ []) ∷ inSlots 1 (dentry 77 40 2 97 ∷ []) ∷ inSlots 1 (dentry 77 40 1 98 ∷ []) ∷ []) is (2 ∷ 2 ∷ 2 ∷ []))
+    ∷ ((three 1 (dentry 78 40 1 97 ∷ []) ∷ three 1 (dentry 77 40 2 97 ∷ []) ∷ three 1 (dentry 77 40 1 98 ∷ []) ∷ []) is (2 ∷ 2 ∷ 2 ∷ []))
     -- "or the search moves past its slots": an entry of 8 bytes has one, of 9 two
-    ∷ ((inSlots 3 (other 8 ∷ a40 ∷ []) ∷ inSlots 3 (other 9 ∷ a40 ∷ []) ∷ inSlots 7 (other 9 ∷ a40 ∷ a41 ∷ []) ∷ []) is (40 ∷ 2 ∷ 41 ∷ []))
+    ∷ ((three 3 (other 8 ∷ a40 ∷ []) ∷ three 3 (other 9 ∷ a40 ∷ []) ∷ three 7 (other 9 ∷ a40 ∷ a41 ∷ []) ∷ []) is (40 ∷ 2 ∷ 41 ∷ []))
     ∷ []
 
--- how many entries the scan of a block for "a" looks at, its turns, and how many those may be
+-- how many entries the scan of slots for "a" looks at, its turns, and how many those may be
+abbrev pub scannedIn : Layout → List ℕ → List ℕ
+scannedIn l block = let w = wanted 77 (97 ∷ []) in entriesIn l block w ∷ turnsIn l block w ∷ turnsMost l block w ∷ []
+
 abbrev scanned : List ℕ → List ℕ
-scanned block = let w = wanted 77 (97 ∷ []) in entriesIn block w ∷ turnsIn block w ∷ turnsMost block w ∷ []
+scanned block = scannedIn blockLayout block
 
 abbrev scanRules : List Line
 scanRules =
@@ -380,7 +384,7 @@ unfolding le16 le32 bytesOf placeOf insert run bind onward andThen inMain belong
 node-rules = refl
 
 pub inode-rules : Holds inodeRules
-unfolding le16 le32 le64 bytesOf inodeOf notInline isDirectory isRegular addressesIn isPast countIn
+unfolding le16 le32 le64 bytesOf inodeOf hasInlineData hasInlineDentry hasExtraAttr dataRoom isDirectory isRegular addressesIn isPast countIn
 inode-rules = refl
 
 pub directory-rules : Holds directoryRules
@@ -393,6 +397,6 @@ scan-rules = refl
 
 pub pull-rules : Holds pullRules
 unfolding le16 le32 le64 bytesOf placeOf insert run bind onward andThen inMain belongs atBlock atEntry nodeWalk isHole dataWalk followWalk
-    wayWalk blockWalk inodeOf notInline isDirectory isRegular addressesIn isPast countIn atFile fileWalk levelsWalk findWalk atRoot
+    wayWalk blockWalk inodeOf hasInlineData hasInlineDentry hasExtraAttr dataRoom isDirectory isRegular addressesIn isPast countIn atFile fileWalk levelsWalk findWalk atRoot
     rootWalk lentInShape firstOf bucketOf bucketWalk afterBlock lowBit slotAt slotsFrom hashOf sameAt
 pull-rules = refl

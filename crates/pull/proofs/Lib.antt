@@ -2,3 +2,4 @@ pub mod Cases
 pub mod Sizes
 pub mod Results
 pub mod Theorems
+pub mod Inline

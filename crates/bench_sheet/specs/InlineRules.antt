@@ -1,0 +1,109 @@
+-- K4's rules, by number: what the definitions compute on both sides of each boundary, and what the request's sentence says. 1 is yes,
+-- 0 no. What isn't written out of a block is zeros.
+use mathlib.Core.Path.{refl}
+use mathlib.Core.List.{List, [], _∷_, _++_}
+use mathlib.Core.List as List
+use Prim.Native.Nat.{ℕ, _-_}
+use lib.ListN.{length, take, drop, replicate}
+use Rattle.field.specs.Number.{le16, le32, le64}
+use Rattle.field.specs.Map.{lowBit, zerosFrom}
+use Rattle.field.specs.Bytes.{sameAt}
+use Rattle.list.specs.Lists.{bytesOf, insert}
+use Rattle.nat.specs.declared.TableAnswer.the-variants.{OutOfRange, Entry}
+use Rattle.walk.specs.Walk.{empty, run, bind, onward, andThen, Outcome, ok, stop}
+use Rattle.inode.specs.Inode.{inodeOf, hasInlineData, hasInlineDentry, hasExtraAttr, dataRoom, isDirectory, isRegular, isPast, countIn}
+use Rattle.node.specs.Node.{inMain, belongs, atBlock, atEntry, nodeWalk}
+use Rattle.dentry.specs.Slot.{inlineLayout, wanted, wellFormed, matches, slotAt, slotsFrom}
+use Rattle.dentry.specs.Scan.{tallyFrom}
+use Rattle.directory.specs.Find.{inlineWalk}
+use Rattle.pull.specs.Walk.{Block, contentWalk, atFile, fileWalk, searchWalk, atRoot, rootWalk}
+use Rattle.pull.specs.Pull.{contentAnswer, contentBytes}
+use Rattle.bench_sheet.specs.Line.{Line, _is_, Holds, yes}
+use Rattle.bench_sheet.specs.WalkRules.{main, lists, footed, inode, inodeBlock, sought, scannedIn}
+
+-- ---- which are read
+
+abbrev fileRead : ℕ → ℕ → ℕ
+fileRead inline size = yes (isRegular (inode 0x8000 inline size 0 0))
+
+abbrev directoryRead : ℕ → ℕ → ℕ
+directoryRead inline size = yes (isDirectory (inode 0x4000 inline size 0 0))
+
+-- ---- inline slots
+
+-- an inode's bytes with some at two offsets, the first at 347 or later
+abbrev with : ℕ → ℕ → List ℕ → ℕ → List ℕ → List ℕ
+with inline at bytes later more =
+    let front = inodeBlock 0x4000 inline 1 0 0 in
+    let first = front ++ replicate (at - length front) 0 ++ bytes in
+    first ++ replicate (later - length first) 0 ++ more
+
+-- slot 181, the last, in use: its bit stands in byte 386, its entry at 2,385, its name at 3,844
+abbrev lastSlot : ℕ → List ℕ
+lastSlot len =
+    with 4 386 (0x20 ∷ []) 2385 (bytesOf (77 ∷ 40 ∷ []) ++ (len ∷ 0 ∷ 1 ∷ []) ++ replicate 1448 0 ++ (97 ∷ []))
+
+-- the inode number that the search for "a" comes to there, or the answer
+abbrev soughtIn : List ℕ → ℕ
+soughtIn block = sought (inlineWalk block (wanted 77 (97 ∷ [])))
+
+-- ---- pulls
+
+-- an inline file of five bytes, 51 to 55, behind an address that isn't one: block `index`, with what is listed for it
+abbrev smallFile : List ℕ
+smallFile =
+    let front = inodeBlock 0x8000 2 5 0 0 in
+    footed (front ++ replicate (360 - length front) 0 ++ bytesOf (5000 ∷ []) ++ (51 ∷ 52 ∷ 53 ∷ 54 ∷ 55 ∷ 56 ∷ [])) 4 4 0
+
+abbrev file : ℕ → List ℕ
+file index = lists (λ (b : Block). contentAnswer (b .content)) (λ n. Entry n 4096) (λ b. smallFile) (fileWalk main index 4)
+
+-- the count of its block 0, and the first six bytes that a pull hands out
+abbrev handed : Outcome Block → List ℕ
+handed (ok b) = b .count ∷ take 6 (contentBytes (b .count) (b .content))
+handed (stop answer) = []
+
+abbrev bytes : List ℕ
+bytes = handed (run (record { table = λ n. OutOfRange; block = λ b. [] }) empty (atFile main 0 4 smallFile) .value)
+
+-- an inline root of a size and a depth, with no slot in use
+abbrev root : ℕ → ℕ → ℕ → List ℕ
+root inline size depth =
+    lists (λ ino. 0) (λ n. Entry n 4096) (λ b. footed (inodeBlock 0x4000 inline size depth 0) 3 3 0) (rootWalk main (46 ∷ []))
+
+abbrev inlineRules : List Line
+inlineRules =
+    -- "With 50 words kept for attributes that is 3,488 bytes, without them 3,688"; "A size above the room is 12."
+    (List.map (fileRead 3) (0 ∷ 3488 ∷ 3489 ∷ 3688 ∷ []) is (1 ∷ 1 ∷ 0 ∷ 0 ∷ []))
+    ∷ (List.map (fileRead 2) (0 ∷ 3489 ∷ 3688 ∷ 3689 ∷ []) is (1 ∷ 1 ∷ 1 ∷ 0 ∷ []))
+    ∷ (List.map (fileRead 2) (4294967296 ∷ []) ++ List.map (fileRead 0) (3689 ∷ 4294967296 ∷ []) is (0 ∷ 1 ∷ 1 ∷ []))
+    -- "an inline directory always keeps the 50, attribute bit or not"
+    ∷ (List.map (directoryRead 4) (0 ∷ 3488 ∷ 3489 ∷ 3688 ∷ []) is (1 ∷ 1 ∷ 0 ∷ 0 ∷ []))
+    ∷ (List.map (directoryRead 5) (0 ∷ 3488 ∷ 3489 ∷ 3688 ∷ []) is (1 ∷ 1 ∷ 0 ∷ 0 ∷ []))
+    ∷ (List.map (directoryRead 0) (3489 ∷ 4294967296 ∷ []) is (1 ∷ 1 ∷ []))
+    -- "both together, 2 on a directory, and 4 on a regular file stay 12", and 20 hex with either
+    ∷ (List.map (λ inline. fileRead inline 1) (2 ∷ 4 ∷ 6 ∷ 0x0A ∷ 0x22 ∷ []) is (1 ∷ 0 ∷ 0 ∷ 1 ∷ 0 ∷ []))
+    ∷ (List.map (λ inline. directoryRead inline 1) (2 ∷ 4 ∷ 6 ∷ 0x0C ∷ 0x24 ∷ []) is (0 ∷ 1 ∷ 0 ∷ 1 ∷ 0 ∷ []))
+    -- "182 entries": a name of 255 bytes has 32 slots
+    ∷ ((yes (wellFormed inlineLayout 150 255) ∷ yes (wellFormed inlineLayout 151 255) ∷ []) is (1 ∷ 0 ∷ []))
+    ∷ ((yes (wellFormed inlineLayout 181 8) ∷ yes (wellFormed inlineLayout 181 9) ∷ []) is (1 ∷ 0 ∷ []))
+    -- "a 23-byte map, 7 reserved": before it, behind bit 181 and in the reserved bytes no bit counts
+    ∷ (scannedIn inlineLayout (replicate 364 0xFF) is (0 ∷ 1 ∷ 1 ∷ []))
+    ∷ (scannedIn inlineLayout (replicate 386 0 ++ (0xC0 ∷ replicate 7 0xFF)) is (0 ∷ 1 ∷ 1 ∷ []))
+    -- "182 entries, 182 name slots": the last of them
+    ∷ ((soughtIn (lastSlot 1) ∷ soughtIn (lastSlot 9) ∷ soughtIn (drop 1 (lastSlot 1)) ∷ []) is (40 ∷ 14 ∷ 2 ∷ []))
+    -- "Both start one address word into the address area"; "no data block of its own"
+    ∷ (bytes is (5 ∷ 51 ∷ 52 ∷ 53 ∷ 54 ∷ 55 ∷ 0 ∷ []))
+    ∷ (file 0 is (0 ∷ 4 ∷ 4096 ∷ []))
+    ∷ (file 1 is (3 ∷ 4 ∷ 4096 ∷ []))
+    -- "scanned at any depth up to 63"; then "size 0: 2"; both are 2 here, with the inode's block alone
+    ∷ (root 4 1 0 is (2 ∷ 3 ∷ 4096 ∷ []))
+    ∷ (root 4 1 63 ++ root 4 1 64 is (2 ∷ 3 ∷ 4096 ∷ 12 ∷ 3 ∷ 4096 ∷ []))
+    ∷ (root 4 0 0 ++ root 4 3489 0 is (2 ∷ 3 ∷ 4096 ∷ 12 ∷ 3 ∷ 4096 ∷ []))
+    ∷ []
+
+pub inline-rules : Holds inlineRules
+unfolding le16 le32 le64 bytesOf lowBit zerosFrom sameAt insert run bind onward andThen inMain belongs atBlock atEntry nodeWalk
+    inodeOf hasInlineData hasInlineDentry hasExtraAttr dataRoom isDirectory isRegular isPast countIn
+    wellFormed matches slotAt slotsFrom tallyFrom inlineWalk contentWalk atFile fileWalk searchWalk atRoot rootWalk
+inline-rules = refl

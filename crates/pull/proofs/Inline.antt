@@ -1,0 +1,116 @@
+-- K4, of every pull: an inline file answers 0 with its size as byte count, or 3; its bytes are the inode's; and neither it nor an inline
+-- root asks anything beyond its own inode.
+use Prim.Native.Nat.{ℕ, _-_, _*_, _<_, _≤_}
+use native.Mathlib.Omega.{arith}
+use mathlib.Core.Path.{_≡_, refl, sym, ap, _∙_}
+use mathlib.Core.Bool.{Bool, true, false, _&&_, and-false}
+use mathlib.Core.Logic.{_⊎_, inl, inr}
+use mathlib.Core.List.{List, _++_}
+use lib.ListN.{take, drop, replicate}
+use lib.Dec.{eqb, leb, ltb}
+use borrow.Author.Tests.{eq-eqb, ne-eqb, eqb-true, eqb-false, lt-ltb, le-ltb, ltb-true, ltb-false, le-leb, lt-leb}
+use Rattle.field.specs.Card.{Card, cardOf}
+use Rattle.field.specs.Choice.{choose}
+use Rattle.field.proofs.Choosing.{clash}
+use Rattle.checkpoint.specs.declared.Volume.{Volume}
+use Rattle.checkpoint.specs.declared.Opening.the-variants.{Opened}
+use Rattle.checkpoint.specs.Volume.{openedImage}
+use Rattle.place.specs.Place.{lastIndex}
+use Rattle.walk.specs.Walk.{View, imageView, Seen, empty, Walk, done, Ran, ran, run, Outcome, ok, stop}
+use Rattle.walk.proofs.Runs.{run-then}
+use Rattle.inode.specs.Inode.{inodeOf, hasInlineData, hasInlineDentry, inlineStart, isDirectory, isRegular, addressesIn, isPast}
+use Rattle.inode.proofs.Inline.{room-most, inline-fits, inline-first}
+use Rattle.node.specs.Node.{Bounds, boundsOf, inodeWalk}
+use Rattle.node.specs.Block.{held}
+use Rattle.name_hash.specs.Hash.{hashOf}
+use Rattle.dentry.specs.Slot.{wanted, Sought, absent, found, malformed, inInode}
+use Rattle.directory.specs.Find.{afterSlots, inlineWalk}
+use Rattle.pull.specs.Walk.{Block, atFile, fileWalk, atRoot, rootWalk, pullWalk}
+use Rattle.pull.specs.Pull.{Lent, callInShape, written, pullRun, pulled}
+use Rattle.pull.proofs.Cases.{file-past, file-inline, root-empty, root-inline}
+use Rattle.pull.proofs.Results.{call-opens}
+
+-- all of an inline file
+abbrev pub inlineAll : List ℕ → Outcome Block
+inlineAll inode = ok (record { count = inodeOf inode .size; content = held (drop inlineStart inode) })
+
+-- that is its block 0, unless it is empty; any other index is past its end
+abbrev pub inlineFound : List ℕ → ℕ → Outcome Block
+inlineFound inode index = choose (eqb index 0 && ltb 0 (inodeOf inode .size)) (inlineAll inode) (stop 3)
+
+module _ (m : Bounds) (index ino : ℕ) (inode : List ℕ) (regular : isRegular (inodeOf inode) ≡ true) (own : hasInlineData (inodeOf inode) ≡ true) where
+  abbrev size : ℕ
+  size = inodeOf inode .size
+
+  inside : index ≡ 0 → 0 < size → isPast (inodeOf inode) index ≡ false
+  unfolding isPast
+  inside e h = rw (e, lt-leb size 0 h, le-ltb (lastIndex (addressesIn (inodeOf inode))) 0 (omega arith))
+
+  past : size ≤ index * 4096 → isPast (inodeOf inode) index ≡ true
+  unfolding isPast
+  past h = rw (le-leb size (index * 4096) h)
+
+  -- once its inode is read, nothing is looked up or read for it
+  pub inline-file : atFile m index ino inode ≡ done (inlineFound inode index)
+  inline-file = go (eqb index 0) refl (ltb 0 size) refl
+    where
+      few : size ≤ 3688
+      few = let most = room-most (inodeOf inode) in let fits = inline-fits (inodeOf inode) regular own in omega arith
+
+      go : (a : Bool) → eqb index 0 ≡ a → (b : Bool) → ltb 0 size ≡ b → atFile m index ino inode ≡ done (choose (a && b) (inlineAll inode) (stop 3))
+      go true e true f =
+          let begins = inside (eqb-true index 0 e) (ltb-true 0 size f) in
+          let count = inline-first (inodeOf inode) regular own index begins .1 in
+          file-inline m index ino inode refl size regular begins (sym count) own
+      go true e false f = let none = ltb-false 0 size f in file-past m index ino inode refl regular (past (omega arith))
+      go false e b f =
+          let later : index ≡ 0 → ⊥ = eqb-false index 0 e in
+          let most = few in
+          file-past m index ino inode refl regular (past (omega arith))
+
+-- an inline root neither: what was seen when its inode is read is what the search leaves
+pub inline-root : (v : View) (m : Bounds) (name inode : List ℕ) (s : Seen) → isDirectory (inodeOf inode) ≡ true → hasInlineDentry (inodeOf inode) ≡ true
+    → run v s (atRoot m name inode) .seen ≡ s
+unfolding run inlineWalk
+inline-root v m name inode s is own = go (eqb (inodeOf inode .size) 0) refl
+  where
+    asks-nothing : (o : Sought) → run v s (afterSlots (done (stop 2)) o) .seen ≡ s
+    asks-nothing absent = refl
+    asks-nothing (found ino) = refl
+    asks-nothing malformed = refl
+
+    go : (b : Bool) → eqb (inodeOf inode .size) 0 ≡ b → run v s (atRoot m name inode) .seen ≡ s
+    go true e = rw (root-empty m name inode refl is (eqb-true _ _ e))
+    go false e =
+        rw (root-inline m name inode refl (hashOf name) is (eqb-false _ _ e) refl own) (asks-nothing (inInode inode (wanted (hashOf name) name)))
+
+-- ---- every pull of an inline file: the root's walk came to its inode number, and its inode's to the inode
+module _ (image name : List ℕ) (index : ℕ) (lent : Lent) (shape : callInShape image name lent ≡ true) (v : Volume) (opens : openedImage image ≡ Opened v)
+    {ino : ℕ} {inode : List ℕ} {s t : Seen} (root : run (imageView image v) empty (rootWalk (boundsOf v) name) ≡ ran (ok ino) s)
+    (node : run (imageView image v) s (inodeWalk (boundsOf v) ino) ≡ ran (ok inode) t)
+    (regular : isRegular (inodeOf inode) ≡ true) (own : hasInlineData (inodeOf inode) ≡ true) where
+  -- "An inline inode is listed with its block and no data block of its own": the lists are as they were when it was read
+  pub inline-pulled : pulled image name index lent ≡ written (ran (inlineFound inode index) t) lent
+  unfolding pullRun pullWalk fileWalk run
+  inline-pulled =
+      call-opens image name index lent (Opened v) shape opens
+      ∙ ap (λ (r : Ran (Outcome Block)). written r lent)
+      (run-then (imageView image v) empty (rootWalk (boundsOf v) name) (fileWalk (boundsOf v) index) root
+      ∙ run-then (imageView image v) s (inodeWalk (boundsOf v) ino) (atFile (boundsOf v) index ino) node
+      ∙ ap (run (imageView image v) t) (inline-file (boundsOf v) index ino inode regular own))
+
+  -- the whole file is its block 0
+  pub inline-data : index ≡ 0 → 0 < inodeOf inode .size → let r = pulled image name index lent in let size = inodeOf inode .size in
+      (r .numbers .answer ≡ 0) × (r .numbers .«byte_count» ≡ size)
+      × (r .memory .block ≡ take size (drop inlineStart inode) ++ replicate (4096 - size) 0)
+  inline-data e h = rw (inline-pulled, eq-eqb index 0 e, lt-ltb 0 (inodeOf inode .size) h) (refl, refl, refl)
+
+  -- and there is no other
+  pub inline-past : (index ≡ 0 → inodeOf inode .size ≡ 0) → let r = pulled image name index lent in
+      (r .numbers .answer ≡ 3) × (r .numbers .«byte_count» ≡ 0) × (r .memory .block ≡ lent .block)
+  inline-past h = rw inline-pulled (go (eqb index 0) refl)
+    where
+      go : (a : Bool) → eqb index 0 ≡ a → let r = written (ran (choose (a && ltb 0 (inodeOf inode .size)) (inlineAll inode) (stop 3)) t) lent in
+          (r .numbers .answer ≡ 3) × (r .numbers .«byte_count» ≡ 0) × (r .memory .block ≡ lent .block)
+      go true e = rw (le-ltb 0 (inodeOf inode .size) (let z = h (eqb-true index 0 e) in omega arith)) (refl, refl, refl)
+      go false e = (refl, refl, refl)
