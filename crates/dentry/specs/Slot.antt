@@ -2,7 +2,7 @@
 use Prim.Native.Nat.{ℕ, zero, suc, _+_, _*_, _/_, _≤_}
 use mathlib.Core.Bool.{Bool, _&&_}
 use mathlib.Core.List.{List}
-use lib.ListN.{length}
+use lib.ListN.{length, drop}
 use lib.Dec.{ltb, leb, eqb}
 use Rattle.field.specs.Number.{le16, le32}
 use Rattle.field.specs.Map.{lowBit}
@@ -21,7 +21,9 @@ pub record Wanted : Type 0 where
 abbrev pub wanted : ℕ → List ℕ → Wanted
 wanted hash name = record { hash = hash; name = name }
 
--- ---- where slots are: a layout has the byte that it starts at, its number of slots, and where behind its start their names begin
+-- ---- where slots are
+
+-- A layout has the byte of the block that it starts at, its number of slots, and where behind that byte their names begin.
 
 -- "A block has 214 slots: map 27 bytes, 3 reserved, entries of 11 (hash, inode, 16-bit length, type) from 30, names of 8 bytes a slot
 -- from 2,384."
@@ -32,26 +34,22 @@ blockLayout = record { start = 0; slots = 214; names = 2384 }
 abbrev pub inlineLayout : Layout
 inlineLayout = record { start = inlineStart; slots = 182; names = 2032 }
 
--- a slot's bit in the map
-abbrev pub slotBit : Layout → List ℕ → ℕ → ℕ
-slotBit l block slot = lowBit block (8 * l .start + slot)
+abbrev pub layoutOf : Bool → Layout
+layoutOf inline = choose inline inlineLayout blockLayout
 
-abbrev pub entryAt : Layout → ℕ → ℕ
-entryAt l slot = l .start + 30 + 11 * slot
-
-abbrev pub nameAt : Layout → ℕ → ℕ
-nameAt l slot = l .start + l .names + 8 * slot
-
--- what the code asks of a layout: map, entries and names follow each other inside a block
-pub record LayoutIn (l : Layout) : Type 0 where
+-- what the code asks of a layout and of as many bytes: map, entries and names follow each other, and fit
+pub record LayoutIn (l : Layout) (bytes : ℕ) : Type 0 where
   pub map : l .slots ≤ 240
   pub entries : 30 + 11 * l .slots ≤ l .names
-  pub names : l .start + l .names + 8 * l .slots ≤ 4096
+  pub names : l .names + 8 * l .slots ≤ bytes
 
--- ---- what a slot holds
+-- ---- what a slot holds, by the bytes from the start on
 
-abbrev pub lengthIn : Layout → List ℕ → ℕ → ℕ
-lengthIn l block slot = le16 block (entryAt l slot + 8)
+abbrev pub entryAt : ℕ → ℕ
+entryAt slot = 30 + 11 * slot
+
+abbrev pub lengthIn : List ℕ → ℕ → ℕ
+lengthIn part slot = le16 part (entryAt slot + 8)
 
 -- "⌈length/8⌉ slots"
 abbrev pub slotsFor : ℕ → ℕ
@@ -63,16 +61,16 @@ wellFormed l slot len = leb 1 len && leb len 255 && leb (slot + slotsFor len) (l
 
 -- "it matches by hash, length and bytes"
 unfoldable pub matches : Layout → List ℕ → Wanted → ℕ → Bool
-matches l block w slot =
-    eqb (le32 block (entryAt l slot)) (w .hash) && eqb (lengthIn l block slot) (length (w .name))
-    && sameAt block (nameAt l slot) (w .name)
+matches l part w slot =
+    eqb (le32 part (entryAt slot)) (w .hash) && eqb (lengthIn part slot) (length (w .name))
+    && sameAt part (l .names + 8 * slot) (w .name)
 
 -- free, the name's inode number, another entry with its slots, or malformed
 unfoldable pub slotAt : Layout → List ℕ → Wanted → ℕ → Slot
-slotAt l block w slot =
-    choose (eqb (slotBit l block slot) 0) Free
-    (choose (wellFormed l slot (lengthIn l block slot))
-    (choose (matches l block w slot) (Match (le32 block (entryAt l slot + 4))) (Other (slotsFor (lengthIn l block slot))))
+slotAt l part w slot =
+    choose (eqb (lowBit part slot) 0) Free
+    (choose (wellFormed l slot (lengthIn part slot))
+    (choose (matches l part w slot) (Match (le32 part (entryAt slot + 4))) (Other (slotsFor (lengthIn part slot))))
     Malformed)
 
 -- ---- what all slots come to
@@ -92,12 +90,16 @@ afterSlot next slot Malformed = malformed
 -- "slots rising": from a slot on. Each step moves on by a slot at least, so as many steps as there are slots are enough for n, which
 -- is there only so that the recursion ends
 unfoldable pub slotsFrom : Layout → List ℕ → Wanted → ℕ → ℕ → Sought
-slotsFrom l block w zero slot = absent
-slotsFrom l block w (suc n) slot =
-    choose (ltb slot (l .slots)) (afterSlot (slotsFrom l block w n) slot (slotAt l block w slot)) absent
+slotsFrom l part w zero slot = absent
+slotsFrom l part w (suc n) slot =
+    choose (ltb slot (l .slots)) (afterSlot (slotsFrom l part w n) slot (slotAt l part w slot)) absent
 
+abbrev pub inPart : Layout → List ℕ → Wanted → Sought
+inPart l part w = slotsFrom l part w (l .slots) 0
+
+-- of a block, by a layout
 abbrev pub inSlots : Layout → List ℕ → Wanted → Sought
-inSlots l block w = slotsFrom l block w (l .slots) 0
+inSlots l block w = inPart l (drop (l .start) block) w
 
 -- of a directory block
 abbrev pub inBlock : List ℕ → Wanted → Sought

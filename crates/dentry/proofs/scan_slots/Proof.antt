@@ -9,10 +9,10 @@ use Rattle.dentry.proofs.scan_slots.Statement.{statement}
 use Rattle.dentry.proofs.scan_slots.Tie as tie
 
 abbrev Inv-slots : tie.InvT-slots
-Inv-slots block l hash name scan₀ scan = Scanning l block (wanted hash name) scan
+Inv-slots part l hash name scan₀ scan = Scanning l part (wanted hash name) scan
 
 abbrev μ-slots : tie.MeasureT-slots
-μ-slots block l hash name scan₀ scan = l .slots - scan .slot
+μ-slots part l hash name scan₀ scan = l .slots - scan .slot
 
 -- ---- the places on the way
 abbrev slots-of : tie.Then1 Inv-slots μ-slots → tie.At-slots Inv-slots μ-slots
@@ -27,8 +27,7 @@ slots-holds c = scanning-start _ _ _
 take-turn-requires : tie.Need-take-turn-requires Inv-slots μ-slots
 take-turn-requires c κs =
     let s = slots-of c in
-    let pre = start-of s .pre in
-    (pre .0, pre .1, omega (arith, c .if1 .taken), s .slots .inv)
+    (start-of s .pre, omega (arith, c .if1 .taken), s .slots .inv)
 
 enum-told : tie.Need-enum-told Inv-slots μ-slots
 enum-told c = search needs

@@ -3,7 +3,8 @@ use native.Mathlib.Omega.{arith}
 use mathlib.Core.Path.{_≡_, sym, _∙_}
 use borrow.Author.Needs.{needs}
 use borrow.Author.Tests.{not-true, not-false}
-use Rattle.dentry.specs.Slot.{slotBit, wellFormed}
+use Rattle.field.specs.Map.{lowBit}
+use Rattle.dentry.specs.Slot.{wellFormed}
 use Rattle.dentry.proofs.Slots.{slot-free, slot-malformed, Formed, other-hash, other-length, other-bytes, slot-match, formed}
 use Rattle.dentry.proofs.slot_at.Statement.{statement}
 use Rattle.dentry.proofs.slot_at.Tie as tie
@@ -13,7 +14,7 @@ abbrev start-of : tie.Else1 → tie.Start
 start-of k = k .before .before .before .before
 
 -- past the first test the slot is in use
-used : (k : tie.Else1) → let a = start-of k .args in slotBit (a .l) (a .block .now) (a .slot) ≡ 0 → ⊥
+used : (k : tie.Else1) → let a = start-of k .args in lowBit (a .part .now) (a .slot) ≡ 0 → ⊥
 used k z = k .if1 .left (k .before .slot-bit .ensures ∙ z)
 
 -- and past the second a well-formed entry starts in it
@@ -21,9 +22,9 @@ abbrev sized-of : tie.Else2 → tie.After-get16
 sized-of k = k .before .before
 
 abbrev used-of : tie.After-get16 → tie.Else1
-used-of k = k .before .before
+used-of k = k .before
 
-entry : (k : tie.Else2) → let a = start-of (used-of (sized-of k)) .args in Formed (a .l) (a .block .now) (a .slot) (sized-of k .get16 .result)
+entry : (k : tie.Else2) → let a = start-of (used-of (sized-of k)) .args in Formed (a .l) (a .part .now) (a .slot) (sized-of k .get16 .result)
 unfolding wellFormed
 entry k = record { used = used (used-of (sized-of k)); sized = sized-of k .get16 .ensures; fits = not-false _ (k .if2 .left) }
 
@@ -41,14 +42,11 @@ returns : tie.Need-returns
 returns c =
     sym (slot-free _ _ _ _ (sym (c .before .slot-bit .ensures) ∙ c .if1 .taken))
 
-add-entry : tie.Need-add-entry
-add-entry c = search needs
-
 mul-entry : tie.Need-mul-entry
 mul-entry c = search needs
 
-add-entry-2 : tie.Need-add-entry-2
-add-entry-2 c = search needs
+add-entry : tie.Need-add-entry
+add-entry c = search needs
 
 add-get16 : tie.Need-add-get16
 add-get16 c = search needs
@@ -82,14 +80,11 @@ returns-4 : tie.Need-returns-4
 returns-4 c =
     sym (other-length _ (entry (c .before .before .before)) (c .before .before .get32 .ensures) (c .before .if3 .left) (c .if4 .taken))
 
-add-at : tie.Need-add-at
-add-at c = search needs
-
 mul-at : tie.Need-mul-at
 mul-at c = search needs
 
-add-at-2 : tie.Need-add-at-2
-add-at-2 c = search needs
+add-at : tie.Need-add-at
+add-at c = search needs
 
 same-at-requires : tie.Need-same-at-requires
 same-at-requires c κs =
@@ -123,9 +118,8 @@ slot-at-spec =
     (tie.spec
     slot-bit-requires
     returns
-    add-entry
     mul-entry
-    add-entry-2
+    add-entry
     add-get16
     get16-requires
     cast-len
@@ -135,9 +129,8 @@ slot-at-spec =
     get32-requires
     returns-3
     returns-4
-    add-at
     mul-at
-    add-at-2
+    add-at
     same-at-requires
     add-get32
     get32-requires-2

@@ -3,8 +3,9 @@ use Prim.Native.Nat.{_+_, _-_, _≤_}
 use native.Mathlib.Omega.{arith}
 use mathlib.Core.Path.{sym, _∙_}
 use borrow.Author.Needs.{needs}
+use Rattle.field.specs.Map.{lowBit}
 use Rattle.field.proofs.Zeros.{zeros-le}
-use Rattle.dentry.specs.Slot.{wanted, slotBit}
+use Rattle.dentry.specs.Slot.{wanted}
 use Rattle.dentry.proofs.Slots.{other-bounds}
 use Rattle.dentry.proofs.Runs.{turns-most}
 use Rattle.dentry.proofs.Scans.{scanning-most, scanning-free, scanning-other, scanning-found, scanning-malformed}
@@ -27,8 +28,8 @@ passed-within k = other-bounds _ _ _ _ _ (sym (k .before .passed .given .1) ∙ 
 add-turns : tie.Need-add-turns
 add-turns c =
     let s = c .before .before .before in
-    let few = scanning-most (s .pre .3) .1 in
-    let slots = s .pre .1 .map in
+    let few = scanning-most (s .pre .2) .1 in
+    let slots = s .pre .0 .map in
     omega arith
 
 slot-at-requires : tie.Need-slot-at-requires
@@ -45,10 +46,10 @@ add-behind c =
     let s = start-of (c .before .before .before) in
     let l = s .args .l in
     let slot = s .args .scan .slot in
-    let below = s .pre .2 in
-    let slots = s .pre .1 .map in
+    let below = s .pre .1 in
+    let slots = s .pre .0 .map in
     let run = c .free-run .ensures in
-    let within = zeros-le (slotBit l (s .args .block .now)) (l .slots - slot) slot in
+    let within = zeros-le (lowBit (s .args .part .now)) (l .slots - slot) slot in
     omega arith
 
 enum-known-ino : tie.Need-enum-known-ino
@@ -59,7 +60,7 @@ enum-known-passed c = search needs
 
 add-behind-2 : tie.Need-add-behind-2
 add-behind-2 c =
-    let slots = start-of (looked-at c) .pre .1 .map in
+    let slots = start-of (looked-at c) .pre .0 .map in
     omega (arith, passed-within c)
 
 enum-told-2 : tie.Need-enum-told-2
@@ -69,30 +70,30 @@ returns : tie.Need-returns
 returns c =
     let k = c .before .before .before in
     let s = start-of k in
-    let turn = scanning-free (s .pre .3) (s .pre .2) (sym (c .before .enum-told .given .1) ∙ k .slot-at .ensures) (c .free-run .ensures) in
+    let turn = scanning-free (s .pre .2) (s .pre .1) (sym (c .before .enum-told .given .1) ∙ k .slot-at .ensures) (c .free-run .ensures) in
     (turn, (omega arith, scanning-most (turn .1) .0))
 
 returns-2 : tie.Need-returns-2
 returns-2 c =
     let k = c .before .before .before in
     let s = start-of k in
-    let turn = scanning-found (s .pre .3) (s .pre .2) (sym (c .before .ino .given .1) ∙ k .slot-at .ensures) in
-    let most = turns-most (s .args .l) (s .args .block .now) (wanted (s .args .hash) (s .args .name .now)) in
+    let turn = scanning-found (s .pre .2) (s .pre .1) (sym (c .before .ino .given .1) ∙ k .slot-at .ensures) in
+    let most = turns-most (s .args .l) (s .args .part .now) (wanted (s .args .hash) (s .args .name .now)) in
     (turn, (omega arith, omega (arith, turn .1)))
 
 returns-3 : tie.Need-returns-3
 returns-3 c =
     let k = looked-at c in
     let s = start-of k in
-    let turn = scanning-other (s .pre .3) (s .pre .2) (sym (c .before .passed .given .1) ∙ k .slot-at .ensures) in
+    let turn = scanning-other (s .pre .2) (s .pre .1) (sym (c .before .passed .given .1) ∙ k .slot-at .ensures) in
     (turn, (omega arith, scanning-most (turn .1) .0))
 
 returns-4 : tie.Need-returns-4
 returns-4 c =
     let k = c .before .before in
     let s = start-of k in
-    let turn = scanning-malformed (s .pre .3) (s .pre .2) (sym (c .enum-told2 .given .1) ∙ k .slot-at .ensures) in
-    let most = turns-most (s .args .l) (s .args .block .now) (wanted (s .args .hash) (s .args .name .now)) in
+    let turn = scanning-malformed (s .pre .2) (s .pre .1) (sym (c .enum-told2 .given .1) ∙ k .slot-at .ensures) in
+    let most = turns-most (s .args .l) (s .args .part .now) (wanted (s .args .hash) (s .args .name .now)) in
     (turn, (omega arith, omega (arith, turn .1)))
 
 pub take-turn-spec : {M : Type 1} → statement M
