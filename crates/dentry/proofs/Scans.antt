@@ -3,6 +3,7 @@ use Prim.Native.Nat.{ℕ, zero, suc, _+_, _-_, _*_, _≤_, _<_}
 use native.Mathlib.Omega.{arith}
 use mathlib.Core.Path.{_≡_, refl, sym, ap, subst, _∙_}
 use mathlib.Core.List.{List}
+use lib.ListN.{drop}
 use borrow.Author.Tests.{lt-ltb, le-ltb}
 use Rattle.field.specs.Map.{lowBit}
 use Rattle.dentry.specs.declared.Layout.{Layout}
@@ -10,7 +11,7 @@ use Rattle.dentry.specs.declared.Slot.{Slot}
 use Rattle.dentry.specs.declared.Slot.the-variants.{Free, Match, Other, Malformed}
 use Rattle.dentry.specs.declared.Scan.{Scan}
 use Rattle.dentry.specs.declared.Turn.{Turn}
-use Rattle.dentry.specs.Slot.{Wanted, slotAt, absent, found, malformed, afterSlot, slotsFrom, inPart}
+use Rattle.dentry.specs.Slot.{Wanted, slotAt, Sought, absent, found, malformed, afterSlot, slotsFrom, inPart, inSlots}
 use Rattle.dentry.specs.Scan.{freeRun, entriesFrom, runsFrom, turnsFrom, tallyAfter, endsRun, turnsIn, turnsMost, Scanning, Took}
 use Rattle.field.proofs.Zeros.{zeros-le}
 use Rattle.dentry.proofs.Slots.{bitOf, slot-bit, other-bounds}
@@ -19,6 +20,12 @@ use Rattle.dentry.proofs.Runs.{tally-over, run-free, slots-run, turns-r
 -- what a turn came to, by the variant that was told
 pub took-told : (l : Layout) (part : List ℕ) (w : Wanted) (scan next : Scan) {turn told : Turn} → Took l part w scan turn next → turn ≡ told → Took l part w scan told next
 took-told l part w scan next took e = subst (λ (turn : Turn). Took l part w scan turn next) e took
+
+-- what the slots of a block come to, by the layout and the part of it that were given
+pub by-part : {l m : Layout} {part : List ℕ} {o : Sought} (block : List ℕ) (w : Wanted) → l ≡ m → part ≡ drop (l .start) block → inPart l part w ≡ o
+    → inSlots m block w ≡ o
+by-part {l = l} block w e p f =
+    ap (λ (k : Layout). inSlots k block w) (sym e) ∙ ap (λ (q : List ℕ). inPart l q w) (sym p) ∙ f
 
 pub scanning-start : (l : Layout) (part : List ℕ) (w : Wanted) → Scanning l part w (record { slot = 0; turns = 0 })
 scanning-start l part w = record { left = l .slots; enough = omega arith; same = refl; counted = omega arith }

@@ -16,7 +16,7 @@ pub struct Layout {
 
 // The layout of an inline directory, or of a directory block.
 pub fn layout_of(inline: bool) -> Layout
-    ensures { λ r. ⌜ (r ≡ layoutOf inline) × LayoutIn r (4096 - r .start) × (r .start ≤ 4096) ⌝ }
+    ensures { λ r. ⌜ (r ≡ layoutOf inline) × (r .start ≤ 4096) × LayoutIn r (4096 - r .start) ⌝ }
 {
     if inline {
         return Layout {
@@ -34,8 +34,8 @@ pub fn layout_of(inline: bool) -> Layout
 
 // A block from the start of its slots on.
 pub fn part_of(block: &[u8], l: Layout) -> &[u8]
-    requires { ⌜ (length (now block) ≡ 4096) × (l .start ≤ 4096) ⌝ }
-    ensures { λ r. ⌜ now r ≡ drop (l .start) (now (block .entry)) ⌝ }
+    requires { ⌜ (length (now block) ≡ 4096) × (l .start ≤ 4096) × LayoutIn l (4096 - l .start) ⌝ }
+    ensures { λ r. ⌜ (now r ≡ drop (l .start) (now (block .entry))) × LayoutIn l (length (now r)) ⌝ }
 {
     let start = l.start;
     &block[start..]

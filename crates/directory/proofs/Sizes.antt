@@ -5,50 +5,48 @@ use native.Mathlib.Omega.{arith}
 use native.Mathlib.Nat.{add-zero}
 use mathlib.Core.Path.{_≡_, refl, sym, ap, subst}
 use mathlib.Core.Bool.{Bool, true, false}
-use mathlib.Core.List.{List}
 use lib.Dec.{leb}
 use borrow.Author.Tests.{leb-false}
 use Rattle.field.specs.Choice.{choose}
 use Rattle.place.specs.Place.{lastIndex}
 use Rattle.walk.specs.Walk.{Walk, Outcome, ends}
-use Rattle.walk.proofs.Sizes.{within-then, within-le}
-use Rattle.node.specs.Node.{Bounds}
-use Rattle.node.specs.Block.{Fetched, hole, held}
+use Rattle.walk.proofs.Sizes.{within-choose, within-then, within-le}
+use Rattle.node.specs.Block.{Fetched, hole, held, blockWalk}
 use Rattle.node.proofs.Sizes.{Small, block-within, block-past}
 use Rattle.hash_level.specs.Level.{blocksOf, bucketOf}
 use Rattle.hash_level.specs.Reach.{upTo, inReach}
 use Rattle.hash_level.proofs.Reach.{at-most-58}
-use Rattle.dentry.specs.Slot.{Wanted, Sought, absent, found, malformed, inBlock, inInode}
-use Rattle.directory.specs.Find.{Directory, fetchWalk, afterSlots, afterBlock, bucketWalk, levelsWalk, findWalk, inlineWalk}
-
--- the slots of a block, or of an inline directory, ask nothing
-slots-within : (m : Bounds) {ns bs : ℕ} {rest : Walk (Outcome ℕ)} → Small m ns bs rest → (o : Sought) → Small m ns bs (afterSlots rest o)
-slots-within m h absent = h
-slots-within m h (found ino) = ends tt
-slots-within m h malformed = ends refl
-
-pub inline-within : (m : Bounds) (inode : List ℕ) (w : Wanted) → Small m 0 0 (inlineWalk inode w)
-unfolding inlineWalk
-inline-within m inode w = slots-within m (ends refl) (inInode inode w)
+use Rattle.dentry.specs.Slot.{layoutOf, Wanted, Sought, absent, found, malformed, inSlots}
+use Rattle.directory.specs.Find.{Directory, directory, fetchFrom, fetchWalk, afterSlots, afterBlock, bucketWalk, levelsWalk, findWalk, searchWalk}
 
 module _ (d : Directory) where
   abbrev last : ℕ
   last = lastIndex (d .addresses)
 
   fetch-within : (index : ℕ) → let n : ℕ = choose (leb index last) 1 0 in Small (d .bounds) (3 * n) (4 * n) (fetchWalk d index)
-  fetch-within index = go (leb index last) refl
+  unfolding fetchFrom
+  fetch-within index = within-choose (d .inline) (ends tt) (go (leb index last) refl)
     where
-      go : (near : Bool) → leb index last ≡ near → let n : ℕ = choose near 1 0 in Small (d .bounds) (3 * n) (4 * n) (fetchWalk d index)
+      block : Walk (Outcome Fetched)
+      block = blockWalk (d .bounds) (d .ino) (d .inode) (d .addresses) index
+
+      go : (near : Bool) → leb index last ≡ near → let n : ℕ = choose near 1 0 in Small (d .bounds) (3 * n) (4 * n) block
       go true e = block-within (d .bounds) (d .ino) (d .inode) (d .addresses) index
       go false e =
           let past = block-past (d .bounds) (d .ino) (d .inode) (d .addresses) index (leb-false index last e) in
           subst (Small (d .bounds) 0 0) (sym past) (ends tt)
 
   module _ (w : Wanted) where
-    after-within : {ns bs : ℕ} {rest : Walk (Outcome ℕ)} → Small (d .bounds) ns bs rest → (x : Fetched) → Small (d .bounds) ns bs (afterBlock w rest x)
+    slots-within : {ns bs : ℕ} {rest : Walk (Outcome ℕ)} → Small (d .bounds) ns bs rest → (o : Sought) → Small (d .bounds) ns bs (afterSlots rest o)
+    slots-within h absent = h
+    slots-within h (found ino) = ends tt
+    slots-within h malformed = ends refl
+
+    after-within : {ns bs : ℕ} {rest : Walk (Outcome ℕ)} → Small (d .bounds) ns bs rest → (x : Fetched)
+        → Small (d .bounds) ns bs (afterBlock (d .inline) w rest x)
     unfolding afterBlock
     after-within h hole = h
-    after-within h (held block) = slots-within (d .bounds) h (inBlock block w)
+    after-within h (held block) = slots-within h (inSlots (layoutOf (d .inline)) block w)
 
     module _ (level : ℕ) where
       abbrev bucket : ℕ
@@ -77,3 +75,7 @@ module _ (d : Directory) where
     find-within few depth =
         let most = at-most-58 (d .dirLevel) (w .hash) depth few in
         within-le _ _ (omega arith) (omega arith) (levels-within depth 0)
+
+pub search-within : (d : Directory) (w : Wanted) → d .addresses ≤ 923 → (depth : ℕ) → Small (d .bounds) 174 232 (searchWalk d w depth)
+unfolding searchWalk
+search-within d w few depth = within-choose (d .inline) (find-within _ w few 1) (find-within d w few depth)

@@ -4,13 +4,14 @@
 use Prim.Native.Nat.{ℕ, suc, _+_, _-_, _≤_, _<_}
 use native.Mathlib.Omega.{arith}
 use mathlib.Core.Path.{_≡_, refl, sym, ap, subst}
+use mathlib.Core.Bool.{Bool}
 use mathlib.Core.List.{List}
 use Rattle.walk.specs.Walk.{View, Walk, done, Outcome, ok, stop, andThen, Lists, Walked, Fits}
 use Rattle.walk.proofs.Reached.{Reached, reached-start, reached-to, reached-on, reached-then, reached-stop, reached-done, reached-all}
 use Rattle.walk.proofs.Fits.{fits-at, fits-first}
 use Rattle.node.specs.Block.{Fetched, hole, held}
 use Rattle.hash_level.specs.Level.{blocksOf, bucketOf}
-use Rattle.dentry.specs.Slot.{Wanted, Sought, absent, found, malformed, inBlock}
+use Rattle.dentry.specs.Slot.{layoutOf, Wanted, Sought, absent, found, malformed, inSlots}
 use Rattle.directory.specs.Find.{Directory, fetchWalk, afterSlots, afterBlock, bucketWalk, levelsWalk, findWalk}
 
 -- the search from a level on, and from a block of a level's bucket on
@@ -42,7 +43,7 @@ module _ (d : Directory) (w : Wanted) (depth level : ℕ) where
       rw p
 
   bucket-step : (k : ℕ) → k < blocksOf level
-      → bucketLeft d w depth level k ≡ andThen (fetchWalk d (bucketOf (d .dirLevel) level (w .hash) + k)) (afterBlock w (bucketLeft d w depth level (k + 1)))
+      → bucketLeft d w depth level k ≡ andThen (fetchWalk d (bucketOf (d .dirLevel) level (w .hash) + k)) (afterBlock (d .inline) w (bucketLeft d w depth level (k + 1)))
   unfolding bucketWalk
   bucket-step k h =
       let p : blocksOf level - k ≡ suc (blocksOf level - (k + 1)) = omega arith in
@@ -54,12 +55,12 @@ module _ (d : Directory) (w : Wanted) (depth level : ℕ) where
       let p : blocksOf level - k ≡ 0 = omega arith in
       rw p
 
-module _ (w : Wanted) (rest : Walk (Outcome ℕ)) where
-  after-hole : afterBlock w rest hole ≡ rest
+module _ (inline : Bool) (w : Wanted) (rest : Walk (Outcome ℕ)) where
+  after-hole : afterBlock inline w rest hole ≡ rest
   unfolding afterBlock
   after-hole = refl
 
-  after-held : (block : List ℕ) (o : Sought) → inBlock block w ≡ o → afterBlock w rest (held block) ≡ afterSlots rest o
+  after-held : (block : List ℕ) (o : Sought) → inSlots (layoutOf inline) block w ≡ o → afterBlock inline w rest (held block) ≡ afterSlots rest o
   unfolding afterBlock
   after-held block o e = ap (afterSlots rest) e
 
@@ -105,24 +106,24 @@ module _ {v : View} {d : Directory} {w : Wanted} {depth level k : ℕ} {s t : Li
   fetched : Walked v (fetchWalk d (bucketOf (d .dirLevel) level (w .hash) + k)) t x u
   fetched = subst (λ (j : ℕ). Walked v (fetchWalk d j) t x u) e step
 
-  at-fetch : Reached v (bucketLeft d w depth level 0) s (andThen (fetchWalk d (bucketOf (d .dirLevel) level (w .hash) + k)) (afterBlock w rest)) t
+  at-fetch : Reached v (bucketLeft d w depth level 0) s (andThen (fetchWalk d (bucketOf (d .dirLevel) level (w .hash) + k)) (afterBlock (d .inline) w rest)) t
   at-fetch = reached-to (turn .at) (bucket-step d w depth level k more)
 
   pub bucket-stop : {answer : ℕ} → x ≡ stop answer → Walked v (bucketLeft d w depth level 0) s (stop answer) u
   bucket-stop q = reached-stop _ at-fetch fetched q
 
   pub bucket-hole : x ≡ ok hole → Bucket v d w depth level s (k + 1) u
-  bucket-hole q = record { at = reached-to (reached-then _ at-fetch fetched q) (after-hole w _) }
+  bucket-hole q = record { at = reached-to (reached-then _ at-fetch fetched q) (after-hole (d .inline) w _) }
 
   module _ {block : List ℕ} (q : x ≡ ok (held block)) where
-    at-slots : (o : Sought) → inBlock block w ≡ o → Reached v (bucketLeft d w depth level 0) s (afterSlots rest o) u
-    at-slots o f = reached-to (reached-then _ at-fetch fetched q) (after-held w _ block o f)
+    at-slots : (o : Sought) → inSlots (layoutOf (d .inline)) block w ≡ o → Reached v (bucketLeft d w depth level 0) s (afterSlots rest o) u
+    at-slots o f = reached-to (reached-then _ at-fetch fetched q) (after-held (d .inline) w _ block o f)
 
-    pub bucket-absent : inBlock block w ≡ absent → Bucket v d w depth level s (k + 1) u
+    pub bucket-absent : inSlots (layoutOf (d .inline)) block w ≡ absent → Bucket v d w depth level s (k + 1) u
     bucket-absent f = record { at = at-slots absent f }
 
-    pub bucket-found : {ino : ℕ} → inBlock block w ≡ found ino → Walked v (bucketLeft d w depth level 0) s (ok ino) u
+    pub bucket-found : {ino : ℕ} → inSlots (layoutOf (d .inline)) block w ≡ found ino → Walked v (bucketLeft d w depth level 0) s (ok ino) u
     bucket-found f = reached-done (at-slots _ f)
 
-    pub bucket-malformed : inBlock block w ≡ malformed → Walked v (bucketLeft d w depth level 0) s (stop 14) u
+    pub bucket-malformed : inSlots (layoutOf (d .inline)) block w ≡ malformed → Walked v (bucketLeft d w depth level 0) s (stop 14) u
     bucket-malformed f = reached-done (at-slots _ f)

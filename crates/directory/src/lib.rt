@@ -1,17 +1,14 @@
-// A name sought in a directory: the nested search over hash levels, blocks and slots; in an inline directory, the scan of its slots.
+// A name sought in a directory: the nested search over hash levels, blocks and slots.
 // What it means is in specs/: Find.
-ghost use mathlib.Core.Path.{_≡_};
 ghost use Prim.Native.Nat.{_<_, _≤_};
-ghost use lib.ListN.{length};
 ghost use Rattle.field.specs.Card.{cardOf};
 ghost use Rattle.checkpoint.specs.Volume.{VolumeIn};
-ghost use Rattle.walk.specs.Walk.{imageView, lists, done, Walked, Fits};
+ghost use Rattle.walk.specs.Walk.{imageView, lists, Walked, Fits};
 ghost use Rattle.node.specs.Node.{boundsOf};
-ghost use Rattle.node.specs.Block.{blockWalk};
 ghost use Rattle.node.specs.Found.{dataOf, DataIn, FileIn};
 ghost use Rattle.hash_level.specs.Table.{IsTable};
 ghost use Rattle.dentry.specs.Slot.{wanted};
-ghost use Rattle.directory.specs.Find.{directoryOf, findWalk, inlineWalk, entryOf};
+ghost use Rattle.directory.specs.Find.{fetchFrom, directoryOf, findWalk, searchWalk, entryOf};
 
 // The inode number in the name's entry, or the answer that ends the walk.
 pub enum Entry {
@@ -25,7 +22,7 @@ pub struct EntryStep {
     pub counts: walk::Counts,
 }
 
-// The block of an index of a directory. Past the last index there is none.
+// The block of an index of a directory. Past the last index there is none; an inline directory has its inode's own.
 fn fetch(
     image: &[u8],
     v: checkpoint::Volume,
@@ -33,19 +30,28 @@ fn fetch(
     blocks: &mut [u8],
     counts: walk::Counts,
     file: node::File,
+    inline: bool,
     index: usize,
 ) -> node::DataStep
     requires { ⌜ Fits (imageView (now image) v)
-        (blockWalk (boundsOf v) (file .ino) (cardOf (now image) .block (file .inode)) (file .addresses) index)
+        (fetchFrom inline (boundsOf v) (file .ino) (cardOf (now image) .block (file .inode)) (file .addresses) index)
         (lists (now nodes) (now blocks) counts) ⌝ }
     requires { ⌜ VolumeIn (cardOf (now image)) v ⌝ }
     requires { ⌜ FileIn (cardOf (now image)) file ⌝ }
     ensures { λ r. ⌜ Walked (imageView (now (image .entry)) v)
-        (blockWalk (boundsOf v) (file .ino) (cardOf (now (image .entry)) .block (file .inode)) (file .addresses) index)
+        (fetchFrom inline (boundsOf v) (file .ino) (cardOf (now (image .entry)) .block (file .inode)) (file .addresses) index)
         (lists (now (nodes .entry)) (now (blocks .entry)) counts) (dataOf (cardOf (now (image .entry))) (r .data))
         (lists (now (nodes .exit)) (now (blocks .exit)) (r .counts)) ⌝ }
     ensures { λ r. ⌜ DataIn (cardOf (now (image .entry))) (r .data) ⌝ }
 {
+    if inline {
+        let data = if index == 0 {
+            node::Data::At(file.inode)
+        } else {
+            node::Data::Hole
+        };
+        return node::DataStep { data, counts };
+    }
     let last = file.addresses as usize + 1057052515;
     if last < index {
         return node::DataStep {
@@ -65,22 +71,23 @@ fn find_by(
     blocks: &mut [u8],
     counts: walk::Counts,
     file: node::File,
+    inline: bool,
     dir_level: usize,
     firsts: &[u64; 63],
     depth: usize,
     hash: u32,
     name: &[u8],
 ) -> EntryStep
-    requires { ⌜ Fits (imageView (now image) v) (findWalk (directoryOf (cardOf (now image)) v file «dir_level») (wanted hash (now name)) depth)
+    requires { ⌜ Fits (imageView (now image) v) (findWalk (directoryOf (cardOf (now image)) v file inline «dir_level») (wanted hash (now name)) depth)
         (lists (now nodes) (now blocks) counts) ⌝ }
     requires { ⌜ VolumeIn (cardOf (now image)) v ⌝ }
     requires { ⌜ FileIn (cardOf (now image)) file × (depth ≤ 63) × («dir_level» < 31) × IsTable «dir_level» (now firsts) ⌝ }
     ensures { λ r. ⌜ Walked (imageView (now (image .entry)) v)
-        (findWalk (directoryOf (cardOf (now (image .entry))) v file «dir_level») (wanted hash (now (name .entry))) depth)
+        (findWalk (directoryOf (cardOf (now (image .entry))) v file inline «dir_level») (wanted hash (now (name .entry))) depth)
         (lists (now (nodes .entry)) (now (blocks .entry)) counts) (entryOf (r .entry))
         (lists (now (nodes .exit)) (now (blocks .exit)) (r .counts)) ⌝ }
 {
-    let layout = dentry::block_layout();
+    let layout = dentry::layout_of(inline);
     let mut listed = counts;
     let mut level: usize = 0;
     let entry = 'levels: loop {
@@ -92,7 +99,7 @@ fn find_by(
         let bucket = here.bucket;
         let mut k: usize = 0;
         'bucket: while k < count {
-            let step = fetch(image, v, nodes, blocks, listed, file, bucket + k);
+            let step = fetch(image, v, nodes, blocks, listed, file, inline, bucket + k);
             k += 1;
             listed = step.counts;
             let data = step.data;
@@ -101,10 +108,10 @@ fn find_by(
                 node::Data::Stop(number) => break 'levels Entry::Stop(number),
                 node::Data::At(address) => address,
             };
-            let block = field::block_at(image, at);
+            let part = dentry::part_of(field::block_at(image, at), layout);
             let mut scan = dentry::Scan { slot: 0, turns: 0 };
             'slots: while scan.slot < layout.slots {
-                let step = dentry::take_turn(block, layout, scan, hash, name);
+                let step = dentry::take_turn(part, layout, scan, hash, name);
                 scan = step.scan;
                 let turn = step.turn;
                 match turn {
@@ -122,7 +129,8 @@ fn find_by(
     }
 }
 
-// The same, by the directory's level. Its table is taken once, before the search, which stands once for whichever table it is.
+// The same, by what the directory is: an inline one is of a single level, without a directory level. The table is taken once, before
+// the search, which stands once for whichever table it is.
 pub fn find(
     image: &[u8],
     v: checkpoint::Volume,
@@ -130,21 +138,39 @@ pub fn find(
     blocks: &mut [u8],
     counts: walk::Counts,
     file: node::File,
+    inline: bool,
     dir_level: usize,
     depth: usize,
     hash: u32,
     name: &[u8],
 ) -> EntryStep
     requires { ⌜ Fits (imageView (now image) v)
-        (findWalk (directoryOf (cardOf (now image)) v file «dir_level») (wanted hash (now name)) depth)
+        (searchWalk (directoryOf (cardOf (now image)) v file inline «dir_level») (wanted hash (now name)) depth)
         (lists (now nodes) (now blocks) counts) ⌝ }
     requires { ⌜ VolumeIn (cardOf (now image)) v ⌝ }
     requires { ⌜ FileIn (cardOf (now image)) file × (depth ≤ 63) × («dir_level» < 31) ⌝ }
     ensures { λ r. ⌜ Walked (imageView (now (image .entry)) v)
-        (findWalk (directoryOf (cardOf (now (image .entry))) v file «dir_level») (wanted hash (now (name .entry))) depth)
+        (searchWalk (directoryOf (cardOf (now (image .entry))) v file inline «dir_level») (wanted hash (now (name .entry))) depth)
         (lists (now (nodes .entry)) (now (blocks .entry)) counts) (entryOf (r .entry))
         (lists (now (nodes .exit)) (now (blocks .exit)) (r .counts)) ⌝ }
 {
+    if inline {
+        let firsts = hash_level::level_0_blocks();
+        return find_by(
+            image,
+            v,
+            nodes,
+            blocks,
+            counts,
+            file,
+            inline,
+            0,
+            &firsts,
+            1,
+            hash,
+            name,
+        );
+    }
     if dir_level == 0 {
         let firsts = hash_level::level_0_blocks();
         return find_by(
@@ -154,6 +180,7 @@ pub fn find(
             blocks,
             counts,
             file,
+            inline,
             dir_level,
             &firsts,
             depth,
@@ -169,25 +196,11 @@ pub fn find(
         blocks,
         counts,
         file,
+        inline,
         dir_level,
         &firsts,
         depth,
         hash,
         name,
     )
-}
-
-// The name sought in an inline directory, by the bytes of its inode.
-pub fn find_inline(block: &[u8], hash: u32, name: &[u8]) -> Entry
-    requires { ⌜ length (now block) ≡ 4096 ⌝ }
-    ensures { λ r. ⌜ inlineWalk (now (block .entry)) (wanted hash (now (name .entry))) ≡ done (entryOf r) ⌝ }
-{
-    let layout = dentry::inline_layout();
-    let step = dentry::scan_slots(block, layout, hash, name);
-    let turn = step.turn;
-    match turn {
-        dentry::Turn::On => Entry::Stop(answer::NO_NAME),
-        dentry::Turn::Found(ino) => Entry::Found(ino),
-        dentry::Turn::Malformed => Entry::Stop(answer::MALFORMED_SLOT),
-    }
 }

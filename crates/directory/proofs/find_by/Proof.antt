@@ -14,39 +14,39 @@ use Rattle.node.specs.Found.{dataOf, DataIn}
 use Rattle.hash_level.specs.declared.Level.{Level}
 use Rattle.hash_level.specs.Level.{blocksOf, bucketOf}
 use Rattle.hash_level.proofs.Levels.{blocks-few, bucket-small}
-use Rattle.dentry.specs.Slot.{wanted}
+use Rattle.dentry.specs.Slot.{layoutOf, wanted, Sought, inPart, inSlots}
 use Rattle.directory.specs.Find.{directoryOf}
 use Rattle.dentry.specs.Scan.{Scanning}
-use Rattle.dentry.proofs.Scans.{took-told, by-layout, scanning-start, scanning-end}
+use Rattle.dentry.proofs.Scans.{took-told, by-part, scanning-start, scanning-end}
 use Rattle.directory.proofs.Turns.{Levels, levels-start, levels-next, levels-out, levels-end, block-fits}
 use Rattle.directory.proofs.Turns.{Bucket, bucket-start, bucket-stop, bucket-hole, bucket-absent, bucket-found, bucket-malformed}
 use Rattle.directory.proofs.find_by.Statement.{statement}
 use Rattle.directory.proofs.find_by.Tie as tie
 
 abbrev Inv-slots : tie.InvT-slots
-Inv-slots image v nodes blocks file dir firsts depth hash name layout listed level count bucket k at block scan₀ scan =
-    Scanning layout block (wanted hash name) scan
+Inv-slots image v nodes blocks file inline dir firsts depth hash name layout listed level count bucket k at part scan₀ scan =
+    Scanning layout part (wanted hash name) scan
 
 abbrev μ-slots : tie.MeasureT-slots
-μ-slots image v nodes blocks file dir firsts depth hash name layout listed level count bucket k at block scan₀ scan =
+μ-slots image v nodes blocks file inline dir firsts depth hash name layout listed level count bucket k at part scan₀ scan =
     layout .slots - scan .slot
 
 abbrev Inv-bucket : tie.InvT-bucket
-Inv-bucket image v nodes₀ blocks₀ file dir firsts depth hash name layout listed₀ level count bucket k₀ nodes blocks listed k =
-    Bucket (imageView image v) (directoryOf (cardOf image) v file dir) (wanted hash name) depth level
+Inv-bucket image v nodes₀ blocks₀ file inline dir firsts depth hash name layout listed₀ level count bucket k₀ nodes blocks listed k =
+    Bucket (imageView image v) (directoryOf (cardOf image) v file inline dir) (wanted hash name) depth level
     (lists nodes₀ blocks₀ listed₀) k (lists nodes blocks listed)
 
 abbrev μ-bucket : tie.MeasureT-bucket
-μ-bucket image v nodes₀ blocks₀ file dir firsts depth hash name layout listed₀ level count bucket k₀ nodes blocks listed k =
+μ-bucket image v nodes₀ blocks₀ file inline dir firsts depth hash name layout listed₀ level count bucket k₀ nodes blocks listed k =
     count - k
 
 abbrev Inv-levels : tie.InvT-levels
-Inv-levels image v nodes₀ blocks₀ file dir firsts depth hash name layout listed₀ level₀ nodes blocks listed level =
-    Levels (imageView image v) (directoryOf (cardOf image) v file dir) (wanted hash name) depth
+Inv-levels image v nodes₀ blocks₀ file inline dir firsts depth hash name layout listed₀ level₀ nodes blocks listed level =
+    Levels (imageView image v) (directoryOf (cardOf image) v file inline dir) (wanted hash name) depth
     (lists nodes₀ blocks₀ listed₀) level (lists nodes blocks listed)
 
 abbrev μ-levels : tie.MeasureT-levels
-μ-levels image v nodes₀ blocks₀ file dir firsts depth hash name layout listed₀ level₀ nodes blocks listed level =
+μ-levels image v nodes₀ blocks₀ file inline dir firsts depth hash name layout listed₀ level₀ nodes blocks listed level =
     depth - level
 
 -- ---- the places on the way
@@ -85,9 +85,13 @@ abbrev listed-of :
     tie.After-block-at Inv-slots μ-slots Inv-bucket μ-bucket Inv-levels μ-levels → tie.After-listed Inv-slots μ-slots Inv-bucket μ-bucket Inv-levels μ-levels
 listed-of k = k .before .before .before .before
 
+abbrev part-of :
+    tie.At-slots Inv-slots μ-slots Inv-bucket μ-bucket Inv-levels μ-levels → tie.After-part-of Inv-slots μ-slots Inv-bucket μ-bucket Inv-levels μ-levels
+part-of s = s .before
+
 abbrev block-of :
     tie.At-slots Inv-slots μ-slots Inv-bucket μ-bucket Inv-levels μ-levels → tie.After-block-at Inv-slots μ-slots Inv-bucket μ-bucket Inv-levels μ-levels
-block-of s = s .before
+block-of s = part-of s .before
 
 abbrev slots-of : tie.Then2 Inv-slots μ-slots Inv-bucket μ-bucket Inv-levels μ-levels → tie.At-slots Inv-slots μ-slots Inv-bucket μ-bucket Inv-levels μ-levels
 slots-of t = t .before .before .before
@@ -111,21 +115,28 @@ in-card k =
     let l = k .before .before in
     subst (DataIn (card-of (turn-of l))) (k .data2 .given .1) (fetch-of l .fetch .ensures .1)
 
--- the layout is a block's
-abbrev layout-of :
-    tie.At-slots Inv-slots μ-slots Inv-bucket μ-bucket Inv-levels μ-levels → tie.After-block-layout Inv-slots μ-slots Inv-bucket μ-bucket Inv-levels μ-levels
-layout-of s = levels-of (turn-of (listed-of (block-of s))) .before
-
 -- and is the one whose slots are searched
 held-of : (k : tie.After-block-at Inv-slots μ-slots Inv-bucket μ-bucket Inv-levels μ-levels) → let l = listed-of k in
     dataOf (card-of (turn-of l)) (fetch-of l .fetch .result .data) ≡ ok (held (k .block-at .result .now))
 held-of k =
     ap (dataOf (card-of (turn-of (listed-of k)))) (k .before .before .data2 .given .1) ∙ ap (λ (l : List ℕ). ok (held l)) (sym (k .block-at .ensures))
 
+-- what all its slots come to, by the directory's layout
+abbrev layout-of :
+    tie.In-bucket Inv-slots μ-slots Inv-bucket μ-bucket Inv-levels μ-levels → tie.After-layout-of Inv-slots μ-slots Inv-bucket μ-bucket Inv-levels μ-levels
+layout-of b = levels-of b .before
+
+came : (s : tie.At-slots Inv-slots μ-slots Inv-bucket μ-bucket Inv-levels μ-levels) {o : Sought} → let k = block-of s in
+    let a = start-of (turn-of (listed-of k)) .args in
+    let w = wanted (a .hash) (a .name .now) in
+    inPart (layout-of (turn-of (listed-of k)) .layout-of .result) (part-of s .part-of .result .now) w ≡ o
+    → inSlots (layoutOf (a .inline)) (k .block-at .result .now) w ≡ o
+came s f = by-part _ _ (layout-of (turn-of (listed-of (block-of s))) .layout-of .ensures .0) (part-of s .part-of .ensures .0) f
+
 -- ---- the needs
 
-block-layout-requires : tie.Need-block-layout-requires Inv-slots μ-slots Inv-bucket μ-bucket Inv-levels μ-levels
-block-layout-requires c κs = search needs
+layout-of-requires : tie.Need-layout-of-requires Inv-slots μ-slots Inv-bucket μ-bucket Inv-levels μ-levels
+layout-of-requires c κs = search needs
 
 levels-holds : tie.Need-levels-holds Inv-slots μ-slots Inv-bucket μ-bucket Inv-levels μ-levels
 levels-holds c =
@@ -183,6 +194,12 @@ block-at-requires : tie.Need-block-at-requires Inv-slots μ-slots Inv-bucket μ-
 block-at-requires c κs =
     in-card (c .before)
 
+part-of-requires : tie.Need-part-of-requires Inv-slots μ-slots Inv-bucket μ-bucket Inv-levels μ-levels
+part-of-requires c κs =
+    let k = c .before .before in
+    let known = layout-of (turn-of (listed-of c)) .layout-of .ensures in
+    (length-of-block _ _ (in-card k) (c .block-at .ensures), known .1, known .2)
+
 slots-holds : tie.Need-slots-holds Inv-slots μ-slots Inv-bucket μ-bucket Inv-levels μ-levels
 slots-holds c =
     scanning-start _ _ _
@@ -196,15 +213,13 @@ bucket-again-2 c =
     let k = block-of s in
     let l = listed-of k in
     let b = turn-of l in
-    let none = by-layout (layout-of s .block-layout .ensures .0) _ _ (scanning-end (s .slots .inv) (c .if2 .left) .0) in
+    let none = came s (scanning-end (s .slots .inv) (c .if2 .left) .0) in
     bucket-absent (b .before .bucket .inv) (more b) (index b) (fetch-of l .fetch .ensures .0) (held-of k) none
 
 take-turn-requires : tie.Need-take-turn-requires Inv-slots μ-slots Inv-bucket μ-bucket Inv-levels μ-levels
 take-turn-requires c κs =
     let s = slots-of c in
-    let k = block-of s in
-    let whole = length-of-block _ _ (in-card (k .before .before)) (k .block-at .ensures) in
-    (whole, layout-of s .block-layout .ensures .1, omega (arith, c .if2 .taken), s .slots .inv)
+    (part-of s .part-of .ensures .1, omega (arith, c .if2 .taken), s .slots .inv)
 
 enum-told-2 : tie.Need-enum-told-2 Inv-slots μ-slots Inv-bucket μ-bucket Inv-levels μ-levels
 enum-told-2 c = search needs
@@ -269,7 +284,7 @@ returns-3 c =
     let l = listed-of k in
     let b = turn-of l in
     let turn = took-told _ _ _ _ _ (t .take-turn .ensures .0) (c .before .turn .given .1) in
-    let told = by-layout (layout-of s .block-layout .ensures .0) _ _ (turn .0) in
+    let told = came s (turn .0) in
     levels-out (levels-of b .levels .inv) (within-of b .if1 .left)
     (bucket-found (b .before .bucket .inv) (more b) (index b) (fetch-of l .fetch .ensures .0) (held-of k) told)
 
@@ -281,7 +296,7 @@ returns-4 c =
     let l = listed-of k in
     let b = turn-of l in
     let turn = took-told _ _ _ _ _ (t .take-turn .ensures .0) (c .enum-told3 .given .1) in
-    let told = by-layout (layout-of s .block-layout .ensures .0) _ _ (turn .0) in
+    let told = came s (turn .0) in
     levels-out (levels-of b .levels .inv) (within-of b .if1 .left)
     (bucket-malformed (b .before .bucket .inv) (more b) (index b) (fetch-of l .fetch .ensures .0) (held-of k) told)
 
@@ -311,7 +326,7 @@ find-by-spec =
     μ-bucket
     Inv-levels
     μ-levels
-    block-layout-requires
+    layout-of-requires
     levels-holds
     level-at-requires
     bucket-holds
@@ -324,6 +339,7 @@ find-by-spec =
     enum-known-data
     enum-known-data-2
     block-at-requires
+    part-of-requires
     slots-holds
     bucket-less-2
     bucket-again-2
