@@ -10,7 +10,7 @@ use Rattle.node.specs.Node.{Bounds}
 use Rattle.node.specs.Block.{hole, held, blockWalk}
 use Rattle.hash_level.specs.Level.{firstOf, bucketOf}
 use Rattle.dentry.specs.Slot.{Wanted, inInode}
-use Rattle.directory.specs.Find.{Directory, fetchFrom, afterSlots, afterBlock, bucketWalk, levelsWalk, findWalk, searchWalk}
+use Rattle.directory.specs.Find.{Directory, directory, fetchFrom, afterSlots, afterBlock, bucketWalk, levelsWalk, findWalk, searchWalk}
 
 -- ---- its blocks
 module _ {inline : Bool} (m : Bounds) (ino : ℕ) (inode : List ℕ) (A index : ℕ) where
@@ -27,6 +27,15 @@ module _ {inline : Bool} (m : Bounds) (ino : ℕ) (inode : List ℕ) (A index : 
   not-inline e = rw e
 
 -- ---- its search
+
+module _ (d : Directory) (w : Wanted) (depth : ℕ) where
+  pub one-level : d .inline ≡ true → searchWalk d w depth ≡ findWalk (directory (d .bounds) (d .ino) (d .inode) (d .addresses) (d .inline) 0) w 1
+  unfolding searchWalk
+  one-level e = rw e
+
+  pub by-levels : d .inline ≡ false → searchWalk d w depth ≡ findWalk d w depth
+  unfolding searchWalk
+  by-levels e = rw e
 
 -- whatever its depth and its directory level: its slots are scanned, and nothing is looked up or read
 pub inline-search : (d : Directory) (w : Wanted) (depth : ℕ) → d .inline ≡ true → searchWalk d w depth ≡ afterSlots (done (stop 2)) (inInode (d .inode) w)

@@ -1,6 +1,6 @@
 -- The search of a name in a directory: levels, in each its bucket's blocks, in each its slots; in an inline directory, the slots of its inode.
 use Prim.Native.Nat.{ℕ, zero, suc, _+_}
-use mathlib.Core.Bool.{Bool, true}
+use mathlib.Core.Bool.{Bool}
 use mathlib.Core.List.{List}
 use lib.Dec.{eqb}
 use Rattle.field.specs.Choice.{choose}
@@ -71,7 +71,7 @@ findWalk d w depth = levelsWalk d w depth 0
 -- K4: in an inline directory its slots are "scanned at any depth up to 63": it is searched as one of a single level
 unfoldable pub searchWalk : Directory → Wanted → ℕ → Walk (Outcome ℕ)
 searchWalk d w depth =
-    choose (d .inline) (findWalk (directory (d .bounds) (d .ino) (d .inode) (d .addresses) true 0) w 1) (findWalk d w depth)
+    choose (d .inline) (findWalk (directory (d .bounds) (d .ino) (d .inode) (d .addresses) (d .inline) 0) w 1) (findWalk d w depth)
 
 -- the code's answer as the walk's
 abbrev pub entryOf : Entry → Outcome ℕ

@@ -1,7 +1,7 @@
 -- The trees of a file and of the root by cases: no run and no list is named. Then what the code found as what the walk comes to.
 use Prim.Native.Nat.{ℕ, _≤_}
 use mathlib.Core.Path.{_≡_, refl}
-use mathlib.Core.Bool.{true, false}
+use mathlib.Core.Bool.{Bool, true, false}
 use mathlib.Core.List.{List}
 use lib.ListN.{drop}
 use borrow.Author.Tests.{eq-eqb, ne-eqb}
@@ -19,8 +19,8 @@ use Rattle.node.specs.declared.Data.{Data}
 use Rattle.node.specs.declared.Data.the-variants as d
 use Rattle.name_hash.specs.Hash.{hashOf}
 use Rattle.dentry.specs.Slot.{wanted}
-use Rattle.directory.specs.Find.{directory, findWalk, inlineWalk}
-use Rattle.pull.specs.Walk.{rootIno, counted, contentWalk, atFile, searchWalk, atRoot, blockFound}
+use Rattle.directory.specs.Find.{directory, searchWalk}
+use Rattle.pull.specs.Walk.{rootIno, counted, contentWalk, atFile, atRoot, blockFound}
 
 -- ---- a file, once its inode is read
 module _ (m : Bounds) (index ino : ℕ) (inode : List ℕ) {i : Inode} (read : i ≡ inodeOf inode) where
@@ -67,15 +67,11 @@ module _ (m : Bounds) (name inode : List ℕ) {i : Inode} (read : i ≡ inodeOf 
   unfolding atRoot
   root-empty r z = rw (← read, r, eq-eqb _ _ z)
 
-  module _ (hash : ℕ) (r : isDirectory i ≡ true) (z : i .size ≡ 0 → ⊥) (h : hash ≡ hashOf name) where
-    pub root-inline : hasInlineDentry i ≡ true → atRoot m name inode ≡ inlineWalk inode (wanted hash name)
-    unfolding atRoot searchWalk
-    root-inline d = rw (← read, r, ne-eqb _ _ z, d, h)
-
-    pub root-search : (A : ℕ) → hasInlineDentry i ≡ false → A ≡ addressesIn i
-        → atRoot m name inode ≡ findWalk (directory m rootIno inode A (i .level)) (wanted hash name) (i .depth)
-    unfolding atRoot searchWalk
-    root-search A d a = rw (← read, r, ne-eqb _ _ z, d, a, h)
+  pub root-search : (A hash : ℕ) (inline : Bool) → isDirectory i ≡ true → (i .size ≡ 0 → ⊥) → A ≡ addressesIn i → hash ≡ hashOf name
+      → inline ≡ hasInlineDentry i
+      → atRoot m name inode ≡ searchWalk (directory m rootIno inode A inline (i .level)) (wanted hash name) (i .depth)
+  unfolding atRoot
+  root-search A hash inline r z a h l = rw (← read, r, ne-eqb _ _ z, a, h, l)
 
 -- ---- a data block with its count
 pub counted-walked : (card : Card) (found : Data) (count : ℕ) {v : View} {p : Walk (Outcome Fetched)} {s t : Lists}

@@ -24,10 +24,11 @@ use Rattle.node.specs.Node.{Bounds, boundsOf, inodeWalk}
 use Rattle.node.specs.Block.{held}
 use Rattle.name_hash.specs.Hash.{hashOf}
 use Rattle.dentry.specs.Slot.{wanted, Sought, absent, found, malformed, inInode}
-use Rattle.directory.specs.Find.{afterSlots, inlineWalk}
+use Rattle.directory.specs.Find.{afterSlots}
+use Rattle.directory.proofs.Inline.{inline-search}
 use Rattle.pull.specs.Walk.{Block, atFile, fileWalk, atRoot, rootWalk, pullWalk}
 use Rattle.pull.specs.Pull.{Lent, callInShape, written, pullRun, pulled}
-use Rattle.pull.proofs.Cases.{file-past, file-inline, root-empty, root-inline}
+use Rattle.pull.proofs.Cases.{file-past, file-inline, root-empty, root-search}
 use Rattle.pull.proofs.Results.{call-opens}
 
 -- all of an inline file
@@ -71,7 +72,7 @@ module _ (m : Bounds) (index ino : ℕ) (inode : List ℕ) (regular : isRegular 
 -- an inline root neither: what was seen when its inode is read is what the search leaves
 pub inline-root : (v : View) (m : Bounds) (name inode : List ℕ) (s : Seen) → isDirectory (inodeOf inode) ≡ true → hasInlineDentry (inodeOf inode) ≡ true
     → run v s (atRoot m name inode) .seen ≡ s
-unfolding run inlineWalk
+unfolding run
 inline-root v m name inode s is own = go (eqb (inodeOf inode .size) 0) refl
   where
     asks-nothing : (o : Sought) → run v s (afterSlots (done (stop 2)) o) .seen ≡ s
@@ -79,10 +80,12 @@ inline-root v m name inode s is own = go (eqb (inodeOf inode .size) 0) refl
     asks-nothing (found ino) = refl
     asks-nothing malformed = refl
 
+    search : (inodeOf inode .size ≡ 0 → ⊥) → atRoot m name inode ≡ afterSlots (done (stop 2)) (inInode inode (wanted (hashOf name) name))
+    search some = root-search m name inode refl _ _ true is some refl refl (sym own) ∙ inline-search _ _ _ refl
+
     go : (b : Bool) → eqb (inodeOf inode .size) 0 ≡ b → run v s (atRoot m name inode) .seen ≡ s
     go true e = rw (root-empty m name inode refl is (eqb-true _ _ e))
-    go false e =
-        rw (root-inline m name inode refl (hashOf name) is (eqb-false _ _ e) refl own) (asks-nothing (inInode inode (wanted (hashOf name) name)))
+    go false e = rw (search (eqb-false _ _ e)) (asks-nothing (inInode inode (wanted (hashOf name) name)))
 
 -- ---- every pull of an inline file: the root's walk came to its inode number, and its inode's to the inode
 module _ (image name : List ℕ) (index : ℕ) (lent : Lent) (shape : callInShape image name lent ≡ true) (v : Volume) (opens : openedImage image ≡ Opened v)

@@ -1,20 +1,19 @@
 -- A pull looks up at most 179 numbers and reads at most 238 blocks, all in the main area; it ends with one of 2, 3, 9 to 14, or
 -- with a block that holds 1 to 4,096 of the file's bytes. One pass over the walk shows all of that.
 use Prim.Native.Nat.{ℕ, _≤_}
-use native.Mathlib.Omega.{arith}
 use mathlib.Core.Path.{_≡_, refl}
 use mathlib.Core.Bool.{true}
 use mathlib.Core.List.{List}
 use lib.Dec.{eqb}
 use Rattle.walk.specs.Walk.{Walk, Outcome, Ended, Within, ends}
-use Rattle.walk.proofs.Sizes.{within-if, within-choose, within-then, within-le}
-use Rattle.inode.specs.Inode.{inodeOf, hasInlineData, hasInlineDentry, isDirectory, isRegular, addressesIn, isPast}
+use Rattle.walk.proofs.Sizes.{within-if, within-choose, within-then}
+use Rattle.inode.specs.Inode.{inodeOf, hasInlineData, isDirectory, isRegular, addressesIn, isPast}
 use Rattle.inode.proofs.Counting.{count-in-block, few-addresses}
 use Rattle.node.specs.Node.{Bounds, inMain}
 use Rattle.node.proofs.Sizes.{Small, node-within, block-within}
-use Rattle.directory.proofs.Sizes.{inline-within, find-within}
+use Rattle.directory.proofs.Sizes.{search-within}
 use Rattle.pull.specs.Pull.{nodesMost, blocksMost}
-use Rattle.pull.specs.Walk.{rootIno, Block, contentWalk, atFile, fileWalk, searchWalk, atRoot, rootWalk, pullWalk}
+use Rattle.pull.specs.Walk.{rootIno, Block, contentWalk, atFile, fileWalk, atRoot, rootWalk, pullWalk}
 
 -- "a byte count 1 to 4,096"
 abbrev pub Counted : Block → Type 0
@@ -45,17 +44,11 @@ module _ (m : Bounds) where
   unfolding fileWalk
   file-within index ino = within-then _ (node-within m ino ino 0) (λ inode _. at-file-within index ino inode)
 
-  search-within : (name inode : List ℕ) → Small m 174 232 (searchWalk m name inode)
-  unfolding searchWalk
-  search-within name inode =
-      within-choose (hasInlineDentry (inodeOf inode)) (within-le _ _ (omega arith) (omega arith) (inline-within m inode _))
-      (find-within _ _ (few-addresses (inodeOf inode)) (inodeOf inode .depth))
-
   at-root-within : (name inode : List ℕ) → Small m 174 232 (atRoot m name inode)
   unfolding atRoot
   at-root-within name inode =
       within-choose (isDirectory (inodeOf inode))
-      (within-choose (eqb (inodeOf inode .size) 0) (ends refl) (search-within name inode))
+      (within-choose (eqb (inodeOf inode .size) 0) (ends refl) (search-within _ _ (few-addresses (inodeOf inode)) (inodeOf inode .depth)))
       (ends refl)
 
   pub root-within : (name : List ℕ) → Small m 175 233 (rootWalk m name)

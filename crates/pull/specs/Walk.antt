@@ -13,7 +13,7 @@ use Rattle.node.specs.declared.Data.the-variants as d
 use Rattle.field.specs.Card.{Card}
 use Rattle.name_hash.specs.Hash.{hashOf}
 use Rattle.dentry.specs.Slot.{wanted}
-use Rattle.directory.specs.Find.{directory, findWalk, inlineWalk}
+use Rattle.directory.specs.Find.{directory, searchWalk}
 use Rattle.inode.specs.Inode.{inodeOf, hasInlineData, hasInlineDentry, inlineStart, isDirectory, isRegular, addressesIn, isPast, countIn}
 
 -- the inode number of the root directory
@@ -45,18 +45,13 @@ atFile m index ino inode =
 unfoldable pub fileWalk : Bounds → ℕ → ℕ → Walk (Outcome Block)
 fileWalk m index ino = andThen (inodeWalk m ino) (atFile m index ino)
 
--- the search in a directory, by the bytes of its inode
-unfoldable pub searchWalk : Bounds → List ℕ → List ℕ → Walk (Outcome ℕ)
-searchWalk m name inode =
-    choose (hasInlineDentry (inodeOf inode)) (inlineWalk inode (wanted (hashOf name) name))
-    (findWalk (directory m rootIno inode (addressesIn (inodeOf inode)) (inodeOf inode .level)) (wanted (hashOf name) name)
-    (inodeOf inode .depth))
-
 -- "Then size 0: 2"
 unfoldable pub atRoot : Bounds → List ℕ → List ℕ → Walk (Outcome ℕ)
 atRoot m name inode =
     choose (isDirectory (inodeOf inode))
-    (choose (eqb (inodeOf inode .size) 0) (done (stop 2)) (searchWalk m name inode))
+    (choose (eqb (inodeOf inode .size) 0) (done (stop 2))
+    (searchWalk (directory m rootIno inode (addressesIn (inodeOf inode)) (hasInlineDentry (inodeOf inode)) (inodeOf inode .level))
+    (wanted (hashOf name) name) (inodeOf inode .depth)))
     (done (stop 12))
 
 -- the inode number of a name in the root directory

@@ -149,8 +149,7 @@ fn find_from_inode(
         (lists (now (nodes .entry)) (now (blocks .entry)) counts) (entryOf (r .entry))
         (lists (now (nodes .exit)) (now (blocks .exit)) (r .counts)) ⌝ }
 {
-    let block = field::block_at(image, at);
-    let i = inode::inode_of(block);
+    let i = inode::inode_of(field::block_at(image, at));
     if !inode::is_directory(i) {
         return directory::EntryStep {
             entry: directory::Entry::Stop(answer::KIND_NOT_READ),
@@ -163,20 +162,15 @@ fn find_from_inode(
             counts,
         };
     }
-    let hash = name_hash::hash(name);
-    if inode::has_inline_dentry(i) {
-        return directory::EntryStep {
-            entry: directory::find_inline(block, hash, name),
-            counts,
-        };
-    }
     let file = node::File {
         ino: 3,
         inode: at,
         addresses: inode::addresses_in(i),
     };
+    let inline = inode::has_inline_dentry(i);
     let dir_level = i.level as usize;
     let depth = i.depth as usize;
+    let hash = name_hash::hash(name);
     directory::find(
         image,
         v,
@@ -184,6 +178,7 @@ fn find_from_inode(
         blocks,
         counts,
         file,
+        inline,
         dir_level,
         depth,
         hash,
