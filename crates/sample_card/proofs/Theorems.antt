@@ -1,6 +1,6 @@
--- Some card opens, and a pull on it answers 0: the definitions don't refuse everything. The card is as large as one may be, and what a
--- pull reads of its main area lies behind byte 2^32. Each theorem is stated of the image's bytes, over the definitions that the
--- contracts cite; all numbers are computed by them, the checksum and the name's hash too.
+-- Some card opens, and pulls on it answer 0, by a data block and by an inline file's inode: the definitions don't refuse everything. The
+-- card is as large as one may be, and what a pull reads of its main area lies behind byte 2^32. Each theorem is stated of the image's
+-- bytes, over the definitions that the contracts cite; all numbers are computed by them, the checksum and the names' hashes too.
 use Prim.Native.Nat.{ℕ, _*_, _/_, _≤_}
 use mathlib.Core.Path.{_≡_, refl, ap, _∙_}
 use mathlib.Core.Bool.{true}
@@ -21,7 +21,7 @@ use Rattle.walk.specs.Walk.{Ran, Outcome}
 use Rattle.pull.specs.Walk.{Block}
 use Rattle.pull.specs.Pull.{Lent, lending, Result, result, lentInShape, written, pullRun, pulled}
 use Rattle.pull.proofs.Results.{call-in-shape, call-opens}
-use Rattle.sample_card.specs.Image.{filled, name, missing, content, dataBlock, image, card}
+use Rattle.sample_card.specs.Image.{filled, name, missing, content, inlineName, inlineContent, inlineInode, dataBlock, image, card}
 use Rattle.sample_card.specs.Volume.{volume}
 use Rattle.sample_card.proofs.Joined.{image-length, image-shape, image-card}
 use Rattle.sample_card.proofs.Opening.{card-opens}
@@ -62,10 +62,16 @@ module _ (lent : Lent) (fits : lentInShape lent ≡ true) where
       call-opens image n index lent (Opened volume) (call-in-shape image n index lent image-shape p fits) some-card-opens
       ∙ ap (λ (c : Card). written (pullRun c volume n index) lent) image-card ∙ ap (λ (q : Ran (Outcome Block)). written q lent) e
 
-  -- 0, "data": the seven bytes of the file's block 1, and zeros; nodes 3 and 4 were looked up, and four blocks of the main area read
+  -- 0, "data": the seven bytes of block 1 of "brake.log", and zeros; nodes 3 and 4 were looked up, and four blocks of the main area read
   pub a-pull-answers-0 : pulled image name 1 lent ≡ leaves 0 7 (content ++ replicate 4089 0) (3 ∷ 4 ∷ []) (4193792 ∷ 4193793 ∷ 4193794 ∷ 4194303 ∷ []) lent
   unfolding nameBytes dataBlock filled
   a-pull-answers-0 = walk-leaves name 1 _ refl (walks .0)
+
+  -- K4, 0 of an inline file: its nine bytes from its inode, and zeros; the inode "is listed with its block and no data block of its own"
+  pub an-inline-file-answers-0 : pulled image inlineName 0 lent
+      ≡ leaves 0 9 (inlineContent ++ replicate 4087 0) (3 ∷ 5 ∷ []) (4193792 ∷ 4193793 ∷ 4193796 ∷ []) lent
+  unfolding nameBytes inlineInode filled bytesOf
+  an-inline-file-answers-0 = walk-leaves inlineName 0 _ refl (walks .4)
 
   -- 1, "hole"
   pub a-hole-answers-1 : pulled image name 0 lent ≡ leaves 1 4096 (replicate 4096 0) (3 ∷ 4 ∷ []) (4193792 ∷ 4193793 ∷ 4193794 ∷ []) lent
@@ -82,12 +88,12 @@ module _ (lent : Lent) (fits : lentInShape lent ≡ true) where
   unfolding nameBytes
   past-the-end-answers-3 = walk-leaves name 2 _ refl (walks .2)
 
--- ---- Segment report: the card has one main segment, so a list of one number has room; its count isn't off, and five of its blocks
+-- ---- Segment report: the card has one main segment, so a list of one number has room; its count isn't off, and six of its blocks
 -- are valid
 opens-with-sit : openedWithSit image ≡ Opened volume
 opens-with-sit = journal-opens image volume some-card-opens (rw image-card sit-journal-readable)
 
 pub a-report-answers-0 : (list : List ℕ) → 1 ≤ length list / 4
-    → segmentReport image list ≡ reported (record { answer = 0; count = 0; «valid_blocks» = 5 }) list
+    → segmentReport image list ≡ reported (record { answer = 0; count = 0; «valid_blocks» = 6 }) list
 unfolding reportOf offOn over bytesOf
 a-report-answers-0 list h = made image list volume opens-with-sit h ∙ rw (image-card, segments .0, segments .1)

@@ -1,6 +1,7 @@
--- One card, written out: as large as a card may be, 4,194,304 blocks, of which twelve hold something. Its last segment is its main area,
--- so that nodes and data lie behind byte 2^32. Its root directory, of directory level 2, has one file, "brake.log", of 4,103 bytes: a hole,
--- and seven bytes in its block 1, which is the card's last. Offsets are document 01's.
+-- One card, written out: as large as a card may be, 4,194,304 blocks, of which thirteen hold something. Its last segment is its main area,
+-- so that nodes and data lie behind byte 2^32. Its root directory, of directory level 2, has two files: "brake.log", of 4,103 bytes, a hole,
+-- and seven bytes in its block 1, which is the card's last; and "pads.tbl", a friction table, whose nine bytes are inline (K4). Offsets are
+-- document 01's.
 use Prim.Native.Nat.{ℕ, _+_, _-_}
 use mathlib.Core.List.{List, [], _∷_, _++_}
 use lib.ListN.{length, replicate}
@@ -45,6 +46,14 @@ missing = 98 ∷ 114 ∷ 97 ∷ 107 ∷ 101 ∷ []
 abbrev pub content : List ℕ
 content = 52 ∷ 50 ∷ 32 ∷ 98 ∷ 97 ∷ 114 ∷ 10 ∷ []
 
+-- "pads.tbl"
+abbrev pub inlineName : List ℕ
+inlineName = 112 ∷ 97 ∷ 100 ∷ 115 ∷ 46 ∷ 116 ∷ 98 ∷ 108 ∷ []
+
+-- "0.42 dry" and a line feed
+abbrev pub inlineContent : List ℕ
+inlineContent = 48 ∷ 46 ∷ 52 ∷ 50 ∷ 32 ∷ 100 ∷ 114 ∷ 121 ∷ 10 ∷ []
+
 -- ---- the blocks
 
 -- the mark; logs and units; the block count; segment counts (8,191: checkpoint 2, SIT 2, NAT 2, SSA all that is left, main 1); where
@@ -79,34 +88,39 @@ pack =
 unfoldable pub journal : List ℕ
 journal = filled 0 (at 0 (1 ∷ 0 ∷ []) ∷ numbersAt 2 (3 ∷ []) ∷ numbersAt 7 (3 ∷ 4193792 ∷ []) ∷ [])
 
--- the first block of the SIT has the entry of the one main segment: its first four blocks and its last are valid
+-- the first block of the SIT has the entry of the one main segment: its first five blocks and its last are valid
 unfoldable pub sitBlock : List ℕ
-sitBlock = filled 0 (at 0 (5 ∷ 0 ∷ 0xF0 ∷ []) ∷ at 65 (0x01 ∷ []) ∷ [])
+sitBlock = filled 0 (at 0 (6 ∷ 0 ∷ 0xF8 ∷ []) ∷ at 65 (0x01 ∷ []) ∷ [])
 
--- the first block of the NAT has one more: the file, inode 4, is at block 4193794
+-- the first block of the NAT has two more: the files, inodes 4 and 5, are at blocks 4193794 and 4193796
 unfoldable pub natBlock : List ℕ
-natBlock = filled 0 (numbersAt 37 (4 ∷ 4193794 ∷ []) ∷ [])
+natBlock = filled 0 (numbersAt 37 (4 ∷ 4193794 ∷ []) ∷ numbersAt 46 (5 ∷ 4193796 ∷ []) ∷ [])
 
--- an inode: mode, size, depth, directory level, the addresses of its blocks, and the footer
-abbrev pub inode : List ℕ → ℕ → ℕ → ℕ → List ℕ → ℕ → List ℕ
-inode mode size depth level addresses number =
+-- an inode: mode, inline byte, size, depth, directory level, the bytes of its address area, and the footer
+abbrev pub inode : List ℕ → ℕ → ℕ → ℕ → ℕ → List ℕ → ℕ → List ℕ
+inode mode inline size depth level area number =
     filled 0
     (at 0 mode
+    ∷ at 3 (inline ∷ [])
     ∷ numbersAt 16 (size ∷ 0 ∷ [])
     ∷ numbersAt 72 (depth ∷ [])
     ∷ at 347 (level ∷ [])
-    ∷ numbersAt 360 addresses
+    ∷ at 360 area
     ∷ numbersAt 4072 (number ∷ number ∷ 0 ∷ [])
     ∷ [])
 
 -- a directory of depth 1 and directory level 2: four buckets of two blocks, of which the first has its first block at 4193795, the last
 -- at 4193793, and all others are holes
 unfoldable pub rootInode : List ℕ
-rootInode = inode (0xED ∷ 0x41 ∷ []) 28672 1 2 (4193795 ∷ 0 ∷ 0 ∷ 0 ∷ 0 ∷ 0 ∷ 4193793 ∷ []) 3
+rootInode = inode (0xED ∷ 0x41 ∷ []) 0 28672 1 2 (bytesOf (4193795 ∷ 0 ∷ 0 ∷ 0 ∷ 0 ∷ 0 ∷ 4193793 ∷ [])) 3
 
 -- a regular file; its block 0 is a hole, its block 1 is at 4194303. In a file the level isn't consulted
 unfoldable pub fileInode : List ℕ
-fileInode = inode (0xA4 ∷ 0x81 ∷ []) 4103 0 31 (0 ∷ 4194303 ∷ []) 4
+fileInode = inode (0xA4 ∷ 0x81 ∷ []) 0 4103 0 31 (bytesOf (0 ∷ 4194303 ∷ [])) 4
+
+-- a regular file whose bytes are in its inode: neither the address word before them nor the byte behind them is the file's
+unfoldable pub inlineInode : List ℕ
+inlineInode = inode (0xA4 ∷ 0x81 ∷ []) 2 9 0 0 (bytesOf (4194303 ∷ []) ++ (inlineContent ++ (0xFF ∷ []))) 5
 
 -- a directory entry: hash, inode number, the name's length, type
 abbrev pub entry : ℕ → ℕ → ℕ → ℕ → List ℕ
@@ -116,11 +130,12 @@ entry hash ino long type = bytesOf (hash ∷ ino ∷ []) ++ (long ∷ 0 ∷ type
 unfoldable pub dotsBlock : List ℕ
 dotsBlock = filled 0 (at 0 (3 ∷ []) ∷ at 30 (entry 0 3 1 2 ++ entry 0 3 2 2) ∷ at 2384 (46 ∷ []) ∷ at 2392 (46 ∷ 46 ∷ []) ∷ [])
 
--- its last: "brake.log" in slots 0 and 1
+-- its last: "brake.log" in slots 0 and 1, "pads.tbl" in slot 2
 unfoldable pub dentryBlock : List ℕ
-dentryBlock = filled 0 (at 0 (3 ∷ []) ∷ at 30 (entry 3025346403 4 9 1) ∷ at 2384 name ∷ [])
+dentryBlock =
+    filled 0 (at 0 (7 ∷ []) ∷ at 30 (entry 3025346403 4 9 1) ∷ at 52 (entry 3748076867 5 8 1) ∷ at 2384 name ∷ at 2400 inlineName ∷ [])
 
--- the file's block 1: behind its seven bytes stands one that isn't the file's
+-- block 1 of "brake.log": behind its seven bytes stands one that isn't the file's
 unfoldable pub dataBlock : List ℕ
 dataBlock = filled 0 (at 0 content ∷ at 7 (0xFF ∷ []) ∷ [])
 
@@ -146,7 +161,7 @@ runs =
     ∷ once sitBlock ∷ empty 1023
     ∷ once natBlock ∷ empty 1023
     ∷ empty 4190208
-    ∷ once rootInode ∷ once dentryBlock ∷ once fileInode ∷ once dotsBlock ∷ empty 507 ∷ once dataBlock
+    ∷ once rootInode ∷ once dentryBlock ∷ once fileInode ∷ once dotsBlock ∷ once inlineInode ∷ empty 506 ∷ once dataBlock
     ∷ []
 
 -- the blocks one by one
