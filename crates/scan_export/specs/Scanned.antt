@@ -4,7 +4,7 @@
 use Prim.Native.Nat.{ℕ}
 use mathlib.Core.Bool.{Bool, _&&_}
 use mathlib.Core.List.{List}
-use lib.ListN.{length}
+use lib.ListN.{length, drop}
 use lib.Dec.{eqb}
 use Rattle.field.specs.Choice.{choose}
 use Rattle.name_hash.specs.Name.{isName}
@@ -28,5 +28,5 @@ isScan block name = eqb (length block) 4096 && isName name
 
 unfoldable pub scanned : Layout → List ℕ → List ℕ → Scanned
 scanned l block name =
-    choose (isScan block name) (crossing (inSlots l block (seeks name)) (turnsIn l block (seeks name)))
+    choose (isScan block name) (crossing (inSlots l block (seeks name)) (turnsIn l (drop (l .start) block) (seeks name)))
     (record { answer = 4; inode = 0; turns = 0 })

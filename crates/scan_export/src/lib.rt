@@ -2,7 +2,9 @@
 // What it means is in specs/: Scanned.
 ghost use mathlib.Core.Path.{_≡_};
 ghost use Prim.Native.Nat.{_≤_};
-ghost use Rattle.dentry.specs.Slot.{LayoutIn, blockLayout, inlineLayout};
+ghost use lib.ListN.{drop};
+ghost use Rattle.inode.specs.Inode.{inlineStart};
+ghost use Rattle.dentry.specs.Slot.{layoutOf, blockLayout, inlineLayout};
 ghost use Rattle.dentry.specs.Scan.{turnsMost};
 ghost use Rattle.scan_export.specs.Scanned.{seeks, scanned};
 
@@ -14,10 +16,9 @@ pub struct Scanned {
     pub turns: u32,
 }
 
-fn scan(block: &[u8], l: dentry::Layout, name: &[u8]) -> Scanned
-    requires { ⌜ LayoutIn l ⌝ }
-    ensures { λ r. ⌜ r ≡ scanned l (now (block .entry)) (now (name .entry)) ⌝ }
-    ensures { λ r. ⌜ r .turns ≤ turnsMost l (now (block .entry)) (seeks (now (name .entry))) ⌝ }
+fn scan(block: &[u8], inline: bool, name: &[u8]) -> Scanned
+    ensures { λ r. ⌜ r ≡ scanned (layoutOf inline) (now (block .entry)) (now (name .entry)) ⌝ }
+    ensures { λ r. ⌜ r .turns ≤ turnsMost (layoutOf inline) (drop (layoutOf inline .start) (now (block .entry))) (seeks (now (name .entry))) ⌝ }
 {
     if !((block.len() == 4096) & name_hash::is_name(name)) {
         return Scanned {
@@ -27,7 +28,9 @@ fn scan(block: &[u8], l: dentry::Layout, name: &[u8]) -> Scanned
         };
     }
     let hash = name_hash::hash(name);
-    let step = dentry::scan_slots(block, l, hash, name);
+    let layout = dentry::layout_of(inline);
+    let part = dentry::part_of(block, layout);
+    let step = dentry::scan_slots(part, layout, hash, name);
     let turn = step.turn;
     let turns = step.scan.turns as u32;
     match turn {
@@ -55,14 +58,14 @@ pub extern "C" fn scan_export_scan(block: &[u8], name: &[u8]) -> Scanned
     ensures { λ r. ⌜ r ≡ scanned blockLayout (now (block .entry)) (now (name .entry)) ⌝ }
     ensures { λ r. ⌜ r .turns ≤ turnsMost blockLayout (now (block .entry)) (seeks (now (name .entry))) ⌝ }
 {
-    scan(block, dentry::block_layout(), name)
+    scan(block, false, name)
 }
 
 // The slots of an inline directory, in the bytes of its inode.
 #[no_mangle]
 pub extern "C" fn scan_export_scan_inline(inode: &[u8], name: &[u8]) -> Scanned
     ensures { λ r. ⌜ r ≡ scanned inlineLayout (now (inode .entry)) (now (name .entry)) ⌝ }
-    ensures { λ r. ⌜ r .turns ≤ turnsMost inlineLayout (now (inode .entry)) (seeks (now (name .entry))) ⌝ }
+    ensures { λ r. ⌜ r .turns ≤ turnsMost inlineLayout (drop inlineStart (now (inode .entry))) (seeks (now (name .entry))) ⌝ }
 {
-    scan(inode, dentry::inline_layout(), name)
+    scan(inode, true, name)
 }
