@@ -4,22 +4,26 @@ use mathlib.Core.Path.{refl}
 use mathlib.Core.List.{List, [], _∷_, _++_}
 use mathlib.Core.List as List
 use Prim.Native.Nat.{ℕ, _-_}
-use lib.ListN.{length, take, drop, replicate}
+use lib.ListN.{length, take, replicate}
 use Rattle.field.specs.Number.{le16, le32, le64}
 use Rattle.field.specs.Map.{lowBit, zerosFrom}
 use Rattle.field.specs.Bytes.{sameAt}
 use Rattle.list.specs.Lists.{bytesOf, insert}
 use Rattle.nat.specs.declared.TableAnswer.the-variants.{OutOfRange, Entry}
 use Rattle.walk.specs.Walk.{empty, run, bind, onward, andThen, Outcome, ok, stop}
-use Rattle.inode.specs.Inode.{inodeOf, hasInlineData, hasInlineDentry, hasExtraAttr, dataRoom, isDirectory, isRegular, isPast, countIn}
+use Rattle.inode.specs.Inode.{inodeOf, hasInlineData, hasInlineDentry, hasExtraAttr, dataRoom, isDirectory, isRegular, addressesIn, isPast, countIn}
 use Rattle.node.specs.Node.{inMain, belongs, atBlock, atEntry, nodeWalk}
+use Rattle.dentry.specs.declared.Slot.{Slot}
+use Rattle.dentry.specs.declared.Slot.the-variants.{Free, Match, Other, Malformed}
 use Rattle.dentry.specs.Slot.{inlineLayout, wanted, wellFormed, matches, slotAt, slotsFrom}
 use Rattle.dentry.specs.Scan.{tallyFrom}
-use Rattle.directory.specs.Find.{inlineWalk}
-use Rattle.pull.specs.Walk.{Block, contentWalk, atFile, fileWalk, searchWalk, atRoot, rootWalk}
+use Rattle.hash_level.specs.Level.{firstOf, bucketOf}
+use Rattle.name_hash.specs.Hash.{hashOf}
+use Rattle.directory.specs.Find.{fetchFrom, afterBlock, bucketWalk, levelsWalk, findWalk, searchWalk}
+use Rattle.pull.specs.Walk.{Block, contentWalk, atFile, fileWalk, atRoot, rootWalk}
 use Rattle.pull.specs.Pull.{contentAnswer, contentBytes}
 use Rattle.bench_sheet.specs.Line.{Line, _is_, Holds, yes}
-use Rattle.bench_sheet.specs.WalkRules.{main, lists, footed, inode, inodeBlock, sought, scannedIn}
+use Rattle.bench_sheet.specs.WalkRules.{main, lists, footed, inode, inodeBlock, scannedIn}
 
 -- ---- which are read
 
@@ -29,23 +33,22 @@ fileRead inline size = yes (isRegular (inode 0x8000 inline size 0 0))
 abbrev directoryRead : ℕ → ℕ → ℕ
 directoryRead inline size = yes (isDirectory (inode 0x4000 inline size 0 0))
 
--- ---- inline slots
+-- ---- inline slots, by the bytes from 364 on
 
--- an inode's bytes with some at two offsets, the first at 347 or later
-abbrev with : ℕ → ℕ → List ℕ → ℕ → List ℕ → List ℕ
-with inline at bytes later more =
-    let front = inodeBlock 0x4000 inline 1 0 0 in
-    let first = front ++ replicate (at - length front) 0 ++ bytes in
-    first ++ replicate (later - length first) 0 ++ more
-
--- slot 181, the last, in use: its bit stands in byte 386, its entry at 2,385, its name at 3,844
+-- slot 181, the last, in use: its bit stands in byte 22, its entry at 2,021, its name at 3,480
 abbrev lastSlot : ℕ → List ℕ
 lastSlot len =
-    with 4 386 (0x20 ∷ []) 2385 (bytesOf (77 ∷ 40 ∷ []) ++ (len ∷ 0 ∷ 1 ∷ []) ++ replicate 1448 0 ++ (97 ∷ []))
+    replicate 22 0 ++ (0x20 ∷ []) ++ replicate 1998 0 ++ bytesOf (77 ∷ 40 ∷ []) ++ (len ∷ 0 ∷ 1 ∷ []) ++ replicate 1448 0 ++ (97 ∷ [])
 
--- the inode number that the search for "a" comes to there, or the answer
-abbrev soughtIn : List ℕ → ℕ
-soughtIn block = sought (inlineWalk block (wanted 77 (97 ∷ [])))
+-- what the slot holds for "a": the inode number in its entry, 14, or 0 if it is free
+abbrev holds : Slot → ℕ
+holds Free = 0
+holds (Match ino) = ino
+holds (Other slots) = 1
+holds Malformed = 14
+
+abbrev slot181 : List ℕ → ℕ
+slot181 part = holds (slotAt inlineLayout part (wanted 77 (97 ∷ [])) 181)
 
 -- ---- pulls
 
@@ -87,11 +90,11 @@ inlineRules =
     -- "182 entries": a name of 255 bytes has 32 slots
     ∷ ((yes (wellFormed inlineLayout 150 255) ∷ yes (wellFormed inlineLayout 151 255) ∷ []) is (1 ∷ 0 ∷ []))
     ∷ ((yes (wellFormed inlineLayout 181 8) ∷ yes (wellFormed inlineLayout 181 9) ∷ []) is (1 ∷ 0 ∷ []))
-    -- "a 23-byte map, 7 reserved": before it, behind bit 181 and in the reserved bytes no bit counts
-    ∷ (scannedIn inlineLayout (replicate 364 0xFF) is (0 ∷ 1 ∷ 1 ∷ []))
-    ∷ (scannedIn inlineLayout (replicate 386 0 ++ (0xC0 ∷ replicate 7 0xFF)) is (0 ∷ 1 ∷ 1 ∷ []))
+    -- "a 23-byte map, 7 reserved": behind bit 181 and in the reserved bytes no bit counts
+    ∷ (scannedIn inlineLayout [] is (0 ∷ 1 ∷ 1 ∷ []))
+    ∷ (scannedIn inlineLayout (replicate 22 0 ++ (0xC0 ∷ replicate 7 0xFF)) is (0 ∷ 1 ∷ 1 ∷ []))
     -- "182 entries, 182 name slots": the last of them
-    ∷ ((soughtIn (lastSlot 1) ∷ soughtIn (lastSlot 9) ∷ soughtIn (drop 1 (lastSlot 1)) ∷ []) is (40 ∷ 14 ∷ 2 ∷ []))
+    ∷ ((slot181 (lastSlot 1) ∷ slot181 (lastSlot 9) ∷ slot181 [] ∷ []) is (40 ∷ 14 ∷ 0 ∷ []))
     -- "Both start one address word into the address area"; "no data block of its own"
     ∷ (bytes is (5 ∷ 51 ∷ 52 ∷ 53 ∷ 54 ∷ 55 ∷ 0 ∷ []))
     ∷ (file 0 is (0 ∷ 4 ∷ 4096 ∷ []))
@@ -104,6 +107,7 @@ inlineRules =
 
 pub inline-rules : Holds inlineRules
 unfolding le16 le32 le64 bytesOf lowBit zerosFrom sameAt insert run bind onward andThen inMain belongs atBlock atEntry nodeWalk
-    inodeOf hasInlineData hasInlineDentry hasExtraAttr dataRoom isDirectory isRegular isPast countIn
-    wellFormed matches slotAt slotsFrom tallyFrom inlineWalk contentWalk atFile fileWalk searchWalk atRoot rootWalk
+    inodeOf hasInlineData hasInlineDentry hasExtraAttr dataRoom isDirectory isRegular addressesIn isPast countIn
+    wellFormed matches slotAt slotsFrom tallyFrom fetchFrom afterBlock firstOf bucketOf bucketWalk levelsWalk findWalk searchWalk hashOf
+    contentWalk atFile fileWalk atRoot rootWalk
 inline-rules = refl

@@ -1,6 +1,7 @@
 -- The bench sheet is document 01's term for its list of worked numbers. The lines that it marks to be proved are one table here:
 -- what the definitions compute on the left, what the document says on the right.
 use mathlib.Core.Path.{refl}
+use mathlib.Core.Bool.{false}
 use mathlib.Core.List.{List, [], _∷_}
 use mathlib.Core.List as List
 use Prim.Native.Nat.{ℕ, _+_, _/_, _%_, _^_}
@@ -18,7 +19,7 @@ use Rattle.list.specs.Lists.{bytesOf}
 use Rattle.walk.specs.Walk.{Walk, done, look, read, Outcome, ok, stop}
 use Rattle.node.specs.Block.{held}
 use Rattle.hash_level.specs.Level.{firstOf}
-use Rattle.dentry.specs.Slot.{blockLayout, wanted, entryAt, wellFormed, matches, slotAt, slotsFrom}
+use Rattle.dentry.specs.Slot.{wanted, entryAt, wellFormed, matches, slotAt, slotsFrom}
 use Rattle.directory.specs.Find.{afterBlock}
 use Rattle.bench_sheet.specs.Line.{Line, _is_, Holds}
 use Rattle.bench_sheet.specs.Volume004.{superblock, card004, mainNumbers}
@@ -41,7 +42,7 @@ main004 feature = mainNumbers (found (card004 (λ b. superblock 0 feature)))
 
 -- a directory block whose one entry, at a slot, has a name of so many bytes: its bit, and the length in its entry
 abbrev oneEntry : ℕ → ℕ → List ℕ
-oneEntry slot len = set (set (replicate 4096 0) (slot / 8) (2 ^ (slot % 8))) (entryAt blockLayout slot + 8) len
+oneEntry slot len = set (set (replicate 4096 0) (slot / 8) (2 ^ (slot % 8))) (entryAt slot + 8) len
 
 -- the answer of a search that comes to a block of a directory and to none behind it; 0 with a match
 abbrev answerIn : Walk (Outcome ℕ) → List ℕ
@@ -51,7 +52,7 @@ answerIn (look n k) = []
 answerIn (read b k) = []
 
 abbrev searchAnswer : List ℕ → List ℕ
-searchAnswer block = answerIn (afterBlock (wanted 1 []) (done (stop 2)) (held block))
+searchAnswer block = answerIn (afterBlock false (wanted 1 []) (done (stop 2)) (held block))
 
 abbrev sheet : List Line
 sheet =

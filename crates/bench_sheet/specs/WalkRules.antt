@@ -1,6 +1,7 @@
 -- Document 01's rules for node lookup and for the walk of a pull, by number: what the definitions compute on both sides of each
 -- boundary, and what the document's sentence says. 1 is yes, 0 no. What isn't written out of a block is zeros, as every byte past a list's end counts as 0.
 use mathlib.Core.Path.{refl}
+use mathlib.Core.Bool.{false}
 use mathlib.Core.List.{List, [], _∷_, _++_}
 use mathlib.Core.List as List
 use Prim.Native.Nat.{ℕ, zero, suc, _+_, _-_, _*_, _/_, _%_}
@@ -26,10 +27,10 @@ use Rattle.node.specs.Block.{isHole, dataWalk, followWalk, wayWalk, blockWalk}
 use Rattle.dentry.specs.declared.Layout.{Layout}
 use Rattle.dentry.specs.Slot.{blockLayout, wanted, wellFormed, matches, slotAt, slotsFrom}
 use Rattle.dentry.specs.Scan.{tallyFrom, entriesIn, turnsIn, turnsMost}
-use Rattle.directory.specs.Find.{Directory, afterSlots, afterBlock, bucketWalk, levelsWalk, findWalk}
+use Rattle.directory.specs.Find.{Directory, afterSlots, fetchFrom, afterBlock, bucketWalk, levelsWalk, findWalk, searchWalk}
 use Rattle.hash_level.specs.Level.{firstOf, bucketOf}
 use Rattle.name_hash.specs.Hash.{hashOf}
-use Rattle.pull.specs.Walk.{Block, contentWalk, atFile, fileWalk, searchWalk, atRoot, rootWalk}
+use Rattle.pull.specs.Walk.{Block, contentWalk, atFile, fileWalk, atRoot, rootWalk}
 use Rattle.pull.specs.Pull.{lending, lentInShape, contentAnswer}
 use Rattle.bench_sheet.specs.Line.{Line, _is_, Holds, yes}
 
@@ -261,7 +262,7 @@ abbrev other : ℕ → Dentry
 other len = dentry 78 50 len 97
 
 -- the inode number that a search came to without another block, or the answer
-abbrev pub sought : Walk (Outcome ℕ) → ℕ
+abbrev sought : Walk (Outcome ℕ) → ℕ
 sought w = ended (λ ino. ino) (run (record { table = λ n. OutOfRange; block = λ b. [] }) empty w .value)
 
 -- the inode number or the answer that three steps of the search come to; 2 if they come to nothing
@@ -333,7 +334,7 @@ searched level depth = lists (λ ino. 0) (λ n. Entry n 4096) (λ b. choose (eqb
 -- and what the search reads for a hash
 abbrev searchedFor : ℕ → ℕ → ℕ → List ℕ
 searchedFor hash level depth =
-    let d : Directory = record { bounds = main; ino = 3; inode = bigRoot level depth; addresses = 923; dirLevel = level } in
+    let d : Directory = record { bounds = main; ino = 3; inode = bigRoot level depth; addresses = 923; inline = false; dirLevel = level } in
     lists (λ ino. 0) (λ n. Entry n 4096) (λ b. []) (findWalk d (wanted hash (46 ∷ [])) depth)
 
 -- block `index` of a file of 4,097 bytes whose inode number is asked for
@@ -397,6 +398,6 @@ scan-rules = refl
 
 pub pull-rules : Holds pullRules
 unfolding le16 le32 le64 bytesOf placeOf insert run bind onward andThen inMain belongs atBlock atEntry nodeWalk isHole dataWalk followWalk
-    wayWalk blockWalk inodeOf hasInlineData hasInlineDentry hasExtraAttr dataRoom isDirectory isRegular addressesIn isPast countIn atFile fileWalk levelsWalk findWalk atRoot
-    rootWalk lentInShape firstOf bucketOf bucketWalk afterBlock lowBit slotAt slotsFrom hashOf sameAt
+    wayWalk blockWalk inodeOf hasInlineData hasInlineDentry hasExtraAttr dataRoom isDirectory isRegular addressesIn isPast countIn
+    contentWalk atFile fileWalk fetchFrom levelsWalk findWalk searchWalk atRoot rootWalk lentInShape firstOf bucketOf bucketWalk afterBlock lowBit slotAt slotsFrom hashOf sameAt
 pull-rules = refl

@@ -254,7 +254,13 @@ struct Delivered {
 }
 
 // The block buffer filled, unless the walk was stopped.
-fn deliver(image: &[u8], data: node::Data, start: usize, count: usize, buffer: &mut [u8]) -> Delivered
+fn deliver(
+    image: &[u8],
+    data: node::Data,
+    start: usize,
+    count: usize,
+    buffer: &mut [u8],
+) -> Delivered
     requires { ⌜ DataIn (cardOf (now image)) «data» × (start + count ≤ 4096) ⌝ }
     requires { ⌜ length (now buffer) ≡ 4096 ⌝ }
     ensures { λ r. ⌜ (r .answer ≡ answerOf (blockFound (cardOf (now (image .entry))) «data» start count))

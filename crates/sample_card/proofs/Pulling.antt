@@ -19,8 +19,8 @@ use Rattle.node.specs.Node.{inMain, belongs, atBlock, atEntry, nodeWalk}
 use Rattle.node.specs.Block.{hole, held, isHole, dataWalk, wayWalk, blockWalk}
 use Rattle.hash_level.specs.Level.{firstOf, bucketOf}
 use Rattle.dentry.specs.Slot.{wellFormed, matches, slotAt, slotsFrom}
-use Rattle.directory.specs.Find.{afterBlock, bucketWalk, levelsWalk, findWalk}
-use Rattle.pull.specs.Walk.{contentWalk, atFile, fileWalk, searchWalk, atRoot, rootWalk, pullWalk}
+use Rattle.directory.specs.Find.{fetchFrom, afterBlock, bucketWalk, levelsWalk, findWalk, searchWalk}
+use Rattle.pull.specs.Walk.{contentWalk, atFile, fileWalk, atRoot, rootWalk, pullWalk}
 use Rattle.pull.specs.Pull.{pullRun}
 use Rattle.sample_card.specs.Image.{filled, name, missing, inlineName, pack, journal, natBlock, rootInode, fileInode, inlineInode}
 use Rattle.sample_card.specs.Image.{dentryBlock, dataBlock, runs, blockIn, card}
@@ -50,6 +50,6 @@ unfolding
     insert run bind onward andThen
     inMain belongs atBlock atEntry nodeWalk isHole dataWalk wayWalk blockWalk
     firstOf bucketOf wellFormed matches slotAt slotsFrom
-    afterBlock bucketWalk levelsWalk findWalk
-    contentWalk atFile fileWalk searchWalk atRoot rootWalk pullWalk pullRun
+    fetchFrom afterBlock bucketWalk levelsWalk findWalk searchWalk
+    contentWalk atFile fileWalk atRoot rootWalk pullWalk pullRun
 walks = (refl, refl, refl, refl, refl)
