@@ -11,7 +11,7 @@ use Rattle.field.specs.Bytes.{sameAt}
 use Rattle.list.specs.Lists.{bytesOf, insert}
 use Rattle.nat.specs.declared.TableAnswer.the-variants.{OutOfRange, Entry}
 use Rattle.walk.specs.Walk.{empty, run, bind, onward, andThen, Outcome, ok, stop}
-use Rattle.inode.specs.Inode.{inodeOf, hasInlineData, hasInlineDentry, hasExtraAttr, dataRoom, isDirectory, isRegular, addressesIn, isPast, countIn}
+use Rattle.inode.specs.Inode.{inodeOf, hasInlineData, hasInlineDentry, hasExtraAttr, dataRoom, isDirectory, isRegular, levelsIn, dirLevelIn, addressesIn, isPast, countIn}
 use Rattle.node.specs.Node.{inMain, belongs, atBlock, atEntry, nodeWalk}
 use Rattle.dentry.specs.declared.Slot.{Slot}
 use Rattle.dentry.specs.declared.Slot.the-variants.{Free, Match, Other, Malformed}
@@ -19,7 +19,7 @@ use Rattle.dentry.specs.Slot.{inlineLayout, wanted, wellFormed, matches, slotAt
 use Rattle.dentry.specs.Scan.{tallyFrom}
 use Rattle.hash_level.specs.Level.{firstOf, bucketOf}
 use Rattle.name_hash.specs.Hash.{hashOf}
-use Rattle.directory.specs.Find.{fetchFrom, afterBlock, bucketWalk, levelsWalk, findWalk, searchWalk}
+use Rattle.directory.specs.Find.{fetchFrom, afterBlock, bucketWalk, levelsWalk, findWalk}
 use Rattle.pull.specs.Walk.{Block, contentWalk, atFile, fileWalk, atRoot, rootWalk}
 use Rattle.pull.specs.Pull.{contentAnswer, contentBytes}
 use Rattle.bench_sheet.specs.Line.{Line, _is_, Holds, yes}
@@ -107,7 +107,7 @@ inlineRules =
 
 pub inline-rules : Holds inlineRules
 unfolding le16 le32 le64 bytesOf lowBit zerosFrom sameAt insert run bind onward andThen inMain belongs atBlock atEntry nodeWalk
-    inodeOf hasInlineData hasInlineDentry hasExtraAttr dataRoom isDirectory isRegular addressesIn isPast countIn
-    wellFormed matches slotAt slotsFrom tallyFrom fetchFrom afterBlock firstOf bucketOf bucketWalk levelsWalk findWalk searchWalk hashOf
+    inodeOf hasInlineData hasInlineDentry hasExtraAttr dataRoom isDirectory isRegular levelsIn dirLevelIn addressesIn isPast countIn
+    wellFormed matches slotAt slotsFrom tallyFrom fetchFrom afterBlock firstOf bucketOf bucketWalk levelsWalk findWalk hashOf
     contentWalk atFile fileWalk atRoot rootWalk
 inline-rules = refl

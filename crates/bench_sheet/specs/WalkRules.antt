@@ -21,13 +21,13 @@ use Rattle.nat.specs.Entry.{inJournal}
 use Rattle.nat.specs.Table.{inRange, tableAddress, entryIn, inTable, tableAnswer}
 use Rattle.walk.specs.Walk.{Walk, done, Outcome, ok, stop, Ran, empty, run, bind, onward, andThen}
 use Rattle.inode.specs.declared.Inode.{Inode}
-use Rattle.inode.specs.Inode.{inodeOf, hasInlineData, hasInlineDentry, hasExtraAttr, dataRoom, isDirectory, isRegular, addressesIn, isPast, countIn}
+use Rattle.inode.specs.Inode.{inodeOf, hasInlineData, hasInlineDentry, hasExtraAttr, dataRoom, isDirectory, isRegular, levelsIn, dirLevelIn, addressesIn, isPast, countIn}
 use Rattle.node.specs.Node.{Bounds, inMain, belongs, atBlock, atEntry, nodeWalk}
 use Rattle.node.specs.Block.{isHole, dataWalk, followWalk, wayWalk, blockWalk}
 use Rattle.dentry.specs.declared.Layout.{Layout}
 use Rattle.dentry.specs.Slot.{blockLayout, wanted, wellFormed, matches, slotAt, slotsFrom}
 use Rattle.dentry.specs.Scan.{tallyFrom, entriesIn, turnsIn, turnsMost}
-use Rattle.directory.specs.Find.{Directory, afterSlots, fetchFrom, afterBlock, bucketWalk, levelsWalk, findWalk, searchWalk}
+use Rattle.directory.specs.Find.{Directory, afterSlots, fetchFrom, afterBlock, bucketWalk, levelsWalk, findWalk}
 use Rattle.hash_level.specs.Level.{firstOf, bucketOf}
 use Rattle.name_hash.specs.Hash.{hashOf}
 use Rattle.pull.specs.Walk.{Block, contentWalk, atFile, fileWalk, atRoot, rootWalk}
@@ -399,5 +399,5 @@ scan-rules = refl
 pub pull-rules : Holds pullRules
 unfolding le16 le32 le64 bytesOf placeOf insert run bind onward andThen inMain belongs atBlock atEntry nodeWalk isHole dataWalk followWalk
     wayWalk blockWalk inodeOf hasInlineData hasInlineDentry hasExtraAttr dataRoom isDirectory isRegular addressesIn isPast countIn
-    contentWalk atFile fileWalk fetchFrom levelsWalk findWalk searchWalk atRoot rootWalk lentInShape firstOf bucketOf bucketWalk afterBlock lowBit slotAt slotsFrom hashOf sameAt
+    levelsIn dirLevelIn contentWalk atFile fileWalk fetchFrom levelsWalk findWalk atRoot rootWalk lentInShape firstOf bucketOf bucketWalk afterBlock lowBit slotAt slotsFrom hashOf sameAt
 pull-rules = refl

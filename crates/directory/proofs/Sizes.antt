@@ -17,7 +17,7 @@ use Rattle.hash_level.specs.Level.{blocksOf, bucketOf}
 use Rattle.hash_level.specs.Reach.{upTo, inReach}
 use Rattle.hash_level.proofs.Reach.{at-most-58}
 use Rattle.dentry.specs.Slot.{layoutOf, Wanted, Sought, absent, found, malformed, inSlots}
-use Rattle.directory.specs.Find.{Directory, directory, fetchFrom, fetchWalk, afterSlots, afterBlock, bucketWalk, levelsWalk, findWalk, searchWalk}
+use Rattle.directory.specs.Find.{Directory, fetchFrom, fetchWalk, afterSlots, afterBlock, bucketWalk, levelsWalk, findWalk}
 
 module _ (d : Directory) where
   abbrev last : ℕ
@@ -75,7 +75,3 @@ module _ (d : Directory) where
     find-within few depth =
         let most = at-most-58 (d .dirLevel) (w .hash) depth few in
         within-le _ _ (omega arith) (omega arith) (levels-within depth 0)
-
-pub search-within : (d : Directory) (w : Wanted) → d .addresses ≤ 923 → (depth : ℕ) → Small (d .bounds) 174 232 (searchWalk d w depth)
-unfolding searchWalk
-search-within d w few depth = within-choose (d .inline) (find-within _ w few 1) (find-within d w few depth)

@@ -68,11 +68,6 @@ levelsWalk d w (suc n) level = bucketWalk d w level (levelsWalk d w n (level + 1
 unfoldable pub findWalk : Directory → Wanted → ℕ → Walk (Outcome ℕ)
 findWalk d w depth = levelsWalk d w depth 0
 
--- K4: in an inline directory its slots are "scanned at any depth up to 63": it is searched as one of a single level
-unfoldable pub searchWalk : Directory → Wanted → ℕ → Walk (Outcome ℕ)
-searchWalk d w depth =
-    choose (d .inline) (findWalk (directory (d .bounds) (d .ino) (d .inode) (d .addresses) (d .inline) 0) w 1) (findWalk d w depth)
-
 -- the code's answer as the walk's
 abbrev pub entryOf : Entry → Outcome ℕ
 entryOf (Found ino) = ok ino

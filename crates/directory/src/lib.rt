@@ -8,7 +8,7 @@ ghost use Rattle.node.specs.Node.{boundsOf};
 ghost use Rattle.node.specs.Found.{dataOf, DataIn, FileIn};
 ghost use Rattle.hash_level.specs.Table.{IsTable};
 ghost use Rattle.dentry.specs.Slot.{wanted};
-ghost use Rattle.directory.specs.Find.{fetchFrom, directoryOf, findWalk, searchWalk, entryOf};
+ghost use Rattle.directory.specs.Find.{fetchFrom, directoryOf, findWalk, entryOf};
 
 // The inode number in the name's entry, or the answer that ends the walk.
 pub enum Entry {
@@ -129,8 +129,7 @@ fn find_by(
     }
 }
 
-// The same, by what the directory is: an inline one is of a single level, without a directory level. The table is taken once, before
-// the search, which stands once for whichever table it is.
+// The same, by the directory's level. Its table is taken once, before the search, which stands once for whichever table it is.
 pub fn find(
     image: &[u8],
     v: checkpoint::Volume,
@@ -145,32 +144,15 @@ pub fn find(
     name: &[u8],
 ) -> EntryStep
     requires { ⌜ Fits (imageView (now image) v)
-        (searchWalk (directoryOf (cardOf (now image)) v file inline «dir_level») (wanted hash (now name)) depth)
+        (findWalk (directoryOf (cardOf (now image)) v file inline «dir_level») (wanted hash (now name)) depth)
         (lists (now nodes) (now blocks) counts) ⌝ }
     requires { ⌜ VolumeIn (cardOf (now image)) v ⌝ }
     requires { ⌜ FileIn (cardOf (now image)) file × (depth ≤ 63) × («dir_level» < 31) ⌝ }
     ensures { λ r. ⌜ Walked (imageView (now (image .entry)) v)
-        (searchWalk (directoryOf (cardOf (now (image .entry))) v file inline «dir_level») (wanted hash (now (name .entry))) depth)
+        (findWalk (directoryOf (cardOf (now (image .entry))) v file inline «dir_level») (wanted hash (now (name .entry))) depth)
         (lists (now (nodes .entry)) (now (blocks .entry)) counts) (entryOf (r .entry))
         (lists (now (nodes .exit)) (now (blocks .exit)) (r .counts)) ⌝ }
 {
-    if inline {
-        let firsts = hash_level::level_0_blocks();
-        return find_by(
-            image,
-            v,
-            nodes,
-            blocks,
-            counts,
-            file,
-            inline,
-            0,
-            &firsts,
-            1,
-            hash,
-            name,
-        );
-    }
     if dir_level == 0 {
         let firsts = hash_level::level_0_blocks();
         return find_by(

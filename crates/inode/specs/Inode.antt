@@ -58,6 +58,14 @@ isRegular i =
 
 -- ---- how much of it there is
 
+-- "Search levels 0 to depth − 1"; K4: an inline directory's slots are "scanned at any depth up to 63", as one level's
+unfoldable pub levelsIn : Inode → ℕ
+levelsIn i = choose (hasInlineDentry i) 1 (i .depth)
+
+-- which has no buckets, whatever the directory level is
+unfoldable pub dirLevelIn : Inode → ℕ
+dirLevelIn i = choose (hasInlineDentry i) 0 (i .level)
+
 -- "Inline bit 1 set: A = 873 addresses, else A = 923."
 unfoldable pub addressesIn : Inode → ℕ
 addressesIn i = choose (eqb (i .inline % 2) 1) 873 923

@@ -5,7 +5,7 @@ ghost use mathlib.Core.Bool.{false};
 ghost use Prim.Native.Nat.{_≤_};
 ghost use lib.ListN.{length};
 ghost use Rattle.inode.specs.Inode.{inodeOf, hasInlineData, hasInlineDentry, hasExtraAttr, dataRoom, isDirectory, isRegular};
-ghost use Rattle.inode.specs.Inode.{addressesIn, isPast, countIn};
+ghost use Rattle.inode.specs.Inode.{levelsIn, dirLevelIn, addressesIn, isPast, countIn};
 
 // Where contents start that are in the inode itself.
 pub const INLINE_START: usize = 364;
@@ -80,6 +80,26 @@ pub fn is_regular(i: Inode) -> bool
         & !has_inline_dentry(i)
         & !has_extra_attr(i)
         & (!has_inline_data(i) | (i.size <= data_room(i)))
+}
+
+// How many hash levels of a directory are searched.
+pub fn levels_in(i: Inode) -> usize
+    ensures { λ r. ⌜ r ≡ levelsIn i ⌝ }
+{
+    if has_inline_dentry(i) {
+        return 1;
+    }
+    i.depth as usize
+}
+
+// The directory level that they go by.
+pub fn dir_level_in(i: Inode) -> usize
+    ensures { λ r. ⌜ r ≡ dirLevelIn i ⌝ }
+{
+    if has_inline_dentry(i) {
+        return 0;
+    }
+    i.level as usize
 }
 
 pub fn addresses_in(i: Inode) -> u32

@@ -10,7 +10,8 @@ use Rattle.walk.specs.Walk.{View, Walk, done, Outcome, ok, stop, bind, onward, 
 use Rattle.walk.proofs.Reached.{reached-start, reached-then, reached-stop, reached-done, reached-all}
 use Rattle.walk.proofs.Fits.{fits-at}
 use Rattle.inode.specs.declared.Inode.{Inode}
-use Rattle.inode.specs.Inode.{inodeOf, hasInlineData, hasInlineDentry, inlineStart, isDirectory, isRegular, addressesIn, isPast, countIn}
+use Rattle.inode.specs.Inode.{inodeOf, hasInlineData, hasInlineDentry, inlineStart, isDirectory, isRegular}
+use Rattle.inode.specs.Inode.{levelsIn, dirLevelIn, addressesIn, isPast, countIn}
 use Rattle.inode.proofs.DirectoryLevel.{level-refused}
 use Rattle.node.specs.Node.{Bounds}
 use Rattle.node.specs.Block.{Fetched, held, blockWalk}
@@ -19,7 +20,7 @@ use Rattle.node.specs.declared.Data.{Data}
 use Rattle.node.specs.declared.Data.the-variants as d
 use Rattle.name_hash.specs.Hash.{hashOf}
 use Rattle.dentry.specs.Slot.{wanted}
-use Rattle.directory.specs.Find.{directory, searchWalk}
+use Rattle.directory.specs.Find.{directory, findWalk}
 use Rattle.pull.specs.Walk.{rootIno, counted, contentWalk, atFile, atRoot, blockFound}
 
 -- ---- a file, once its inode is read
@@ -67,11 +68,11 @@ module _ (m : Bounds) (name inode : List ℕ) {i : Inode} (read : i ≡ inodeOf 
   unfolding atRoot
   root-empty r z = rw (← read, r, eq-eqb _ _ z)
 
-  pub root-search : (A hash : ℕ) (inline : Bool) → isDirectory i ≡ true → (i .size ≡ 0 → ⊥) → A ≡ addressesIn i → hash ≡ hashOf name
-      → inline ≡ hasInlineDentry i
-      → atRoot m name inode ≡ searchWalk (directory m rootIno inode A inline (i .level)) (wanted hash name) (i .depth)
+  pub root-search : (A hash level depth : ℕ) (inline : Bool) → isDirectory i ≡ true → (i .size ≡ 0 → ⊥) → A ≡ addressesIn i → hash ≡ hashOf name
+      → inline ≡ hasInlineDentry i → level ≡ dirLevelIn i → depth ≡ levelsIn i
+      → atRoot m name inode ≡ findWalk (directory m rootIno inode A inline level) (wanted hash name) depth
   unfolding atRoot
-  root-search A hash inline r z a h l = rw (← read, r, ne-eqb _ _ z, a, h, l)
+  root-search A hash level depth inline r z a h l p q = rw (← read, r, ne-eqb _ _ z, a, h, l, p, q)
 
 -- ---- a data block with its count
 pub counted-walked : (card : Card) (found : Data) (count : ℕ) {v : View} {p : Walk (Outcome Fetched)} {s t : Lists}

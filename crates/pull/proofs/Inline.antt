@@ -19,7 +19,7 @@ use Rattle.place.specs.Place.{lastIndex}
 use Rattle.walk.specs.Walk.{View, imageView, Seen, empty, Walk, done, Ran, ran, run, Outcome, ok, stop}
 use Rattle.walk.proofs.Runs.{run-then}
 use Rattle.inode.specs.Inode.{inodeOf, hasInlineData, hasInlineDentry, inlineStart, isDirectory, isRegular, addressesIn, isPast}
-use Rattle.inode.proofs.Inline.{room-most, inline-fits, inline-first}
+use Rattle.inode.proofs.Inline.{room-most, inline-fits, inline-first, one-level, no-level}
 use Rattle.node.specs.Node.{Bounds, boundsOf, inodeWalk}
 use Rattle.node.specs.Block.{held}
 use Rattle.name_hash.specs.Hash.{hashOf}
@@ -81,7 +81,9 @@ inline-root v m name inode s is own = go (eqb (inodeOf inode .size) 0) refl
     asks-nothing malformed = refl
 
     search : (inodeOf inode .size ≡ 0 → ⊥) → atRoot m name inode ≡ afterSlots (done (stop 2)) (inInode inode (wanted (hashOf name) name))
-    search some = root-search m name inode refl _ _ true is some refl refl (sym own) ∙ inline-search _ _ _ refl
+    search some =
+        let i = inodeOf inode in
+        root-search m name inode refl _ _ 0 1 true is some refl refl (sym own) (sym (no-level i own)) (sym (one-level i own)) ∙ inline-search _ _ refl refl
 
     go : (b : Bool) → eqb (inodeOf inode .size) 0 ≡ b → run v s (atRoot m name inode) .seen ≡ s
     go true e = rw (root-empty m name inode refl is (eqb-true _ _ e))

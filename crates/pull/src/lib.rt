@@ -168,8 +168,8 @@ fn find_from_inode(
         addresses: inode::addresses_in(i),
     };
     let inline = inode::has_inline_dentry(i);
-    let dir_level = i.level as usize;
-    let depth = i.depth as usize;
+    let dir_level = inode::dir_level_in(i);
+    let depth = inode::levels_in(i);
     let hash = name_hash::hash(name);
     directory::find(
         image,

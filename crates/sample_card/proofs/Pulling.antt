@@ -12,14 +12,14 @@ use Rattle.journal.specs.Journal.{searchFrom, journalFind}
 use Rattle.nat.specs.Entry.{inJournal}
 use Rattle.nat.specs.Table.{inRange, tableAddress, entryIn, inTable, tableAnswer}
 use Rattle.inode.specs.Inode.{inodeOf, hasInlineData, hasInlineDentry, hasExtraAttr, inlineStart, dataRoom, isDirectory, isRegular}
-use Rattle.inode.specs.Inode.{addressesIn, isPast, countIn}
+use Rattle.inode.specs.Inode.{levelsIn, dirLevelIn, addressesIn, isPast, countIn}
 use Rattle.list.specs.Lists.{bytesOf, insert}
 use Rattle.walk.specs.Walk.{ran, run, bind, ok, stop, onward, andThen}
 use Rattle.node.specs.Node.{inMain, belongs, atBlock, atEntry, nodeWalk}
 use Rattle.node.specs.Block.{hole, held, isHole, dataWalk, wayWalk, blockWalk}
 use Rattle.hash_level.specs.Level.{firstOf, bucketOf}
 use Rattle.dentry.specs.Slot.{wellFormed, matches, slotAt, slotsFrom}
-use Rattle.directory.specs.Find.{fetchFrom, afterBlock, bucketWalk, levelsWalk, findWalk, searchWalk}
+use Rattle.directory.specs.Find.{fetchFrom, afterBlock, bucketWalk, levelsWalk, findWalk}
 use Rattle.pull.specs.Walk.{contentWalk, atFile, fileWalk, atRoot, rootWalk, pullWalk}
 use Rattle.pull.specs.Pull.{pullRun}
 use Rattle.sample_card.specs.Image.{filled, name, missing, inlineName, pack, journal, natBlock, rootInode, fileInode, inlineInode}
@@ -46,10 +46,10 @@ unfolding
     le16 le32 le64 topBit lowBit sameAt
     halfRound round rounds tea pushAll keyOf absorb hashOf
     placeOf searchFrom journalFind inJournal inRange tableAddress entryIn inTable tableAnswer
-    inodeOf hasInlineData hasInlineDentry hasExtraAttr dataRoom isDirectory isRegular addressesIn isPast countIn
+    inodeOf hasInlineData hasInlineDentry hasExtraAttr dataRoom isDirectory isRegular levelsIn dirLevelIn addressesIn isPast countIn
     insert run bind onward andThen
     inMain belongs atBlock atEntry nodeWalk isHole dataWalk wayWalk blockWalk
     firstOf bucketOf wellFormed matches slotAt slotsFrom
-    fetchFrom afterBlock bucketWalk levelsWalk findWalk searchWalk
+    fetchFrom afterBlock bucketWalk levelsWalk findWalk
     contentWalk atFile fileWalk atRoot rootWalk pullWalk pullRun
 walks = (refl, refl, refl, refl, refl)

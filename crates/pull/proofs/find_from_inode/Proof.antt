@@ -1,18 +1,18 @@
 -- `find_from_inode` meets its contract: each return is a case of `atRoot`.
+use native.Mathlib.Omega.{arith}
 use mathlib.Core.Path.{_≡_, sym, _∙_}
 use mathlib.Core.Bool.{true}
 use borrow.Author.Tests.{not-true, not-false}
 use Rattle.field.specs.Card.{cardOf}
 use Rattle.field.proofs.Blocks.{length-of-block}
 use Rattle.inode.specs.Inode.{inodeOf, isDirectory}
-use Rattle.inode.proofs.Counting.{shallow}
-use Rattle.inode.proofs.DirectoryLevel.{low-level}
+use Rattle.inode.proofs.Inline.{few-levels, has-table}
 use Rattle.walk.specs.Walk.{imageView, lists}
 use Rattle.walk.proofs.Reached.{Reached, reached-start, reached-to, reached-all, reached-done}
 use Rattle.walk.proofs.Fits.{fits-at}
 use Rattle.node.specs.Node.{boundsOf}
 use Rattle.dentry.specs.Slot.{wanted}
-use Rattle.directory.specs.Find.{directory, searchWalk}
+use Rattle.directory.specs.Find.{directory, findWalk}
 use Rattle.pull.specs.Walk.{rootIno, atRoot}
 use Rattle.pull.proofs.Cases.{root-other, root-empty, root-search}
 use borrow.Author.Needs.{needs}
@@ -31,11 +31,18 @@ inode-at k = k .before .before
 abbrev directory-at : tie.Else2 → tie.Else1
 directory-at k = k .before .before
 
-abbrev told-at : tie.After-hash → tie.After-has-inline-dentry
-told-at k = k .before .before .before
+-- what the inode says of its levels, whether it is inline, and how many addresses it holds
+abbrev levels-at : tie.After-hash → tie.After-levels-in
+levels-at k = k .before
+
+abbrev level-at : tie.After-hash → tie.After-dir-level-in
+level-at k = levels-at k .before
+
+abbrev inline-at : tie.After-hash → tie.After-has-inline-dentry
+inline-at k = level-at k .before
 
 abbrev held-at : tie.After-hash → tie.After-addresses-in
-held-at k = told-at k .before
+held-at k = inline-at k .before
 
 abbrev some-at : tie.After-hash → tie.Else2
 some-at k = held-at k .before
@@ -55,16 +62,16 @@ to-search : (k : tie.After-hash) → let a = begun k .args in
     let t = lists (a .nodes .now) (a .blocks .now) (a .counts) in
     let inode = cardOf (a .image .now) .block (a .at) in
     Reached (imageView (a .image .now) (a .v)) (atRoot (boundsOf (a .v)) (a .name .now) inode) t
-    (let i = inode-at (directory-at (some-at k)) .inode-of .result in
-    searchWalk
-    (directory (boundsOf (a .v)) rootIno inode (held-at k .addresses-in .result) (told-at k .has-inline-dentry .result) (i .level))
-    (wanted (k .hash .result) (a .name .now)) (i .depth)) t
+    (let level = level-at k .dir-level-in .result in
+    findWalk
+    (directory (boundsOf (a .v)) rootIno inode (held-at k .addresses-in .result) (inline-at k .has-inline-dentry .result) level)
+    (wanted (k .hash .result) (a .name .now)) (levels-at k .levels-in .result)) t
 to-search k =
     let e = some-at k in
     let d = directory-at e in
     reached-to (reached-start _ _ _)
-    (root-search _ _ _ (read-of (inode-at d)) _ _ _ (is-directory d) (e .if2 .left) (held-at k .addresses-in .ensures .0) (k .hash .ensures)
-    (told-at k .has-inline-dentry .ensures))
+    (root-search _ _ _ (read-of (inode-at d)) _ _ _ _ _ (is-directory d) (e .if2 .left) (held-at k .addresses-in .ensures .0) (k .hash .ensures)
+    (inline-at k .has-inline-dentry .ensures) (level-at k .dir-level-in .ensures) (levels-at k .levels-in .ensures))
 
 -- ---- the needs
 
@@ -94,11 +101,11 @@ addresses-in-requires c κs = search needs
 has-inline-dentry-requires : tie.Need-has-inline-dentry-requires
 has-inline-dentry-requires c κs = search needs
 
-cast-dir-level : tie.Need-cast-dir-level
-cast-dir-level c = search needs
+dir-level-in-requires : tie.Need-dir-level-in-requires
+dir-level-in-requires c κs = search needs
 
-cast-depth : tie.Need-cast-depth
-cast-depth c = search needs
+levels-in-requires : tie.Need-levels-in-requires
+levels-in-requires c κs = search needs
 
 hash-requires : tie.Need-hash-requires
 hash-requires c κs = search needs
@@ -109,7 +116,11 @@ find-requires c κs =
     let known = begun k .pre in
     let few = held-at k .addresses-in .ensures .1 in
     let is = is-directory (directory-at (some-at k)) in
-    (fits-at (known .0) (to-search k), (known .1 .0, ((known .1 .1, few), shallow _ is, low-level _ is)))
+    let levels = few-levels _ is in
+    let table = has-table _ is in
+    let told = levels-at k .levels-in .ensures in
+    let level = level-at k .dir-level-in .ensures in
+    (fits-at (known .0) (to-search k), (known .1 .0, ((known .1 .1, few), omega arith, omega arith)))
 
 same-length : tie.Need-same-length
 same-length c = search needs
@@ -133,8 +144,8 @@ find-from-inode-spec =
     returns-2
     addresses-in-requires
     has-inline-dentry-requires
-    cast-dir-level
-    cast-depth
+    dir-level-in-requires
+    levels-in-requires
     hash-requires
     find-requires
     same-length
