@@ -33,8 +33,8 @@ const struct command commands[] = {
     {"ls", "IMAGE", 1, 1, A_PART | TAKES(JSON),
      "the root directory's names, and what a pull of block 0 answers",
      "List the names in the root directory of the card IMAGE: each file's size in bytes, its name, and\n"
-     "what a pull of its block 0 answers. That is usually 12 for a small or empty file, since it is\n"
-     "inline, and 3 for an empty one that isn't. '.' and '..' are left out.\n",
+     "what a pull of its block 0 answers. That is 3 for an empty file, and 12 for a directory or a link.\n"
+     "'.' and '..' are left out.\n",
      "  0  all names\n"
      "  2  names may be missing, since the directory is damaged, or the card can't be read\n",
      run_ls},

@@ -46,6 +46,8 @@ static void show_block_difference(FILE *out, const struct comparison *c, const s
         fprintf(out, " changed in %s (node %" PRIu32 ", ", owner == NULL ? "a node" : owner, ground->node);
     }
     fprintf(out, "the card's block %" PRIu32 ")", ground->number);
+    if (ground->node != 0)
+        show_inline_entry(out, before, now);
 }
 
 void show_ground(FILE *out, const struct comparison *c, const struct run *run)

@@ -60,7 +60,7 @@ static const struct field footer_fields[] = {
     {NULL, NAMED_ONLY, 0, 0, 0, 0},
 };
 
-enum { SLOT = 4, INLINE_XATTR_BYTES = 200 };
+enum { SLOT = 4 };
 
 /* Two versions of a block, and what of it was shown. */
 struct versions {
@@ -139,6 +139,31 @@ static void show_slots(struct versions *v, size_t from, size_t to, const char *w
     }
 }
 
+/* Where contents end that start at some place and have room up to another: a file's with the longer version of it. */
+static size_t contents_end(const struct versions *v, uint8_t flags, size_t from, size_t to)
+{
+    struct disk_inode before = disk_inode_of(v->before), now = disk_inode_of(v->now);
+    uint64_t len = before.size > now.size ? before.size : now.size;
+    if ((flags & DISK_INLINE_DENTRY) != 0)
+        len = disk_inline_room(&before);
+    return len < to - from ? from + (size_t)len : to;
+}
+
+/* Contents that stand in an inode, behind a slot of no use. */
+static void show_contents(struct versions *v, uint8_t flags, size_t from, size_t to)
+{
+    size_t first = from + SLOT < to ? from + SLOT : to, end = contents_end(v, flags, first, to);
+    if (differs(v, from, first - from))
+        show_name(v, "bytes before the inline contents");
+    if (differs(v, first, end - first))
+        show_name(v, "inline contents");
+    if (differs(v, end, to - end))
+        show_name(v, "bytes behind the inline contents");
+}
+
+/* The flags that say what stands where an inode has its addresses. */
+enum { LAYOUT_FLAGS = DISK_INLINE_XATTR | DISK_INLINE_MARKS | DISK_EXTRA_ATTR };
+
 /* What stands where an inode has its addresses; that is said only if it is of one kind in both. */
 static void show_addresses(struct versions *v, uint8_t flags)
 {
@@ -149,14 +174,14 @@ static void show_addresses(struct versions *v, uint8_t flags)
         from = from % SLOT == 0 && from < to ? from : to;
     }
     if ((flags & DISK_INLINE_XATTR) != 0) {
-        to = from < to - INLINE_XATTR_BYTES ? to - INLINE_XATTR_BYTES : from;
+        to = from < to - DISK_XATTR_BYTES ? to - DISK_XATTR_BYTES : from;
         if (differs(v, to, DISK_NODES - to))
             show_name(v, "inline attributes");
     }
-    if ((flags & (DISK_INLINE_DATA | DISK_INLINE_DENTRY)) == 0)
+    if ((flags & DISK_INLINE_MARKS) == 0)
         show_slots(v, from, to, "address of block");
-    else if (differs(v, from, to - from))
-        show_name(v, "inline contents");
+    else
+        show_contents(v, flags, from, to);
 }
 
 /* Whether a node that is no inode holds node numbers; others hold addresses. */
@@ -168,13 +193,13 @@ static bool is_indirect(uint32_t place)
 void show_node_fields(FILE *out, const uint8_t *before, const uint8_t *now)
 {
     struct versions v = {.out = out, .before = before, .now = now};
-    uint8_t flags = disk_inode_of(before).inline_flags;
+    uint8_t flags = disk_inode_of(before).inline_flags & LAYOUT_FLAGS;
     if (disk_place(before) != 0) {
         const char *what = is_indirect(disk_place(before)) ? "node number in slot" : "address in slot";
         show_slots(&v, 0, DISK_FOOTER_NUMBER, what);
     } else {
         show_fields(&v, inode_fields);
-        if (flags == disk_inode_of(now).inline_flags)
+        if (flags == (disk_inode_of(now).inline_flags & LAYOUT_FLAGS))
             show_addresses(&v, flags);
         show_slots(&v, DISK_NODES, DISK_FOOTER_NUMBER, "node number in slot");
     }
@@ -215,12 +240,12 @@ static bool are_alike(const struct dentry *one, const struct dentry *other)
            (one->name == NULL || memcmp(one->name, other->name, one->len) == 0);
 }
 
-void show_directory_entry(FILE *out, const uint8_t *before, const uint8_t *now)
+/* What became of the first entry that differs. */
+static void show_first_entry(FILE *out, const struct dentries *old, const struct dentries *new)
 {
-    struct dentries old = dentries_of_block(before), new = dentries_of_block(now);
     struct dentry was, is;
     for (uint32_t slot = 0;; slot = was.slot + (was.name == NULL ? 1 : slots_of(was.len))) {
-        bool any_was = dentry_from(&old, slot, &was), any_is = dentry_from(&new, slot, &is);
+        bool any_was = dentry_from(old, slot, &was), any_is = dentry_from(new, slot, &is);
         bool both = any_was && any_is && was.slot == is.slot;
         if (!any_was && !any_is) {
             fputs("bytes of no entry changed", out);
@@ -237,4 +262,29 @@ void show_directory_entry(FILE *out, const uint8_t *before, const uint8_t *now)
         fputc(')', out);
         return;
     }
+}
+
+void show_directory_entry(FILE *out, const uint8_t *before, const uint8_t *now)
+{
+    struct dentries old = dentries_of_block(before), new = dentries_of_block(now);
+    show_first_entry(out, &old, &new);
+}
+
+/* How many bytes of inline entries a node has, if it is such a directory's inode. */
+static size_t entries_len(const uint8_t *block)
+{
+    struct disk_inode inode = disk_inode_of(block);
+    uint8_t marks = inode.inline_flags & (DISK_INLINE_MARKS | DISK_EXTRA_ATTR);
+    bool has = disk_place(block) == 0 && inode.mode >> 12 == DISK_DIRECTORY && marks == DISK_INLINE_DENTRY;
+    return has ? disk_inline_room(&inode) : 0;
+}
+
+void show_inline_entry(FILE *out, const uint8_t *before, const uint8_t *now)
+{
+    struct dentries old = dentries_of_inode(before), new = dentries_of_inode(now);
+    size_t len = entries_len(before);
+    if (len != entries_len(now) || memcmp(old.bytes, new.bytes, len) == 0)
+        return;
+    fputs(": ", out);
+    show_first_entry(out, &old, &new);
 }

@@ -44,6 +44,12 @@ struct disk_inode disk_inode_of(const uint8_t *block)
     };
 }
 
+uint32_t disk_inline_room(const struct disk_inode *inode)
+{
+    bool keeps = (inode->inline_flags & (DISK_INLINE_XATTR | DISK_INLINE_DENTRY)) != 0;
+    return DISK_NODES - DISK_INLINE_AT - (keeps ? DISK_XATTR_BYTES : 0);
+}
+
 uint32_t disk_place(const uint8_t *block)
 {
     return disk32(block + DISK_FOOTER_FLAG) >> 3;

@@ -42,9 +42,11 @@ enum {
     DISK_INLINE_DENTRY = 0x04,
     DISK_EXTRA_ATTR = 0x20,
     DISK_ADVISE_ENCRYPT = 0x04,
-    DISK_FLAG_COMPRESSED = 0x04,
-    DISK_KINDS_NOT_READ = DISK_INLINE_DATA | DISK_INLINE_DENTRY | DISK_EXTRA_ATTR
+    DISK_FLAG_COMPRESSED = 0x04
 };
+
+/* The marks of inodes that have their contents in themselves: a file's bytes, or a directory's entries. */
+enum { DISK_INLINE_MARKS = DISK_INLINE_DATA | DISK_INLINE_DENTRY };
 
 /* The kinds that are read, by a mode's top four bits, and the most depth and level of a directory that is. */
 enum { DISK_DIRECTORY = 4, DISK_REGULAR = 8, DISK_MOST_DEPTH = 63, DISK_MOST_DIR_LEVEL = 30 };
@@ -52,10 +54,16 @@ enum { DISK_DIRECTORY = 4, DISK_REGULAR = 8, DISK_MOST_DEPTH = 63, DISK_MOST_DIR
 /* Where an inode has its addresses and its five node numbers. */
 enum { DISK_ADDRESSES = 360, DISK_NODES = 4052 };
 
+/* Inline contents start behind the first address. The last 50 are kept for inline attributes, by a directory always. */
+enum { DISK_INLINE_AT = DISK_ADDRESSES + 4, DISK_XATTR_BYTES = 4 * 50 };
+
 /* Where every node block has its number, its inode's and, eight times, its place. */
 enum { DISK_FOOTER_NUMBER = 4072, DISK_FOOTER_INODE = 4076, DISK_FOOTER_FLAG = 4080 };
 
 struct disk_inode disk_inode_of(const uint8_t *block);
+
+/* How many bytes an inode has room for, if its contents are inline. */
+uint32_t disk_inline_room(const struct disk_inode *inode);
 
 /* A node's place in its file, 0 for the inode. */
 uint32_t disk_place(const uint8_t *block);

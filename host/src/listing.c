@@ -75,7 +75,7 @@ static void list_entries(struct listing *listing, const struct dentries *dentrie
     struct dentry dentry;
     for (uint32_t slot = 0; dentry_from(dentries, slot, &dentry); slot = dentry.slot + slots_of(dentry.len)) {
         if (dentry.name == NULL) {
-            listing->walk.stop = malformed_at(&dentry, address, index);
+            listing->walk.stop = malformed_at(dentries, &dentry, address, index);
             add_stop(listing);
             return;
         }
@@ -141,7 +141,7 @@ static void list_node(struct listing *listing, uint32_t number, uint32_t place, 
     }
 }
 
-/* Every block of the root directory, whatever its size, its depth and its directory level are. */
+/* Every block of the root directory. */
 static void list_blocks(struct listing *listing, const uint8_t *root)
 {
     static const uint32_t heights[INODE_NODES] = {1, 1, 2, 2, 3};
@@ -157,6 +157,7 @@ static void list_blocks(struct listing *listing, const uint8_t *root)
     }
 }
 
+/* The root directory, whatever its size, its depth and its directory level are. */
 static void list_root(struct listing *listing)
 {
     const uint8_t *root = walk_node(&listing->walk, DISK_ROOT, DISK_ROOT, 0);
@@ -165,14 +166,13 @@ static void list_root(struct listing *listing)
         return;
     }
     struct disk_inode inode = disk_inode_of(root);
-    uint32_t address = listing->walk.stop.address;
-    uint8_t marks = inode.inline_flags & DISK_KINDS_NOT_READ;
-    if (inode.mode >> 12 != DISK_DIRECTORY || (marks != 0 && marks != DISK_INLINE_DENTRY)) {
+    enum unread why = unread_by(&inode, true);
+    if (why == UNREAD_KIND || why == UNREAD_MARKS) {
         listing->walk.stop.answer = HARPTIMBER_KIND_NOT_READ;
         add_stop(listing);
-    } else if (marks == DISK_INLINE_DENTRY) {
+    } else if (is_inline(&inode)) {
         struct dentries dentries = dentries_of_inode(root);
-        list_entries(listing, &dentries, address, 0);
+        list_entries(listing, &dentries, listing->walk.stop.address, 0);
     } else {
         list_blocks(listing, root);
     }

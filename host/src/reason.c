@@ -75,63 +75,75 @@ static void show_foreign(FILE *out, const struct stop *stop, const struct card *
         }
 }
 
-/* What an inode of the right kind has that keeps it from being read. */
-static void show_marks(FILE *out, const struct disk_inode *inode, bool is_root)
+/* The inline marks of an inode with both, or with the other kind's; null if they are right. */
+static const char *words_on_marks(const struct disk_inode *inode)
 {
-    const struct {
-        bool is_set;
-        const char *words;
-    } marks[] = {
-        {(inode->inline_flags & DISK_INLINE_DENTRY) != 0,
-         is_root ? "its entries are inline" : "it is marked as an inline directory"},
-        {(inode->inline_flags & DISK_INLINE_DATA) != 0,
-         is_root ? "it is marked as an inline file" : "its bytes are inline; small and empty files usually are inline"},
-        {(inode->inline_flags & DISK_EXTRA_ATTR) != 0, "its inode has extra attributes"},
-        {(inode->advise & DISK_ADVISE_ENCRYPT) != 0, "it is encrypted"},
-        {(inode->flags & DISK_FLAG_COMPRESSED) != 0, "it is compressed"},
+    bool is_directory = inode->mode >> 12 == DISK_DIRECTORY;
+    uint8_t marks = inode->inline_flags & DISK_INLINE_MARKS;
+    if (marks == DISK_INLINE_MARKS)
+        return "it is marked as an inline file (inline data) and as an inline directory (inline dentry)";
+    if (marks == DISK_INLINE_DATA && is_directory)
+        return "it is marked as an inline file (inline data)";
+    return marks == DISK_INLINE_DENTRY && !is_directory ? "it is marked as an inline directory (inline dentry)" : NULL;
+}
+
+/* What an inode of the right kind is marked with that keeps it from being read. */
+static void show_marks(FILE *out, const struct disk_inode *inode)
+{
+    const char *const marks[] = {
+        words_on_marks(inode),
+        (inode->inline_flags & DISK_EXTRA_ATTR) != 0 ? "its inode has extra attributes" : NULL,
+        (inode->advise & DISK_ADVISE_ENCRYPT) != 0 ? "it is encrypted" : NULL,
+        (inode->flags & DISK_FLAG_COMPRESSED) != 0 ? "it is compressed" : NULL,
     };
     const char *between = "";
     for (size_t i = 0; i < sizeof marks / sizeof *marks; i++)
-        if (marks[i].is_set) {
-            fprintf(out, "%s%s", between, marks[i].words);
+        if (marks[i] != NULL) {
+            fprintf(out, "%s%s", between, marks[i]);
             between = "; ";
         }
 }
 
-static void show_file_kind(FILE *out, const struct disk_inode *inode)
+/* Contents that are inline, and more than there is room for. */
+static void show_size_and_room(FILE *out, const struct disk_inode *inode)
 {
-    if (inode->mode >> 12 != DISK_REGULAR)
-        fprintf(out, "it is a %s", kind_of(inode->mode));
-    else
-        show_marks(out, inode, false);
+    fputs("it is inline, but its size is ", out);
+    show_count(out, inode->size, "byte");
+    fputs(", over the ", out);
+    show_number(out, disk_inline_room(inode));
+    fputs(" that its inode has room for", out);
 }
 
-static void show_root_kind(FILE *out, const struct disk_inode *inode)
+static void show_unread(FILE *out, const struct disk_inode *inode, enum unread why)
 {
-    fputs("the root directory isn't read: ", out);
-    if (inode->mode >> 12 != DISK_DIRECTORY)
+    if (why == UNREAD_KIND)
         fprintf(out, "it is a %s", kind_of(inode->mode));
-    else if ((inode->inline_flags & DISK_KINDS_NOT_READ) != 0)
-        show_marks(out, inode, true);
-    else if (inode->depth > DISK_MOST_DEPTH)
+    else if (why == UNREAD_MARKS)
+        show_marks(out, inode);
+    else if (why == UNREAD_SIZE)
+        show_size_and_room(out, inode);
+    else if (why == UNREAD_DEPTH)
         fprintf(out, "its depth is %" PRIu32 ", over %d", inode->depth, DISK_MOST_DEPTH);
-    else
+    else if (why == UNREAD_LEVEL)
         fprintf(out, "its directory level is %u, over %d", (unsigned)inode->dir_level, DISK_MOST_DIR_LEVEL);
 }
 
 static void show_kind(FILE *out, const struct stop *stop, const struct card *card)
 {
     struct disk_inode inode = disk_inode_of(disk_block(card, stop->address));
-    if (stop->in_root)
-        show_root_kind(out, &inode);
-    else
-        show_file_kind(out, &inode);
+    fputs(stop->in_root ? "the root directory isn't read: " : "", out);
+    show_unread(out, &inode, unread_by(&inode, stop->in_root));
 }
 
 static void show_malformed(FILE *out, const struct stop *stop)
 {
-    fprintf(out, "slot %" PRIu32 " of the card's block %" PRIu32 " (block %" PRIu32 " of the root directory) has a name of ",
-            stop->slot, stop->address, stop->index);
+    if (stop->is_inline)
+        fprintf(out, "inline slot %" PRIu32 " of the card's block %" PRIu32 " (the root directory's inode)", stop->slot,
+                stop->address);
+    else
+        fprintf(out, "slot %" PRIu32 " of the card's block %" PRIu32 " (block %" PRIu32 " of the root directory)", stop->slot,
+                stop->address, stop->index);
+    fputs(" has a name of ", out);
     show_count(out, stop->len, "byte");
 }
 

@@ -74,6 +74,26 @@ struct step step_of(const struct harptimber_place *place, uint32_t i)
     return way[i];
 }
 
+bool is_inline(const struct disk_inode *inode)
+{
+    return (inode->inline_flags & DISK_INLINE_MARKS) != 0;
+}
+
+/* Only a directory has inline entries, only a file inline data. A file's depth and level aren't asked for. */
+enum unread unread_by(const struct disk_inode *inode, bool is_root)
+{
+    uint8_t other_mark = is_root ? DISK_INLINE_DATA : DISK_INLINE_DENTRY;
+    if (inode->mode >> 12 != (is_root ? DISK_DIRECTORY : DISK_REGULAR))
+        return UNREAD_KIND;
+    if ((inode->inline_flags & (other_mark | DISK_EXTRA_ATTR)) != 0)
+        return UNREAD_MARKS;
+    if (is_inline(inode) && inode->size > disk_inline_room(inode))
+        return UNREAD_SIZE;
+    if (is_root && inode->depth > DISK_MOST_DEPTH)
+        return UNREAD_DEPTH;
+    return is_root && inode->dir_level > DISK_MOST_DIR_LEVEL ? UNREAD_LEVEL : UNREAD_NOT;
+}
+
 uint32_t addresses_of(const uint8_t *inode)
 {
     return (disk_inode_of(inode).inline_flags & DISK_INLINE_XATTR) != 0 ? 873 : 923;
@@ -118,12 +138,15 @@ struct dentries dentries_of_block(const uint8_t *block)
     return (struct dentries){.bytes = block, .slots = 214, .entries_at = 30, .names_at = 2384};
 }
 
-/* Behind the first address, and with room for 50 more kept free at the end: 23 bytes of map, 7 reserved, then as in a block. */
+/* 23 bytes of map and 7 reserved, then as in a block. */
 struct dentries dentries_of_inode(const uint8_t *block)
 {
     enum { SLOTS = 182 };
-    return (struct dentries){
-        .bytes = block + DISK_ADDRESSES + 4, .slots = SLOTS, .entries_at = 30, .names_at = 30 + SLOTS * ENTRY_BYTES};
+    return (struct dentries){.bytes = block + DISK_INLINE_AT,
+                             .is_inline = true,
+                             .slots = SLOTS,
+                             .entries_at = 30,
+                             .names_at = 30 + SLOTS * ENTRY_BYTES};
 }
 
 bool dentry_from(const struct dentries *dentries, uint32_t slot, struct dentry *dentry)
@@ -140,13 +163,14 @@ bool dentry_from(const struct dentries *dentries, uint32_t slot, struct dentry *
     return true;
 }
 
-struct stop malformed_at(const struct dentry *dentry, uint32_t address, uint32_t index)
+struct stop malformed_at(const struct dentries *dentries, const struct dentry *dentry, uint32_t address, uint32_t index)
 {
     return (struct stop){
         .answer = HARPTIMBER_MALFORMED_SLOT,
         .in_root = true,
         .index = index,
         .address = address,
+        .is_inline = dentries->is_inline,
         .slot = dentry->slot,
         .len = dentry->len,
     };
@@ -159,14 +183,15 @@ struct sought {
     uint32_t hash;
 };
 
-/* Seeks a name in a block of the root directory. Returns whether the search is over: found, or stopped. */
-static bool seek_in_block(struct walk *walk, const struct sought *sought, const uint8_t *block, uint32_t index, uint32_t *inode)
+/* Seeks a name among entries of the root directory. Returns whether the search is over: found, or stopped. */
+static bool seek_among(struct walk *walk, const struct sought *sought, const struct dentries *dentries, uint32_t index,
+                       uint32_t *inode)
 {
-    struct dentries dentries = dentries_of_block(block);
     struct dentry dentry;
-    for (uint32_t slot = 0; dentry_from(&dentries, slot, &dentry); slot = dentry.slot + slots_of(dentry.len)) {
+    for (uint32_t slot = 0; dentry_from(dentries, slot, &dentry); slot = dentry.slot + slots_of(dentry.len)) {
         if (dentry.name == NULL) {
-            walk->stop = malformed_at(&dentry, (uint32_t)((size_t)(block - walk->card->bytes) / BLOCK_SIZE), index);
+            size_t at = (size_t)(dentries->bytes - walk->card->bytes);
+            walk->stop = malformed_at(dentries, &dentry, (uint32_t)(at / BLOCK_SIZE), index);
             return true;
         }
         *inode = dentry.inode;
@@ -174,6 +199,19 @@ static bool seek_in_block(struct walk *walk, const struct sought *sought, const 
             return true;
     }
     return false;
+}
+
+static bool seek_in_block(struct walk *walk, const struct sought *sought, const uint8_t *block, uint32_t index, uint32_t *inode)
+{
+    struct dentries dentries = dentries_of_block(block);
+    return seek_among(walk, sought, &dentries, index, inode);
+}
+
+/* Inline entries are looked at once, whatever the depth and the directory level are. */
+static bool seek_in_inode(struct walk *walk, const struct sought *sought, const uint8_t *root, uint32_t *inode)
+{
+    struct dentries dentries = dentries_of_inode(root);
+    return seek_among(walk, sought, &dentries, 0, inode);
 }
 
 /* Seeks a name in the bucket with this first block. Returns whether the search is over. Past the last index there is no block. */
@@ -189,24 +227,33 @@ static bool seek_in_bucket(struct walk *walk, const struct sought *sought, const
 }
 
 /*
- * Seeks a name by the hash levels of the root directory; false where the walk stops. The first has 2^(directory level) buckets, and
- * each later one twice as many as the one before, up to 2^30. None in reach needs that limit: unless it is the first, at least as
- * many blocks lie before it as it has buckets, and a directory's last block is below 2^30. How many are in reach depends on
+ * Seeks a name by the hash levels of the root directory. Returns whether the search is over. The first has 2^(directory level)
+ * buckets, and each later one twice as many as the one before, up to 2^30. None in reach needs that limit: unless it is the first, at
+ * least as many blocks lie before it as it has buckets, and a directory's last block is below 2^30. How many are in reach depends on
  * the directory level, so that each one's first block is asked.
  */
-static bool seek(struct walk *walk, const struct sought *sought, const uint8_t *root, uint32_t *inode)
+static bool seek_in_levels(struct walk *walk, const struct sought *sought, const uint8_t *root, uint32_t *inode)
 {
     struct disk_inode directory = disk_inode_of(root);
-    uint32_t levels = directory.size == 0 ? 0 : directory.depth;
     uint64_t first = 0, buckets = (uint64_t)1 << directory.dir_level;
-    for (uint32_t n = 0; n < levels && first <= last_index_of(root); n++) {
+    for (uint32_t n = 0; n < directory.depth && first <= last_index_of(root); n++) {
         if (seek_in_bucket(walk, sought, root, first + BUCKET_BLOCKS * (sought->hash % buckets), inode))
-            return walk->stop.answer == HARPTIMBER_DATA;
+            return true;
         first += BUCKET_BLOCKS * buckets;
         buckets *= 2;
     }
-    walk->stop.answer = HARPTIMBER_NO_NAME;
     return false;
+}
+
+/* Seeks a name in the root directory; false where the walk stops. */
+static bool seek(struct walk *walk, const struct sought *sought, const uint8_t *root, uint32_t *inode)
+{
+    struct disk_inode directory = disk_inode_of(root);
+    bool over = directory.size != 0 &&
+                (is_inline(&directory) ? seek_in_inode : seek_in_levels)(walk, sought, root, inode);
+    if (!over)
+        walk->stop.answer = HARPTIMBER_NO_NAME;
+    return walk->stop.answer == HARPTIMBER_DATA;
 }
 
 /* An inode of a kind that is read; null where the walk stops. */
@@ -216,13 +263,20 @@ static const uint8_t *read_inode(struct walk *walk, uint32_t number)
     if (block == NULL)
         return NULL;
     struct disk_inode inode = disk_inode_of(block);
-    bool is_root = walk->stop.in_root;
-    bool kind = inode.mode >> 12 == (is_root ? DISK_DIRECTORY : DISK_REGULAR) &&
-                (inode.inline_flags & DISK_KINDS_NOT_READ) == 0;
-    if (kind && !(is_root && (inode.depth > DISK_MOST_DEPTH || inode.dir_level > DISK_MOST_DIR_LEVEL)))
+    if (unread_by(&inode, walk->stop.in_root) == UNREAD_NOT)
         return block;
     walk->stop.answer = HARPTIMBER_KIND_NOT_READ;
     return NULL;
+}
+
+/* Walks on from a file's inode. Its inline bytes are there already. */
+static void walk_file(struct walk *walk, uint32_t number, const uint8_t *block, uint32_t index)
+{
+    struct disk_inode inode = disk_inode_of(block);
+    if (is_past_end(block, index))
+        walk->stop.answer = HARPTIMBER_PAST_END;
+    else if (!is_inline(&inode))
+        file_block(walk, number, block, index);
 }
 
 struct stop walk_pull(const struct card *card, const uint8_t *name, size_t len, uint32_t index)
@@ -235,9 +289,7 @@ struct stop walk_pull(const struct card *card, const uint8_t *name, size_t len, 
         return walk.stop;
     walk.stop.in_root = false;
     inode = read_inode(&walk, number);
-    if (inode != NULL && is_past_end(inode, index))
-        walk.stop.answer = HARPTIMBER_PAST_END;
-    else if (inode != NULL)
-        file_block(&walk, number, inode, index);
+    if (inode != NULL)
+        walk_file(&walk, number, inode, index);
     return walk.stop;
 }

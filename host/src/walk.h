@@ -15,6 +15,7 @@ struct stop {
     uint32_t inode, place;
     uint32_t index;   /* 13, 14: which block of the file or of the directory */
     uint32_t address; /* 10, 11, 13, 14: the card's block that this was to be in, or is in */
+    bool is_inline;   /* 14: that block is the directory's inode, and none by an index */
     uint32_t slot;    /* 14: of the entry, and how many bytes its name has */
     uint32_t len;
 };
@@ -40,6 +41,13 @@ struct stop walk_pull(const struct card *card, const uint8_t *name, size_t len, 
 /* How many addresses, or numbers of nodes, a node has that is no inode. */
 enum { NODE_SLOTS = 1018 };
 
+/* What keeps an inode from being read, as the root's or as a file's: the first of these. */
+enum unread { UNREAD_NOT, UNREAD_KIND, UNREAD_MARKS, UNREAD_SIZE, UNREAD_DEPTH, UNREAD_LEVEL };
+enum unread unread_by(const struct disk_inode *inode, bool is_root);
+
+/* Whether an inode has its contents in itself. */
+bool is_inline(const struct disk_inode *inode);
+
 /* How many addresses an inode holds. */
 uint32_t addresses_of(const uint8_t *inode);
 
@@ -56,6 +64,7 @@ struct step step_of(const struct harptimber_place *place, uint32_t i);
 /* Directory entries: those of a block, or those that stand in an inode. */
 struct dentries {
     const uint8_t *bytes;
+    bool is_inline;
     uint32_t slots;
     size_t entries_at, names_at;
 };
@@ -74,7 +83,7 @@ bool dentry_from(const struct dentries *dentries, uint32_t slot, struct dentry *
 /* How many slots a name needs. */
 uint32_t slots_of(uint32_t len);
 
-/* A stop at a malformed entry, in this block of the card, which is this one of the root directory. */
-struct stop malformed_at(const struct dentry *dentry, uint32_t address, uint32_t index);
+/* A stop at a malformed entry of these, in this block of the card, which is this one of the root directory, or its inode. */
+struct stop malformed_at(const struct dentries *dentries, const struct dentry *dentry, uint32_t address, uint32_t index);
 
 #endif
