@@ -42,9 +42,9 @@ extern "C" {
 
 /* The version of this header, and of the library that is installed with it. */
 #define HARPTIMBER_VERSION_MAJOR 0
-#define HARPTIMBER_VERSION_MINOR 6
-#define HARPTIMBER_VERSION_PATCH 1
-#define HARPTIMBER_VERSION "0.6.1"
+#define HARPTIMBER_VERSION_MINOR 7
+#define HARPTIMBER_VERSION_PATCH 0
+#define HARPTIMBER_VERSION "0.7.0"
 
 enum {
     /* Of what is asked: a card's blocks, and a name's bytes. */
@@ -97,10 +97,16 @@ enum harptimber_answer {
     /*
      * The root directory's inode or the file's isn't read. Behind it is at least one of these:
      *   - the root isn't a directory, or what the name leads to isn't a regular file;
-     *   - the inode's inline flags have 2, 4 or 20 hex: inline data, inline entries or extra attributes;
+     *   - the inode's inline flags have 20 hex, extra attributes;
+     *   - the root's inline flags have 2, inline data, or the file's have 4, inline dentry: the mark of the other kind,
+     *     alone or with its own;
+     *   - the root's have 4, and its size is over 3,488 bytes;
+     *   - the file's have 2, and its size is over 3,488 bytes if they have 1 too, inline attributes, and over 3,688 if not;
      *   - the root directory's depth is over 63;
      *   - its directory level (i_dir_level) is over 30. Up to 30, names are sought where that level puts them. A file's
      *     own level isn't asked for.
+     * A file with inline data is read otherwise, and a root with inline entries is searched, slot by slot whatever its depth
+     * and level are. No other inline flag is asked for.
      */
     HARPTIMBER_KIND_NOT_READ = 12,
     HARPTIMBER_DATA_OUTSIDE = 13,
@@ -127,7 +133,7 @@ static inline const char *harptimber_answer_words(uint32_t answer)
         /* 11 */ "a node block belongs elsewhere",
         /* 12 */ "an inode of a kind that isn't read",
         /* 13 */ "a data address lies outside the main area",
-        /* 14 */ "a directory entry doesn't fit its block",
+        /* 14 */ "a directory entry is malformed",
         /* 15 */ "same",
         /* 16 */ "changed"};
     return answer < sizeof words / sizeof *words ? words[answer] : "unknown";
@@ -211,6 +217,9 @@ struct harptimber_pulled {
  * and left untouched by every other answer. With 4 to 8 the lists are untouched and their counts are 0;
  * otherwise the node list holds the node numbers that were looked up, and the block list the main-area
  * blocks that were read, each once, rising, and entries behind the counts are untouched.
+ *
+ * An inline file has its bytes in its inode: they are block 0, which is data and never a hole, and of the
+ * file only the inode is listed, its number and its block. So is an inline root directory.
  */
 struct harptimber_pulled harptimber_pull(const uint8_t *image, size_t image_len, const uint8_t *name,
                                          size_t name_len, uint32_t index, uint8_t *block,
@@ -251,8 +260,9 @@ struct harptimber_compared {
  * Lists that a version before 0.3.0 left may be of another checkpoint than the one that is read now,
  * where versions have wrapped. `harptimber info` tells of which images: pull from those again.
  *
- * Before 0.6.0 a root directory with any directory level was answered with 12. By the lists of such a pull
- * HARPTIMBER_SAME says nothing of what a pull answers now: where 12 was kept, pull again.
+ * Before 0.6.0 a root directory with any directory level was answered with 12, before 0.7.0 an inline root
+ * directory and an inline file. By the lists of such a pull HARPTIMBER_SAME says nothing of what a pull
+ * answers now: where 12 was kept, pull again.
  *
  * 4 is answered, first, for an image's length; and, once both images are opened, where the node list is
  * empty, a list isn't strictly rising, a count exceeds its slice, or a listed block lies outside the
