@@ -13,13 +13,14 @@ use crate::cards::card::Card;
 use crate::cards::directory::{Dentry, DirLevel};
 use crate::cards::image::Image;
 use crate::cards::knobs::{Knobs, Pack};
-use crate::cards::layout::inode::{ADDRESSES, INLINE_DATA, I_MODE, S_IFDIR};
+use crate::cards::layout::inode::{ADDRESSES, INLINE_DENTRY, INLINE_XATTR, I_MODE, S_IFDIR};
 use crate::cards::layout::nat::MAP_BYTES_PER_SEGMENT;
 use crate::cards::layout::sit::SitEntry;
 use crate::cards::layout::{footer, BLOCK_SIZE, SEGMENT_BLOCKS};
 use crate::cards::on_disk::{OnDisk, Shared};
 use crate::cards::one_file::small_knobs;
 use crate::cards::random::shuffle;
+use crate::program::inline::{self, put_inline, CONTENTS, ROOM, ROOM_BESIDE_XATTR};
 use crate::trial::Random;
 
 pub const ROAD: &[u8] = b"road.bin";
@@ -30,6 +31,15 @@ pub const LONG: &[u8] = b"long";
 pub const REPEATING: &[u8] = b"repeating";
 /// Its third block has an address outside the main area.
 pub const OUTSIDE: &[u8] = b"outside";
+/// Inline, of 100 bytes; as long as there is room, beside attributes too; and empty.
+pub const INLINE: &[u8] = b"inline";
+pub const FULL: &[u8] = b"inline, full";
+pub const FULL_BESIDE_XATTR: &[u8] = b"inline, full beside attributes";
+pub const INLINE_EMPTY: &[u8] = b"inline, empty";
+/// One byte longer than there is room, and the same beside attributes; and marked as an inline directory.
+pub const TOO_LONG: &[u8] = b"inline, too long";
+pub const TOO_LONG_BESIDE_XATTR: &[u8] = b"inline, too long beside attributes";
+pub const MARKED: &[u8] = b"marked";
 
 /// Other names of the road, some of which JSON can't have as they are.
 pub const NAMES: [&[u8]; 9] = [
@@ -56,6 +66,8 @@ pub struct Put {
     pub size: u64,
     /// By index; what is missing is a hole.
     pub blocks: BTreeMap<u32, u32>,
+    /// The inode's block, if that has the file's bytes.
+    pub inline: Option<u32>,
 }
 
 impl Put {
@@ -63,10 +75,19 @@ impl Put {
         self.size.div_ceil(BLOCK_SIZE as u64) as u32
     }
 
+    /// How many of its blocks are holes.
+    pub fn hole_count(&self) -> u32 {
+        match self.inline {
+            Some(_) => 0,
+            None => self.block_count() - self.blocks.len() as u32,
+        }
+    }
+
     /// The bytes of a block that are the file's.
     pub fn block(&self, image: &Image, index: u32) -> Vec<u8> {
         let block = self.blocks.get(&index).map(|&block| image.block(block));
-        let mut bytes = block.map_or(vec![0; BLOCK_SIZE], <[u8]>::to_vec);
+        let inline = self.inline.map(|inode| &image.block(inode)[CONTENTS..]);
+        let mut bytes = inline.or(block).map_or(vec![0; BLOCK_SIZE], <[u8]>::to_vec);
         let rest = self.size - u64::from(index) * BLOCK_SIZE as u64;
         bytes.truncate(rest as usize);
         bytes
@@ -103,6 +124,16 @@ impl ProgramCard {
         let knobs = with_sit(small_knobs(&mut random));
         let segments = 0..knobs.main_segments;
         ProgramCard::on(Card::new(knobs, random), segments, level)
+    }
+
+    /// The same with an inline root directory, without the malformed slot: that would end each search that comes to it.
+    pub fn in_inline_root(flags: u64) -> ProgramCard {
+        let mut built = ProgramCard::build();
+        inline::move_entries(&mut built.card, flags);
+        built.card.image.settle("an inline root directory");
+        built.refused.retain(|(.., answer)| *answer != 14);
+        built.disk = OnDisk::new(built.card.image.clone());
+        built
     }
 
     /// The same on a card of the most blocks: all that its files have is in its last two segments, with the root's inode in
@@ -161,7 +192,9 @@ impl ProgramCard {
     pub fn calls(&self) -> Vec<(Vec<u8>, u32)> {
         let road = (0..=7).chain([u32::MAX]).map(|index| (ROAD, index));
         let long = [0, 1, 922, 923, 924, 925, 926].map(|index| (LONG, index));
-        let found = road.chain(long).chain([(EMPTY, 0)]);
+        let inline = [(INLINE, 0), (INLINE, 1), (FULL, 0), (FULL_BESIDE_XATTR, 0)];
+        let empty = [EMPTY, INLINE_EMPTY].map(|name| (name, 0));
+        let found = road.chain(long).chain(inline).chain(empty);
         let found = found.map(|(name, index)| (name.to_vec(), index));
         let named = NAMES.map(|name| (name.to_vec(), 0));
         let refused = self
@@ -203,6 +236,7 @@ pub fn put(card: &mut Card, name: &[u8], size: u64, data: &[u32]) -> Put {
         ino,
         size,
         blocks,
+        inline: None,
     }
 }
 
@@ -235,6 +269,15 @@ fn readable(card: &mut Card) -> Vec<Put> {
         put(card, EMPTY, 0, &[]),
         put(card, LONG, 926 * block - 3, &[0, 1, 922, 923, 925]),
         put(card, &longest, block, &[0]),
+        put_inline(card, INLINE, 0, 100),
+        put_inline(card, FULL, 0, ROOM as u64),
+        put_inline(
+            card,
+            FULL_BESIDE_XATTR,
+            INLINE_XATTR,
+            ROOM_BESIDE_XATTR as u64,
+        ),
+        put_inline(card, INLINE_EMPTY, 0, 0),
     ];
     files.push(put_repeating(card));
     for name in NAMES {
@@ -264,25 +307,30 @@ fn unreadable(card: &mut Card) -> (Put, Vec<Refused>) {
     card.set_entry(far.nid, 0, behind_main);
     let foreign = of_a_node(card, "foreign node");
     card.image.set(foreign.block, footer::NID, 77);
-    let ino = card.add_file(INLINE_DATA, 100);
-    card.link(0, 0, &Dentry::new(b"inline", ino));
+    put_inline(card, TOO_LONG, 0, ROOM as u64 + 1);
+    let size = ROOM_BESIDE_XATTR as u64 + 1;
+    put_inline(card, TOO_LONG_BESIDE_XATTR, INLINE_XATTR, size);
+    let marked = card.add_file(INLINE_DENTRY, 100);
+    card.link(0, 0, &Dentry::new(MARKED, marked));
     let folder = put(card, b"folder", 100, &[0]);
     let inode = card.inode_block(folder.ino);
     card.image.set(inode, I_MODE, S_IFDIR | 0o755);
     card.link(0, 0, &Dentry::new(b"no inode", 0));
     let [missing, malformed] = malformed_level(card);
-    let refused = [
-        (missing.as_str(), 0, 2),
-        ("unused node", ADDRESSES, 9),
-        ("no inode", 0, 9),
-        ("far node", ADDRESSES, 10),
-        ("foreign node", ADDRESSES, 11),
-        ("inline", 0, 12),
-        ("folder", 0, 12),
-        ("outside", 2, 13),
-        (malformed.as_str(), 0, 14),
+    let refused: [(&[u8], u32, u32); 11] = [
+        (missing.as_bytes(), 0, 2),
+        (b"unused node", ADDRESSES, 9),
+        (b"no inode", 0, 9),
+        (b"far node", ADDRESSES, 10),
+        (b"foreign node", ADDRESSES, 11),
+        (TOO_LONG, 0, 12),
+        (TOO_LONG_BESIDE_XATTR, 0, 12),
+        (MARKED, 0, 12),
+        (b"folder", 0, 12),
+        (OUTSIDE, 2, 13),
+        (malformed.as_bytes(), 0, 14),
     ];
-    let refused = refused.map(|(name, index, answer)| (name.as_bytes().to_vec(), index, answer));
+    let refused = refused.map(|(name, index, answer)| (name.to_vec(), index, answer));
     (outside, refused.to_vec())
 }
 

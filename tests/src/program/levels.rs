@@ -94,6 +94,7 @@ fn place(card: &mut Card, name: Vec<u8>, n: u32, nth: u32) -> Placed {
             ino,
             size,
             blocks: blocks.into(),
+            inline: None,
         },
         linked,
     }

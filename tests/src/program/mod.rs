@@ -4,6 +4,7 @@ pub mod card;
 pub mod compare_words;
 pub mod compares;
 pub mod held;
+pub mod inline;
 pub mod json;
 pub mod levels;
 pub mod measured;

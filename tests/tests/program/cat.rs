@@ -6,16 +6,18 @@ use std::sync::Arc;
 
 use harptimber_tests::cards::layout::BLOCK_SIZE;
 use harptimber_tests::cards::on_disk::{OnDisk, Shared};
-use harptimber_tests::program::card::{shared_card, ProgramCard, Put, OUTSIDE};
+use harptimber_tests::program::card::{shared_card, ProgramCard, OUTSIDE};
 use harptimber_tests::program::json::Json;
 use harptimber_tests::program::page::{expect_head, expect_name, meaning, shown};
 use harptimber_tests::program::run;
 use harptimber_tests::tools::published::{filled_on, File, LONGEST_INLINE};
 use harptimber_tests::trial::Random;
 
-/// Sizes around those at which a file has one block more, or one node more.
-const SIZES: [usize; 10] = [
+/// Sizes around those at which a file stops being inline, has one block more, or one node more.
+const SIZES: [usize; 12] = [
+    0,
     1,
+    LONGEST_INLINE - 1,
     LONGEST_INLINE,
     LONGEST_INLINE + 1,
     4095,
@@ -55,18 +57,13 @@ fn expect_bytes(name: &[u8], bytes: &[u8], expected: &[u8]) {
 fn published_files() {
     let card = published();
     for (name, bytes) in &card.files {
-        let ran = run(&[&"cat", &card.disk.path(), name]);
-        if bytes.len() <= LONGEST_INLINE {
-            ran.expect_message(2, &[&meaning("cat", 12), "(answer 12)"]);
-            continue;
-        }
-        let ran = ran.expect(0);
+        let ran = run(&[&"cat", &card.disk.path(), name]).expect(0);
         assert_eq!(ran.err, "", "of {ran:?}");
         expect_bytes(name, &ran.out, bytes);
     }
 }
 
-/// Holes, odd names and an empty file.
+/// Holes, odd names, inline files and empty ones.
 #[test]
 fn built_files() {
     expect_built_files(&shared_card());
@@ -84,10 +81,6 @@ pub(crate) fn expect_built_file(card: &ProgramCard, path: &PathBuf, name: &[u8])
     assert_eq!(ran.err, "", "of {ran:?}");
     let bytes = card.file(name).bytes(&card.card.image);
     expect_bytes(name, &ran.out, &bytes);
-}
-
-fn holes(file: &Put) -> u64 {
-    u64::from(file.block_count()) - file.blocks.len() as u64
 }
 
 /// To a file that had more bytes before.
@@ -108,8 +101,8 @@ fn json_with_output() {
         assert_eq!(json["image"].text(), path.to_str().unwrap());
         assert_eq!(json["output"].text(), output.to_str().unwrap());
         let counts = ["bytes", "blocks", "holes"].map(|key| json[key].number());
-        let blocks = u64::from(file.block_count());
-        assert_eq!(counts, [file.size, blocks, holes(file)], "in {json:?}");
+        let [blocks, holes] = [file.block_count(), file.hole_count()].map(u64::from);
+        assert_eq!(counts, [file.size, blocks, holes], "in {json:?}");
         assert!(json.get("index").is_none(), "an index in {json:?}");
     }
 }

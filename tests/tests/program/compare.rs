@@ -11,7 +11,9 @@ use harptimber_tests::cards::layout::superblock::SEGMENT_COUNT_MAIN;
 use harptimber_tests::cards::layout::BLOCK_SIZE;
 use harptimber_tests::cards::on_disk::OnDisk;
 use harptimber_tests::program::card::{ProgramCard, EMPTY, LONG, NAMES, OUTSIDE, ROAD};
+use harptimber_tests::program::card::{FULL, FULL_BESIDE_XATTR, INLINE, INLINE_EMPTY};
 use harptimber_tests::program::compares::Expected;
+use harptimber_tests::program::inline::{CONTENTS, ROOM, ROOM_BESIDE_XATTR};
 use harptimber_tests::program::page::{expect_head, expect_name, shown};
 use harptimber_tests::program::special_build::SpecialBuild;
 use harptimber_tests::program::versions::{add_moved_road, MOVED_BYTE};
@@ -111,6 +113,14 @@ pub(crate) fn expect_same(cards: &Cards) {
     for name in [ROAD, LONG, b"4096", b"a hole", NAMES[0], NAMES[2], NAMES[5]] {
         assert_eq!(cards.expect(name), 0, "of {}", shown(name));
     }
+    for name in [INLINE, FULL, FULL_BESIDE_XATTR] {
+        assert_eq!(cards.expect_at(name, None), 0, "of {}", shown(name));
+        assert_eq!(cards.expect_at(name, Some(0)), 0);
+        assert_eq!(cards.expect_at(name, Some(1)), 2, "past the end");
+    }
+    for name in [EMPTY, INLINE_EMPTY] {
+        assert_eq!(cards.expect_at(name, None), 0, "still empty");
+    }
 }
 
 /// Cards that the published tools write before and after a change of two bytes.
@@ -171,6 +181,40 @@ fn behind_a_missing_block() {
     let ran = run(&[&"compare", &paths[0], &paths[1], &ROAD]).expect(1);
     let first = "differ, among those on both cards first at byte 12305 of the file (";
     assert!(ran.words().contains(first), "{ran:?}");
+}
+
+/// Bytes of inline files and around them, which are all in one block; and other sizes, up to one that isn't read.
+#[test]
+fn inline_files() {
+    expect_inline_files(&mut Cards::new());
+}
+
+pub(crate) fn expect_inline_files(cards: &mut Cards) {
+    for (name, room) in [(INLINE, ROOM), (FULL_BESIDE_XATTR, ROOM_BESIDE_XATTR)] {
+        let file = cards.kept.file(name).clone();
+        let inode = file.inline.expect("an inline file");
+        let end = CONTENTS + file.size as usize;
+        for at in [32, CONTENTS - 1, CONTENTS, end - 1, end, 4051, 4095] {
+            cards.byte(inode, at);
+            assert_eq!(cards.expect(name), 1, "byte {at} changed");
+            assert_eq!(cards.expect_at(FULL, None), 0, "another file");
+            cards.undo();
+        }
+        for size in [
+            0,
+            1,
+            file.size - 1,
+            file.size + 1,
+            room as u64,
+            room as u64 + 1,
+        ] {
+            if size != file.size {
+                cards.change(|image| image.set(inode, I_SIZE, size));
+                assert_eq!(cards.expect(name), 1, "size {size}");
+                cards.undo();
+            }
+        }
+    }
 }
 
 /// Data and a node behind the inode.

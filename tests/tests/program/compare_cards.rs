@@ -6,13 +6,16 @@ use std::path::{Path, PathBuf};
 use std::thread::sleep;
 use std::time::Duration;
 
+use reference::lookup::node_lookup;
+
 use harptimber_tests::cards::layout::BLOCK_SIZE;
 use harptimber_tests::cards::on_disk::{OnDisk, Shared};
+use harptimber_tests::program::card::pulled;
 use harptimber_tests::program::compare_words::expect_parts;
 use harptimber_tests::program::json::Json;
 use harptimber_tests::program::page::expect_head;
 use harptimber_tests::program::{run, Ran, Word, Words};
-use harptimber_tests::tools::published::{contents, filled_on, filled_with, File};
+use harptimber_tests::tools::published::{contents, filled_on, filled_with, File, LONGEST_INLINE};
 use harptimber_tests::trial::Random;
 
 const DATE: u32 = 1_700_000_000;
@@ -25,22 +28,26 @@ const SIZE: usize = 6 * BLOCK_SIZE;
 struct Cards {
     kept: OnDisk,
     new: OnDisk,
-    /// Byte 15104 of the table before and now, and byte 18000 of what shrank.
+    /// Byte 15104 of the table before and now, byte 18000 of what shrank, and byte 100 of what is inline now.
     table: [u8; 2],
     shrunk: u8,
+    inline: u8,
 }
 
 /// All of this differs between the two, so that the root directory does too.
-const NAMES: [&str; 7] = ["alike", "table", "grown", "shrunk", "gone", "inline", "new"];
+const NAMES: [&str; 8] = [
+    "alike", "table", "grown", "shrunk", "gone", "inline", "unread", "new",
+];
 const TABLE_BYTE: usize = 15104;
 const SHRUNK_SIZE: usize = 18000;
+const INLINE_SIZE: usize = 100;
 
 impl Cards {
     fn shared() -> std::sync::Arc<Cards> {
         static CARDS: Shared<Cards> = Shared::empty();
         CARDS.get(|| {
             let mut random = Random::new(21);
-            let mut kept = file_list(&NAMES[..6], |_| contents(&mut random, SIZE));
+            let mut kept = file_list(&NAMES[..7], |_| contents(&mut random, SIZE));
             let mut new = kept.clone();
             let [before, table] = [&mut kept[1].1, &mut new[1].1];
             table[TABLE_BYTE] ^= 0xFF;
@@ -48,14 +55,17 @@ impl Cards {
             new[2].1.extend([7; 5000]);
             new[3].1.truncate(SHRUNK_SIZE);
             let shrunk = kept[3].1[SHRUNK_SIZE];
-            new[5].1.truncate(100);
+            new[5].1.truncate(INLINE_SIZE);
+            let inline = kept[5].1[INLINE_SIZE];
             new[4] = (b"new".to_vec(), vec![5; 9000]);
+            new[6] = (b"unread/below".to_vec(), vec![6; 9000]);
             let [kept, new] = [&kept, &new].map(|files| OnDisk::new(filled_on(64, DATE, files)));
             Cards {
                 kept,
                 new,
                 table,
                 shrunk,
+                inline,
             }
         })
     }
@@ -69,7 +79,7 @@ impl Cards {
     }
 
     /// The line on each name, in parts: a reason may stand behind an answer.
-    fn lines(&self) -> [Vec<String>; 7] {
+    fn lines(&self) -> [Vec<String>; 8] {
         let [before, now] = self.table;
         let line = |parts: &[&str]| parts.iter().map(|part| part.to_string()).collect();
         let table =
@@ -78,6 +88,7 @@ impl Cards {
             "(0x{:02x} before, the end of the file now); 4 have the same bytes but {RESTS}",
             self.shrunk
         );
+        let inline = format!("(0x{:02x} before, the end of the file now)", self.inline);
         let all = format!("all 6 blocks have the same bytes but {RESTS}");
         [
             line(&["alike: ", &all]),
@@ -85,7 +96,8 @@ impl Cards {
             line(&["grown: grown from 24,576 to 29,576 bytes: ", &all]),
             line(&["shrunk: shrunk from 24,576 to 18,000 bytes: 2 of 6 blocks differ, first at byte 18000 of the file ", &shrunk]),
             line(&["gone: gone: 24,576 bytes on the kept card; on the new card: no such name", "(answer 2)"]),
-            line(&["inline: no longer readable: 24,576 bytes on the kept card; on the new card: ", "(answer 12)"]),
+            line(&["inline: shrunk from 24,576 to 100 bytes: all 6 blocks differ, first at byte 100 of the file ", &inline]),
+            line(&["unread: no longer readable: 24,576 bytes on the kept card; on the new card: ", "(answer 12): it is a directory"]),
             line(&["new: new: 9,000 bytes on the new card; on the kept card: no such name", "(answer 2)"]),
         ]
     }
@@ -186,6 +198,52 @@ fn friction_table() {
     );
 }
 
+/// The same with a table so small that it is in its inode, and with others that are not changed.
+#[test]
+fn small_friction_table() {
+    let mut random = Random::new(26);
+    let table = contents(&mut random, LONGEST_INLINE);
+    let mut ice = table.clone();
+    let at = 1291;
+    ice[at] = !table[at];
+    let other = contents(&mut random, 2000);
+    let card = |table: &[u8]| {
+        let files = [
+            ("friction.tbl", table),
+            ("other.tbl", &other),
+            ("empty", &[]),
+        ];
+        let files = files.map(|(name, bytes)| (name.as_bytes().to_vec(), bytes.to_vec()));
+        OnDisk::new(filled_on(64, DATE, &files))
+    };
+    let [kept, new] = [&table, &ice].map(|table| card(table));
+    let paths = [kept.path(), new.path()];
+    let of = |name: &'static str, status: i32| {
+        let words: Words = &[&"compare", &paths[0], &paths[1], &name];
+        let json = run(&[words, &[&"--json"]].concat()).expect(status).json();
+        (run(words).expect(status), json)
+    };
+    let inode = pulled(&kept.image, b"friction.tbl", 0).nodes()[1];
+    let block = node_lookup(kept.image.bytes(), inode).expect("an entry").1;
+    let bytes = format!("(0x{:02x} before, 0x{:02x} now)", table[at], ice[at]);
+    let lines = [
+        format!("friction.tbl: the only block differs, first at byte {at} of the file {bytes}\n"),
+        "  block 0: other bytes\n".to_string(),
+        format!("  block 0: inline contents changed in the file's inode (node {inode}, the card's block {block})\n"),
+    ];
+    let (ran, json) = of("friction.tbl", 1);
+    assert_eq!(ran.words(), lines.concat());
+    assert_eq!(
+        (json["verdict"].text(), counts(&json)),
+        ("differs", [0, 0, 1])
+    );
+    let (ran, json) = of("other.tbl", 0);
+    assert_eq!(ran.words(), "other.tbl: the only block is the same\n");
+    assert_eq!((json["verdict"].text(), counts(&json)), ("same", [1, 0, 0]));
+    let (ran, _) = of("empty", 0);
+    assert_eq!(ran.words(), "empty: an empty file on both cards\n");
+}
+
 /// Of many blocks here and there the first are named.
 #[test]
 fn every_second_block() {
@@ -226,17 +284,20 @@ fn verdicts() {
         "differs",
         "differs",
         "gone",
+        "differs",
         "no longer readable",
         "new",
     ];
-    let differ = [0, 1, 0, 2, 6, 6, 0];
+    let differ = [0, 1, 0, 2, 6, 6, 6, 0];
     let sizes = [
         None,
         None,
         Some(SIZE + 5000),
         Some(SHRUNK_SIZE),
         None,
-        Some(100),
+        Some(INLINE_SIZE),
+        // The directory's.
+        Some(BLOCK_SIZE),
         Some(9000),
     ];
     for (i, name) in NAMES.iter().enumerate() {

@@ -1,14 +1,17 @@
 //! What `harptimber compare` says of a change in a node or in the root directory: the field by its name in the Linux header's
 //! layout of an inode, or the entry.
 
+use harptimber_tests::cards::card::ROOT;
 use harptimber_tests::cards::directory::{in_slot, Dentry};
 use harptimber_tests::cards::image::Image;
 use harptimber_tests::cards::layout::dentry;
-use harptimber_tests::cards::layout::inode::{I_INLINE, I_SIZE};
+use harptimber_tests::cards::layout::inode::{INLINE_XATTR, I_INLINE, I_SIZE};
 use harptimber_tests::cards::layout::Field;
 use harptimber_tests::cards::on_disk::OnDisk;
 use harptimber_tests::program::card::{ProgramCard, LONG, ROAD};
+use harptimber_tests::program::card::{FULL, FULL_BESIDE_XATTR, INLINE};
 use harptimber_tests::program::compare_words::grouped;
+use harptimber_tests::program::inline::{self, CONTENTS};
 use harptimber_tests::program::{run, Words};
 
 struct Cards {
@@ -18,7 +21,10 @@ struct Cards {
 
 impl Cards {
     fn new() -> Cards {
-        let kept = ProgramCard::build();
+        Cards::of(ProgramCard::build())
+    }
+
+    fn of(kept: ProgramCard) -> Cards {
         let new = OnDisk::new(kept.disk.image.clone());
         Cards { kept, new }
     }
@@ -254,6 +260,75 @@ fn entries() {
     assert_eq!(told, format!("bytes of no entry changed {place}"));
 }
 
+/// Entries of an inline root directory: its inode is what changed, and behind that the entry is told.
+#[test]
+fn inline_entries() {
+    for flags in [0, INLINE_XATTR] {
+        let mut cards = Cards::of(ProgramCard::in_inline_root(flags));
+        let root = cards.kept.card.inode_block(ROOT);
+        let place = format!("the root directory's inode (node 3, the card's block {root})");
+        let place = format!("inline contents changed in {place}");
+        let told = cards.told(ROAD, root, |image| {
+            inline::put_dentry(image, root, 180, &Dentry::new(b"new\x01", 77))
+        });
+        assert_eq!(told, format!("{place}: an entry is new (new\\x01)"));
+        let slot = inline_slot_of(&cards.kept.disk.image, root, ROAD);
+        let told = cards.told(b"4096", root, |image| {
+            inline::set_bits(image, root, slot, 1, false)
+        });
+        assert_eq!(told, format!("{place}: an entry is gone (road.bin)"));
+        let ino = cards.kept.file(ROAD).ino;
+        let told = cards.told(b"4096", root, |image| {
+            image.set(root, inline::in_slot(dentry::INO, slot), u64::from(ino + 1))
+        });
+        let inodes = format!("inode {ino} before, {} now", ino + 1);
+        assert_eq!(
+            told,
+            format!("{place}: an entry changed (road.bin: {inodes})")
+        );
+        let told = cards.told(b"4096", root, |image| {
+            image.put("name", root, inline::name_at(slot), b"rail")
+        });
+        let names = "road.bin before, rail.bin now";
+        assert_eq!(told, format!("{place}: an entry changed ({names})"));
+        // The seven bytes between the map and the entries.
+        for at in [CONTENTS + 23, CONTENTS + 29] {
+            let told = cards.told_of_byte(ROAD, root, at);
+            assert_eq!(told, format!("{place}: bytes of no entry changed"));
+        }
+    }
+}
+
+/// What of an inline root directory is no part of its entries.
+#[test]
+fn around_inline_entries() {
+    for (flags, behind) in [
+        (0, "bytes behind the inline contents"),
+        (INLINE_XATTR, "inline attributes"),
+    ] {
+        let mut cards = Cards::of(ProgramCard::in_inline_root(flags));
+        let root = cards.kept.card.inode_block(ROOT);
+        for (at, words) in [
+            (363, "bytes before the inline contents"),
+            (3852, behind),
+            (4051, behind),
+            (40, "change time"),
+        ] {
+            let told = cards.told_of_byte(ROAD, root, at);
+            let place = format!("the root directory's inode (node 3, the card's block {root})");
+            assert_eq!(told, format!("{words} changed in {place}"), "byte {at}");
+        }
+    }
+}
+
+/// The inline slot in which an inode has a name.
+fn inline_slot_of(image: &Image, inode: u32, name: &[u8]) -> usize {
+    let mut slots = 0..inline::SLOTS;
+    let at = |slot: usize| inline::name_at(slot);
+    let found = slots.find(|&slot| image.block(inode)[at(slot)..].starts_with(name));
+    found.expect("the name in the inode")
+}
+
 /// The slot in which a directory block has a name.
 fn slot_of(image: &Image, block: u32, name: &[u8]) -> usize {
     let place = |slot: usize| dentry::FILENAMES + dentry::SLOT_LEN * slot;
@@ -309,14 +384,17 @@ fn told_with(name: &[u8], flags: u64, at: usize) -> String {
 fn instead_of_addresses() {
     let [xattr, data, extra] = [0x01, 0x02, 0x20];
     let cases = [
-        (b"inline".as_slice(), extra, 364, "project"),
-        (b"inline", extra, 372, "creation time"),
-        (b"inline", extra, 383, "creation time"),
-        (b"inline", extra, 396, "address of block 0"),
-        (b"inline", extra | data, 396, "inline contents"),
-        (b"inline", data, 364, "inline contents"),
-        (b"inline", data | xattr, 3851, "inline contents"),
-        (b"inline", data | xattr, 3852, "inline attributes"),
+        (INLINE, extra, 364, "project"),
+        (INLINE, extra, 372, "creation time"),
+        (INLINE, extra, 383, "creation time"),
+        (INLINE, extra, 396, "address of block 0"),
+        (
+            INLINE,
+            extra | data,
+            396,
+            "bytes before the inline contents",
+        ),
+        (INLINE, extra | data, 400, "inline contents"),
         (ROAD, xattr, 4051, "blocks 0 to 5: inline attributes"),
         (ROAD, 0, 4051, "blocks 0 to 5: address of block 922"),
     ];
@@ -324,6 +402,54 @@ fn instead_of_addresses() {
         let told = told_with(name, flags, at);
         assert!(told.starts_with(words), "byte {at} with {flags:#x}: {told}");
     }
+}
+
+/// The same of inline files, which are read: what changed behind the file's end is none of its contents. The first has 100
+/// bytes.
+#[test]
+fn around_inline_files() {
+    let [xattr, data] = [0x01, 0x02];
+    let behind = "bytes behind the inline contents";
+    let cases = [
+        (INLINE, data, 360, "bytes before the inline contents"),
+        (INLINE, data, 363, "bytes before the inline contents"),
+        (INLINE, data, 364, "inline contents"),
+        (INLINE, data, 463, "inline contents"),
+        (INLINE, data, 464, behind),
+        (INLINE, data, 4051, behind),
+        (INLINE, data, 4052, "node number in slot 0 ("),
+        (INLINE, data | xattr, 3851, behind),
+        (INLINE, data | xattr, 3852, "inline attributes"),
+        (FULL, data, 4051, "inline contents"),
+        (FULL, data, 4052, "node number in slot 0 ("),
+        (FULL_BESIDE_XATTR, data | xattr, 3851, "inline contents"),
+        (FULL_BESIDE_XATTR, data | xattr, 3852, "inline attributes"),
+        (FULL_BESIDE_XATTR, data | xattr, 4051, "inline attributes"),
+    ];
+    for (name, flags, at, words) in cases {
+        let told = told_with(name, flags, at);
+        let words = format!("block 0: {words}");
+        let whole = told == words || words.ends_with('(') && told.starts_with(&words);
+        assert!(whole, "byte {at} with {flags:#x}: {told}");
+    }
+}
+
+/// A flag that says nothing of where the bytes are doesn't keep them from being told; and a file that has grown changed up to
+/// its new end.
+#[test]
+fn grown_inline_file() {
+    let mut cards = Cards::new();
+    let ino = cards.kept.file(INLINE).ino;
+    let block = cards.kept.card.inode_block(ino);
+    let told = cards.told(INLINE, block, |image| {
+        image.set_all(block, &[(I_INLINE, 0x0A), (I_SIZE, 200)]);
+        let byte = image.block(block)[CONTENTS + 199] ^ 1;
+        image.put("byte", block, CONTENTS + 199, &[byte]);
+    });
+    let flags = "inline flags (0x2 before, 0xa now)";
+    let place = format!("changed in the file's inode (node {ino}, the card's block {block})");
+    let size = "size (100 before, 200 now)";
+    assert_eq!(told, format!("{flags}, {size}, inline contents {place}"));
 }
 
 /// Of many things that changed the first are told, and how many there are besides.

@@ -11,7 +11,7 @@ use std::process::Command;
 use harptimber_tests::cards::card::{Card, Passage, ROOT};
 use harptimber_tests::cards::directory::{bucket_index, in_slot, Dentry};
 use harptimber_tests::cards::image::Image;
-use harptimber_tests::cards::layout::dentry::{ENTRY_SIZE, NAME_LEN, SLOT_LEN};
+use harptimber_tests::cards::layout::dentry::NAME_LEN;
 use harptimber_tests::cards::layout::inode::*;
 use harptimber_tests::cards::layout::superblock::MAGIC;
 use harptimber_tests::cards::layout::{footer, slots, Field};
@@ -21,14 +21,13 @@ use harptimber_tests::cards::random::pick;
 use harptimber_tests::cards::tree;
 use harptimber_tests::cards::walk_damage::strike_block;
 use harptimber_tests::program::card::{pulled, shared_card, ProgramCard, ROAD};
+use harptimber_tests::program::card::{MARKED, TOO_LONG, TOO_LONG_BESIDE_XATTR};
 use harptimber_tests::program::json::Json;
 use harptimber_tests::program::page::{counted, expect_head, expect_name, meaning};
 use harptimber_tests::program::special_build::SpecialBuild;
 use harptimber_tests::program::{run, Ran};
 use harptimber_tests::tools::published::{self, contents, LONGEST_INLINE};
 use harptimber_tests::trial::Random;
-
-const INLINE: &str = "its bytes are inline; small and empty files usually are inline";
 
 /// What is to be said of a name.
 #[derive(Debug)]
@@ -141,11 +140,11 @@ fn listed(ran: &Ran, path: &Path) -> Json {
     json
 }
 
-/// What a regular file of the published tools is to be listed as.
+/// What a regular file of the published tools is to be listed as, inline or not.
 pub(crate) fn published_file(name: &[u8], size: usize) -> Expected {
-    match size <= LONGEST_INLINE {
-        true => Expected::new(name, size as u64, 12, INLINE),
-        false => Expected::new(name, size as u64, 0, ""),
+    match size {
+        0 => Expected::new(name, 0, 3, "it is empty"),
+        _ => Expected::new(name, size as u64, 0, ""),
     }
 }
 
@@ -169,6 +168,7 @@ fn fill_folder(folder: &Path, random: &mut Random) -> Vec<Expected> {
     let sizes = [
         0,
         1,
+        100,
         LONGEST_INLINE,
         LONGEST_INLINE + 1,
         4096,
@@ -236,11 +236,17 @@ fn names_and_sizes(card: &ProgramCard) -> Vec<(Vec<u8>, Option<u64>)> {
         ("unused node", with_node),
         ("far node", with_node),
         ("foreign node", with_node),
-        ("inline", Some(100)),
         ("folder", Some(100)),
         ("no inode", None),
     ];
-    let others = others.map(|(name, size)| (name.as_bytes().to_vec(), size));
+    let others = others.map(|(name, size)| (name.as_bytes(), size));
+    let unread = [
+        (TOO_LONG, Some(3689)),
+        (TOO_LONG_BESIDE_XATTR, Some(3489)),
+        (MARKED, Some(100)),
+    ];
+    let others = others.into_iter().chain(unread);
+    let others = others.map(|(name, size)| (name.to_vec(), size));
     let mut names: Vec<_> = put.chain(others).collect();
     names.sort();
     names
@@ -253,8 +259,22 @@ fn every_answer() {
 }
 
 pub(crate) fn expect_every_answer(card: &ProgramCard) {
+    let json = expect_names(card, 2);
+    let problems: Vec<&str> = json["problems"].list().iter().map(Json::text).collect();
+    let [problem] = problems[..] else {
+        panic!("one problem isn't what is in {json:?}");
+    };
+    assert!(
+        problem.starts_with("slot 213 of the card's block "),
+        "{problem}"
+    );
+    assert!(problem.ends_with(" has a name of 9 bytes"), "{problem}");
+}
+
+/// The names with their sizes and answers, by a command that ends so. Returns the object.
+pub(crate) fn expect_names(card: &ProgramCard, status: i32) -> Json {
     let path = card.disk.path();
-    let json = listed(&run(&[&"ls", &"--json", &path]).expect(2), &path);
+    let json = listed(&run(&[&"ls", &"--json", &path]).expect(status), &path);
     let expected = names_and_sizes(card);
     let names = json["names"].list();
     assert_eq!(names.len(), expected.len(), "names in {json:?}");
@@ -269,15 +289,7 @@ pub(crate) fn expect_every_answer(card: &ProgramCard) {
     assert!([0, 1, 3, 9, 12]
         .iter()
         .all(|answer| answers.contains(answer)));
-    let problems: Vec<&str> = json["problems"].list().iter().map(Json::text).collect();
-    let [problem] = problems[..] else {
-        panic!("one problem isn't what is in {json:?}");
-    };
-    assert!(
-        problem.starts_with("slot 213 of the card's block "),
-        "{problem}"
-    );
-    assert!(problem.ends_with(" has a name of 9 bytes"), "{problem}");
+    json
 }
 
 /// No byte of a name reaches a terminal that would act on it.
@@ -497,47 +509,6 @@ fn roots() {
         let problems: Vec<String> = problem.into_iter().collect();
         expect_listing(&OnDisk::new(image).path(), expected, &problems);
     }
-}
-
-/// The inode's own entries, as Linux has them: behind the first address 23 bytes of map, 7 reserved, 182 entries and as many
-/// names of 8 bytes.
-#[test]
-fn inline_root() {
-    const MAP: usize = 364;
-    const ENTRIES: usize = MAP + 30;
-    const NAMES: usize = ENTRIES + 182 * ENTRY_SIZE;
-    let mut scene = small();
-    let (root, ino) = (scene.root_block(), scene.ino);
-    let image = &mut scene.card.image;
-    image.put("map and entries", root, MAP, &[0; 3488]);
-    image.set(root, I_INLINE, INLINE_DENTRY | INLINE_XATTR);
-    let names: [&[u8]; 5] = [b".", b"..", NAME, b"a longer name than that", b"at the end"];
-    for (name, slot) in names.into_iter().zip([0, 1, 2, 5, 180]) {
-        let number = if slot < 2 { ROOT } else { ino };
-        let Dentry { hash, .. } = Dentry::new(name, number);
-        let head = [hash.to_le_bytes(), number.to_le_bytes()].concat();
-        let entry = [&head[..], &[name.len() as u8, 0, 1]].concat();
-        image.put("entry", root, ENTRIES + slot * ENTRY_SIZE, &entry);
-        image.put("name", root, NAMES + slot * SLOT_LEN, name);
-        for slot in slot..slot + name.len().div_ceil(SLOT_LEN) {
-            let byte = Field {
-                name: "map",
-                at: MAP + slot / 8,
-                size: 1,
-            };
-            let bits = image.get(root, byte) | 1 << (slot % 8);
-            image.set(root, byte, bits);
-        }
-    }
-    let why = "the root directory isn't read: its entries are inline";
-    let expected = names[2..]
-        .iter()
-        .map(|name| Expected::new(name, 4096, 12, why));
-    expect_listing(
-        &OnDisk::new(scene.card.image).path(),
-        expected.collect(),
-        &[],
-    );
 }
 
 /// A root that claims a terabyte, and one whose nodes lead to more and more that isn't there.

@@ -8,6 +8,7 @@ mod files;
 mod fsck;
 mod huge_files;
 mod info;
+mod inline;
 mod install;
 mod json;
 mod large;

@@ -10,8 +10,8 @@ use harptimber_tests::cards::on_disk::OnDisk;
 use harptimber_tests::cards::versions::CHOSEN;
 use harptimber_tests::program::card::{pulled, ProgramCard, ROAD};
 use harptimber_tests::program::page::{expect_head, expect_name, status_of};
-use harptimber_tests::program::run;
 use harptimber_tests::program::versions::{add_moved_road, RoadAt};
+use harptimber_tests::program::{run, Words};
 use harptimber_tests::tools::published::{filled_on, File, LONGEST_INLINE};
 use harptimber_tests::trial::Random;
 
@@ -51,11 +51,15 @@ fn every_answer() {
 }
 
 pub(crate) fn expect_every_answer(card: &ProgramCard) {
+    expect_answers(card, (0..=3).chain(9..=14).collect());
+}
+
+/// These come up, and no others.
+pub(crate) fn expect_answers(card: &ProgramCard, all: BTreeSet<u32>) {
     let calls = card.calls().into_iter();
     let answers: BTreeSet<u32> = calls
         .map(|(name, index)| expect_json(&card.disk, &card.card.image, &name, index))
         .collect();
-    let all = (0..=3).chain(9..=14).collect();
     assert_eq!(answers, all, "answers that came up");
     for (name, index, answer) in &card.refused {
         assert_eq!(card.pulled(name, *index).pulled.answer, *answer);
@@ -96,14 +100,16 @@ fn pack_in_use() {
     }
 }
 
-/// A file by the published tools that reaches its second direct node, and an inline one.
+/// A file by the published tools that reaches its second direct node, inline ones and one that isn't any more.
 #[test]
 fn published_files() {
     let mut random = Random::new(6);
     let len = (873 + 1018) * BLOCK_SIZE + 4097;
-    let files: [File; 2] = [
+    let files: [File; 4] = [
         (b"long".to_vec(), random.bytes(len)),
         (b"inline".to_vec(), random.bytes(LONGEST_INLINE)),
+        (b"not inline".to_vec(), random.bytes(LONGEST_INLINE + 1)),
+        (b"empty".to_vec(), Vec::new()),
     ];
     let image = filled_on(100, 1_700_000_000, &files);
     let disk = OnDisk::new(image.clone());
@@ -118,6 +124,16 @@ fn published_files() {
         );
     }
     assert_eq!(expect_json(&disk, &image, b"long", 1893), 3);
-    assert_eq!(expect_json(&disk, &image, b"inline", 0), 12);
     assert_eq!(expect_json(&disk, &image, b"missing", 0), 2);
+    assert_eq!(expect_json(&disk, &image, b"empty", 0), 3);
+    // Of an inline one no block of data is read.
+    for ((name, bytes), blocks) in files[1..3].iter().zip([3, 4]) {
+        let answers = [0, 1].map(|index| expect_json(&disk, &image, name, index));
+        assert_eq!(answers, [0, 3]);
+        let output = disk.scratch.path("bytes");
+        let words: Words = &[&"pull", &"--json", &"-o", &output, &disk.path(), name, &"0"];
+        let json = run(words).expect(0).json();
+        assert_eq!(json["blocks"].list().len(), blocks, "in {json:?}");
+        assert!(fs::read(&output).unwrap() == *bytes, "bytes of {json:?}");
+    }
 }

@@ -259,14 +259,31 @@ fn kinds_of_files() {
         stage.expect_fields(inode, 12, &format!("it is {kind}"), &fields);
     }
     let extra = "its inode has extra attributes";
-    let cases: [(&[(Field, u64)], String); 5] = [
+    let directory = "it is marked as an inline directory (inline dentry)";
+    let both =
+        "it is marked as an inline file (inline data) and as an inline directory (inline dentry)";
+    let cases: [(&[(Field, u64)], String); 10] = [
+        (&[(I_INLINE, INLINE_DENTRY)], directory.to_string()),
         (
-            &[(I_INLINE, INLINE_DATA)],
-            "its bytes are inline; small and empty files usually are inline".to_string(),
+            &[(I_INLINE, INLINE_DENTRY | INLINE_XATTR), (I_SIZE, 0)],
+            directory.to_string(),
         ),
         (
-            &[(I_INLINE, INLINE_DENTRY)],
-            "it is marked as an inline directory".to_string(),
+            &[(I_INLINE, INLINE_DENTRY | EXTRA_ATTR)],
+            format!("{directory}; {extra}"),
+        ),
+        (&[(I_INLINE, INLINE_DATA | INLINE_DENTRY)], both.to_string()),
+        (
+            &[(I_INLINE, INLINE_DATA | INLINE_DENTRY), (I_SIZE, 100)],
+            both.to_string(),
+        ),
+        (
+            &[(I_INLINE, INLINE_DATA | INLINE_DENTRY | EXTRA_ATTR)],
+            format!("{both}; {extra}"),
+        ),
+        (
+            &[(I_INLINE, INLINE_DATA | EXTRA_ATTR), (I_SIZE, 100)],
+            extra.to_string(),
         ),
         (&[(I_INLINE, EXTRA_ATTR)], extra.to_string()),
         (
@@ -288,11 +305,27 @@ fn kinds_of_files() {
 fn kinds_of_roots() {
     let mut stage = Stage::new();
     let root = stage.scene.root_block();
-    let cases: [(&[(Field, u64)], &str); 10] = [
+    let extra = "its inode has extra attributes";
+    let file = "it is marked as an inline file (inline data)";
+    let both =
+        "it is marked as an inline file (inline data) and as an inline directory (inline dentry)";
+    let cases: [(&[(Field, u64)], &str); 13] = [
         (&[(I_MODE, S_IFREG | 0o644)], "it is a regular file"),
-        (&[(I_INLINE, INLINE_DENTRY)], "its entries are inline"),
-        (&[(I_INLINE, INLINE_DATA)], "it is marked as an inline file"),
-        (&[(I_INLINE, EXTRA_ATTR)], "its inode has extra attributes"),
+        (
+            &[(I_MODE, S_IFREG | 0o644), (I_INLINE, INLINE_DENTRY)],
+            "it is a regular file",
+        ),
+        (&[(I_INLINE, INLINE_DATA)], file),
+        (&[(I_INLINE, INLINE_DATA), (I_SIZE, 0)], file),
+        (
+            &[(I_INLINE, INLINE_DATA | INLINE_DENTRY), (I_SIZE, 100)],
+            both,
+        ),
+        (&[(I_INLINE, EXTRA_ATTR)], extra),
+        (
+            &[(I_INLINE, EXTRA_ATTR | INLINE_DENTRY), (I_SIZE, 100)],
+            extra,
+        ),
         (&[(I_CURRENT_DEPTH, 64)], "its depth is 64, over 63"),
         (
             &[(I_CURRENT_DEPTH, u32::MAX as u64)],

@@ -7,7 +7,8 @@ use reference::lookup::node_lookup;
 use reference::place::file_place;
 
 use harptimber_tests::cards::on_disk::OnDisk;
-use harptimber_tests::program::card::{shared_card, ProgramCard, NAMES, REPEATING, ROAD};
+use harptimber_tests::program::card::{shared_card, ProgramCard, Put, NAMES, REPEATING, ROAD};
+use harptimber_tests::program::card::{FULL, FULL_BESIDE_XATTR, INLINE};
 use harptimber_tests::program::page::{counted, meaning, status_of};
 use harptimber_tests::program::{run, run_on_terminal, Ran, Words};
 
@@ -200,17 +201,25 @@ fn in_characters(bytes: &[u8]) -> String {
     }
 }
 
+fn expect_hexadecimal(card: &ProgramCard, file: &Put, index: u32) {
+    let name = String::from_utf8_lossy(&file.name);
+    let words: Words = &[&"pull", &card.disk.path(), &&*name, &index];
+    let ran = run_on_terminal(words, None).expect(0);
+    let expected = file.block(&card.card.image, index);
+    assert_eq!(hex_view(&ran), Some(expected), "of {ran:?}");
+}
+
 #[test]
 fn hexadecimal_on_a_terminal() {
     let card = shared_card();
-    let path = card.disk.path();
     for name in ["road.bin", "repeating", "one byte", "4095", "4096", "4097"] {
         let file = card.file(name.as_bytes());
-        for index in file.blocks.keys() {
-            let ran = run_on_terminal(&[&"pull", &path, &name, index], None).expect(0);
-            let expected = file.block(&card.card.image, *index);
-            assert_eq!(hex_view(&ran), Some(expected), "of {ran:?}");
+        for &index in file.blocks.keys() {
+            expect_hexadecimal(&card, file, index);
         }
+    }
+    for name in [INLINE, FULL, FULL_BESIDE_XATTR] {
+        expect_hexadecimal(&card, card.file(name), 0);
     }
     assert_eq!(card.file(REPEATING).blocks.len(), 2);
 }
@@ -224,7 +233,7 @@ fn nothing_in_hexadecimal() {
     let lines: [(Words, i32); 5] = [
         (&[&"pull", &path, &ROAD, &"2"], 0),
         (&[&"pull", &path, &ROAD, &"6"], 2),
-        (&[&"pull", &path, &"inline", &"0"], 2),
+        (&[&"pull", &path, &"folder", &"0"], 2),
         (&[&"pull", &"--json", &path, &ROAD, &"0"], 0),
         (&[&"pull", &"-o", &output, &path, &ROAD, &"0"], 0),
     ];

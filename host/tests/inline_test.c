@@ -1,0 +1,271 @@
+/*
+ * Pulls of inline files, and through inline root directories, from C: the answer, the other numbers and every lent byte, on both
+ * sides of each bound. Compares by the lists that they leave.
+ */
+#include <inttypes.h>
+
+#include "check.h"
+#include "small_card.h"
+
+#define PATTERN 0xA5
+#define COUNT_OF(array) (sizeof(array) / sizeof *(array))
+
+enum { XATTR = 1, DATA = 2, DENTRY = 4, EXTRA = 0x20 };
+enum { DIRECTORY = 0x41ED, REGULAR = 0x81A4 };
+enum { ROOM = 3688, ROOM_WITH_XATTR = 3488, SLOTS = 182 };
+
+/* Where inline contents start in an inode. */
+enum { CONTENTS = 364 };
+
+static const char name[] = "road.bin";
+
+static uint8_t block[BLOCK], nodes[HARPTIMBER_NODES_BYTES], blocks[HARPTIMBER_BLOCKS_BYTES];
+static struct harptimber_pulled got;
+
+static void pull(const char *sought, uint32_t index)
+{
+    memset(block, PATTERN, sizeof block);
+    memset(nodes, PATTERN, sizeof nodes);
+    memset(blocks, PATTERN, sizeof blocks);
+    got = harptimber_pull(card, sizeof card, (const uint8_t *)sought, strlen(sought), index, block, sizeof block, nodes,
+                          sizeof nodes, blocks, sizeof blocks);
+}
+
+static int all_are(const uint8_t *bytes, size_t len, uint8_t byte)
+{
+    for (size_t i = 0; i < len; i++)
+        if (bytes[i] != byte)
+            return 0;
+    return 1;
+}
+
+/* Whether a list has just these numbers, and is as it was behind them. */
+static int lists(const uint8_t *list, size_t len, uint32_t count, const uint32_t *numbers, uint32_t expected)
+{
+    for (uint32_t i = 0; i < expected; i++)
+        if (harptimber_list_entry(list, i) != numbers[i])
+            return 0;
+    return count == expected && all_are(list + 4 * expected, len - 4 * expected, PATTERN);
+}
+
+/* What a walk rests on: the root's inode, with a block of entries or without, and the file's inode if it comes so far. */
+enum walked { ROOT_ALONE, THROUGH_INODE, THROUGH_BLOCK };
+
+static int rests_on(enum walked walked)
+{
+    static const uint32_t numbers[] = {ROOT, FILE_NUMBER};
+    static const uint32_t through_inode[] = {ROOT_AT, FILE_AT}, through_block[] = {ROOT_AT, ENTRIES_AT, FILE_AT};
+    const uint32_t *read = walked == THROUGH_BLOCK ? through_block : through_inode;
+    uint32_t node_count = walked == ROOT_ALONE ? 1 : 2, block_count = walked == THROUGH_BLOCK ? 3 : node_count;
+    return lists(nodes, sizeof nodes, got.node_count, numbers, node_count) &&
+           lists(blocks, sizeof blocks, got.block_count, read, block_count);
+}
+
+/* The buffer, by what the last block of the card has as contents. */
+static int buffer_is(uint32_t answer, uint32_t count)
+{
+    if (answer != HARPTIMBER_DATA)
+        return all_are(block, sizeof block, PATTERN);
+    return memcmp(block, block_at(FILE_AT) + CONTENTS, count) == 0 && all_are(block + count, sizeof block - count, 0);
+}
+
+static void expect(const char *what, uint64_t value, uint32_t answer, uint32_t count, enum walked walked)
+{
+    int numbers = got.answer == answer && got.byte_count == count;
+    if (fails(numbers && rests_on(walked) && buffer_is(answer, count)))
+        printf("FAILED %s %" PRIu64 ": answer %" PRIu32 " and %" PRIu32 " bytes, expected %" PRIu32 " and %" PRIu32
+               "; %" PRIu32 " nodes and %" PRIu32 " blocks; buffer %s\n",
+               what, value, got.answer, got.byte_count, answer, count, got.node_count, got.block_count,
+               buffer_is(answer, count) ? "as expected" : "other");
+}
+
+/* A file with these inline flags; each byte of its contents is another than the one before, up to its end or the room's. */
+static void put_file(uint8_t flags, uint64_t size)
+{
+    struct inode inode = {.mode = REGULAR, .inline_flags = flags, .level = 99, .depth = 99, .size = size};
+    put_inode(FILE_NUMBER, FILE_AT, &inode);
+    for (uint64_t i = 0; i < size && i < ROOM; i++)
+        block_at(FILE_AT)[CONTENTS + i] = (uint8_t)(7 * i + i / 256 + 1);
+}
+
+/* A root with the file's entry in a block, and inline in slot 3. */
+static void put_root(const struct inode *inode)
+{
+    put_inode(ROOT, ROOT_AT, inode);
+    struct entries in_block = entries_in_block(ENTRIES_AT), in_inode = entries_in_inode(ROOT_AT);
+    put(block_at(ROOT_AT) + 360, ENTRIES_AT, 4);
+    clear_entries(&in_block);
+    clear_entries(&in_inode);
+    put_entry(&in_block, 2, name, strlen(name));
+    put_entry(&in_inode, 3, name, strlen(name));
+}
+
+static const struct inode plain_root = {.mode = DIRECTORY, .depth = 1, .size = BLOCK};
+static const struct inode inline_root = {.mode = DIRECTORY, .inline_flags = DENTRY, .depth = 1, .size = ROOM_WITH_XATTR};
+
+/* Sizes on both sides of each room, in an inode that keeps some for attributes and in one that doesn't. */
+static void test_sizes(void)
+{
+    static const uint64_t sizes[] = {0,    1,    2,    3343, 3344, 3345, 3487, 3488,         3489,
+                                     3687, 3688, 3689, 4095, 4096, 4097, 8192, 1ULL << 32, UINT64_MAX};
+    static const uint8_t flags[] = {DATA, DATA | XATTR, DATA | 8, DATA | XATTR | 8 | 0x10 | 0x40 | 0x80};
+    static const uint32_t indexes[] = {0, 1, 2, UINT32_MAX};
+    put_root(&plain_root);
+    for (size_t i = 0; i < COUNT_OF(sizes) * COUNT_OF(flags); i++) {
+        uint64_t size = sizes[i / COUNT_OF(flags)];
+        uint8_t flag = flags[i % COUNT_OF(flags)];
+        put_file(flag, size);
+        for (size_t j = 0; j < COUNT_OF(indexes); j++) {
+            uint32_t answer = HARPTIMBER_PAST_END;
+            if (size > ((flag & XATTR) != 0 ? ROOM_WITH_XATTR : ROOM))
+                answer = HARPTIMBER_KIND_NOT_READ;
+            else if (indexes[j] == 0 && size > 0)
+                answer = HARPTIMBER_DATA;
+            pull(name, indexes[j]);
+            expect("an inline file of size", size, answer, answer == HARPTIMBER_DATA ? (uint32_t)size : 0, THROUGH_BLOCK);
+        }
+    }
+}
+
+/* Every inline byte of a file: without inline data, its first address is junk. */
+static void test_file_flags(void)
+{
+    put_root(&plain_root);
+    for (uint32_t flags = 0; flags < 256; flags++) {
+        put_file((uint8_t)flags, 100);
+        uint32_t answer = HARPTIMBER_DATA_OUTSIDE;
+        if ((flags & (EXTRA | DENTRY)) != 0)
+            answer = HARPTIMBER_KIND_NOT_READ;
+        else if ((flags & DATA) != 0)
+            answer = HARPTIMBER_DATA;
+        pull(name, 0);
+        expect("a file with inline flags", flags, answer, answer == HARPTIMBER_DATA ? 100 : 0, THROUGH_BLOCK);
+    }
+}
+
+/* And of the root: without inline entries, they are in its block. */
+static void test_root_flags(void)
+{
+    put_file(DATA, 100);
+    for (uint32_t flags = 0; flags < 256; flags++) {
+        struct inode root = inline_root;
+        root.inline_flags = (uint8_t)flags;
+        put_root(&root);
+        pull(name, 0);
+        if ((flags & (EXTRA | DATA)) != 0)
+            expect("a root with inline flags", flags, HARPTIMBER_KIND_NOT_READ, 0, ROOT_ALONE);
+        else
+            expect("a root with inline flags", flags, HARPTIMBER_DATA, 100, (flags & DENTRY) != 0 ? THROUGH_INODE : THROUGH_BLOCK);
+    }
+}
+
+/* A pull through an inline root, with and without the attribute flag. */
+static void expect_root(const char *what, uint64_t value, struct inode root, uint32_t answer)
+{
+    for (int with = 0; with < 2; with++) {
+        root.inline_flags = (uint8_t)(DENTRY | (with ? XATTR : 0));
+        put_root(&root);
+        pull(name, 0);
+        expect(what, value, answer, answer == HARPTIMBER_DATA ? 100 : 0, answer == HARPTIMBER_DATA ? THROUGH_INODE : ROOT_ALONE);
+    }
+}
+
+/* Its size, depth and level, each around its bound; a size of 0 comes last. */
+static void test_roots(void)
+{
+    static const uint64_t sizes[] = {1, 4, 3487, 3488, 3489, 3688, 4096, UINT64_MAX};
+    static const uint32_t depths[] = {0, 1, 2, 31, 62, 63, 64, UINT32_MAX}, levels[] = {0, 1, 29, 30, 31, 255};
+    put_file(DATA | XATTR, 100);
+    struct inode root = inline_root;
+    for (size_t i = 0; i < COUNT_OF(sizes); i++) {
+        uint32_t answer = sizes[i] > ROOM_WITH_XATTR ? HARPTIMBER_KIND_NOT_READ : HARPTIMBER_DATA;
+        root.size = sizes[i];
+        expect_root("an inline root of size", sizes[i], root, answer);
+    }
+    for (uint64_t size = 0; size < 2; size++) {
+        uint32_t read = size == 0 ? HARPTIMBER_NO_NAME : HARPTIMBER_DATA;
+        for (size_t i = 0; i < COUNT_OF(depths); i++) {
+            root = (struct inode){.mode = DIRECTORY, .size = size, .depth = depths[i]};
+            expect_root("an inline root of depth", depths[i], root, depths[i] > 63 ? HARPTIMBER_KIND_NOT_READ : read);
+        }
+        for (size_t i = 0; i < COUNT_OF(levels); i++) {
+            root = (struct inode){.mode = DIRECTORY, .size = size, .level = (uint8_t)levels[i]};
+            expect_root("an inline root of level", levels[i], root, levels[i] > 30 ? HARPTIMBER_KIND_NOT_READ : read);
+        }
+    }
+}
+
+/* One inline entry, in this slot, that says its name has so many bytes. */
+static void expect_slot(size_t slot, const char *sought, size_t len, uint32_t answer)
+{
+    struct entries entries = entries_in_inode(ROOT_AT);
+    put_root(&inline_root);
+    clear_entries(&entries);
+    put_entry(&entries, slot, sought, len);
+    pull(sought, 0);
+    expect("an inline entry in slot", slot, answer, answer == HARPTIMBER_DATA ? 100 : 0,
+           answer == HARPTIMBER_DATA ? THROUGH_INODE : ROOT_ALONE);
+}
+
+/* Names that end with the last slot, and one byte or one slot further. The map's last two bits belong to no slot. */
+static void test_slots(void)
+{
+    char longest[256] = "";
+    memset(longest, 'n', 255);
+    put_file(DATA, 100);
+    for (size_t slot = 0; slot < SLOTS; slot++) {
+        expect_slot(slot, name, 8, HARPTIMBER_DATA);
+        expect_slot(slot, "road.bin2", 9, slot < SLOTS - 1 ? HARPTIMBER_DATA : HARPTIMBER_MALFORMED_SLOT);
+        expect_slot(slot, longest, 255, slot <= SLOTS - 32 ? HARPTIMBER_DATA : HARPTIMBER_MALFORMED_SLOT);
+        expect_slot(slot, name, 0, HARPTIMBER_MALFORMED_SLOT);
+        expect_slot(slot, name, 256, HARPTIMBER_MALFORMED_SLOT);
+    }
+    for (size_t slot = SLOTS; slot < SLOTS + 58; slot++) /* up to the reserved bytes' last bit */
+        expect_slot(slot, name, 8, HARPTIMBER_NO_NAME);
+}
+
+static uint8_t fresh[sizeof card];
+
+/* A compare by the lists of the last pull, with one byte of the new card changed. */
+static void expect_compared(uint32_t address, size_t at, uint32_t answer)
+{
+    uint8_t *byte = fresh + (size_t)address * BLOCK + at;
+    *byte ^= 1;
+    struct harptimber_compared compared = harptimber_compare(card, sizeof card, fresh, sizeof fresh, nodes, sizeof nodes,
+                                                             got.node_count, blocks, sizeof blocks, got.block_count);
+    *byte ^= 1;
+    uint32_t kind = answer == HARPTIMBER_CHANGED ? HARPTIMBER_BLOCK_DIFFERS : 0;
+    uint32_t number = answer == HARPTIMBER_CHANGED ? address : 0;
+    if (fails(compared.answer == answer && compared.side == 0 && compared.kind == kind && compared.number == number))
+        printf("FAILED compare with byte %zu of block %" PRIu32 " changed: answer %" PRIu32 ", kind %" PRIu32 ", number %" PRIu32
+               "; expected %" PRIu32 "\n",
+               at, address, compared.answer, compared.kind, compared.number, answer);
+}
+
+/* Inode and inline contents are one block. A block of entries that an inline root doesn't have decides nothing. */
+static void test_compares(void)
+{
+    put_root(&inline_root);
+    put_file(DATA, 100);
+    memcpy(fresh, card, sizeof card);
+    pull(name, 0);
+    expect("the file to compare", 100, HARPTIMBER_DATA, 100, THROUGH_INODE);
+    expect_compared(FILE_AT, CONTENTS, HARPTIMBER_CHANGED);
+    expect_compared(FILE_AT, CONTENTS + 100, HARPTIMBER_CHANGED);
+    expect_compared(ROOT_AT, CONTENTS, HARPTIMBER_CHANGED);
+    expect_compared(ROOT_AT, BLOCK - 1, HARPTIMBER_CHANGED);
+    expect_compared(ENTRIES_AT, 0, HARPTIMBER_SAME);
+    expect_compared(FILE_AT - 1, CONTENTS, HARPTIMBER_SAME);
+}
+
+int main(void)
+{
+    put_card();
+    test_sizes();
+    test_file_flags();
+    test_root_flags();
+    test_roots();
+    test_slots();
+    test_compares();
+    return finish();
+}
