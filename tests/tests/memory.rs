@@ -14,7 +14,9 @@ use harptimber_tests::cards::directory::{in_slot, Dentry, DirLevel};
 use harptimber_tests::cards::image::Image;
 use harptimber_tests::cards::knobs::{Knobs, Pack};
 use harptimber_tests::cards::layout::dentry::{NAME_LEN, NR_DENTRY_IN_BLOCK};
-use harptimber_tests::cards::layout::inode::{ADDRESSES, I_DIR_LEVEL, I_MODE};
+use harptimber_tests::cards::layout::inode::{
+    ADDRESSES, INLINE_DATA, INLINE_XATTR, I_DIR_LEVEL, I_INLINE, I_MODE, I_SIZE,
+};
 use harptimber_tests::cards::layout::journal::MOST_ENTRIES;
 use harptimber_tests::cards::layout::sit::SitEntry;
 use harptimber_tests::cards::layout::{BLOCK_SIZE, SEGMENT_BLOCKS};
@@ -24,9 +26,10 @@ use harptimber_tests::cards::random_segments::random_segments;
 use harptimber_tests::cards::segments::SegmentCard;
 use harptimber_tests::cards::walk_damage::{strike_block, strike_either};
 use harptimber_tests::node_lookup;
+use harptimber_tests::program::inline::{self, move_entries, put_inline, room, SLOTS};
 use harptimber_tests::program::{built, program};
 use harptimber_tests::tools::outside::CardFile;
-use harptimber_tests::tools::published::{contents, filled_with, ran, File};
+use harptimber_tests::tools::published::{contents, filled_with, ran, File, LONGEST_INLINE};
 use harptimber_tests::trial::Random;
 
 fn guarded() -> Command {
@@ -240,6 +243,92 @@ impl Tight {
     }
 }
 
+/// A card that ends with its main area, with an inline file in an inline root directory.
+struct TightInline {
+    card: Card,
+    ino: u32,
+}
+
+impl TightInline {
+    fn new() -> TightInline {
+        let mut card = Card::new(Knobs::sound(), Random::new(4));
+        card.add_root(0, 1);
+        let ino = put_inline(&mut card, NAME, 0, 100).ino;
+        move_entries(&mut card, 0);
+        card.image
+            .settle("an inline file in an inline root directory");
+        TightInline { card, ino }
+    }
+
+    /// Copies an inode to the image's end, and leads there. Returns that block.
+    fn move_to_end(&mut self, ino: u32) -> u32 {
+        let last = self.card.image.areas.main_end - 1;
+        let bytes = self.card.image.block(self.card.inode_block(ino)).to_vec();
+        self.card.image.put("moved inode", last, 0, &bytes);
+        self.card.set_entry(ino, ino, last);
+        last
+    }
+
+    /// The file's inode at the image's end: contents up to the end of the room there, and sizes that claim more.
+    fn files(&mut self, script: &mut Script) {
+        let sound = self.card.image.clone();
+        for flags in [0, INLINE_XATTR] {
+            let room = room(flags) as u64;
+            for size in [0, 1, room - 1, room, room + 1, 4096, u64::MAX] {
+                let last = self.move_to_end(self.ino);
+                let fields = [(I_INLINE, INLINE_DATA | flags), (I_SIZE, size)];
+                self.card.image.set_all(last, &fields);
+                let answers =
+                    [0, 1].map(|index| script.pull(&sound, &self.card.image, NAME, index));
+                let expected = match size {
+                    0 => [3, 3],
+                    _ if size <= room => [0, 3],
+                    _ => [12, 12],
+                };
+                assert_eq!(answers, expected, "size {size} with flags {flags}");
+                self.card.image.undo(0);
+            }
+        }
+    }
+
+    /// The root's inode there, with entries in its last slots that fit and that don't.
+    fn slots(&mut self, script: &mut Script) {
+        let sound = self.card.image.clone();
+        let long = [b'x'; 255];
+        for (name, len) in [(NAME, 8), (NAME, 9), (NAME, 0), (NAME, 65535), (&long, 255)] {
+            for from_end in [1, 2, 31, 32, 33, SLOTS] {
+                let last = self.move_to_end(ROOT);
+                let (slot, image) = (SLOTS - from_end, &mut self.card.image);
+                inline::clear_slots(image, last);
+                inline::put_dentry(image, last, slot, &Dentry::new(name, self.ino));
+                image.set(last, inline::in_slot(NAME_LEN, slot), len);
+                let fits = (1..=255).contains(&len) && len.div_ceil(8) <= from_end as u64;
+                let found = fits && len as usize == name.len();
+                let answer = script.pull(&sound, image, name, 0);
+                let expected = if found { 0 } else { [14, 2][usize::from(fits)] };
+                assert_eq!(answer, expected, "{len} bytes in slot {slot}");
+                image.undo(0);
+            }
+        }
+    }
+
+    fn calls(&mut self, script: &mut Script) {
+        script.card(&self.card.image);
+        self.files(script);
+        self.slots(script);
+    }
+
+    /// With the file's inode as the image's last block for good.
+    fn ending_with_file() -> Image {
+        let mut tight = TightInline::new();
+        let last = tight.move_to_end(tight.ino);
+        tight.card.image.settle("an inline file at the end");
+        let (_, blocks) = lists(&Call::new(&tight.card.image, NAME, 0));
+        assert_eq!(blocks.last(), Some(&last));
+        tight.card.image
+    }
+}
+
 /// The slices of a pull, each of which is once shorter than the call is told.
 const PLANTS: [&str; 5] = ["name", "block", "nodes", "blocks", "image"];
 
@@ -344,6 +433,11 @@ fn guard_pages() {
             script.plant(slice, NAME, ADDRESSES);
         }
     }
+    TightInline::new().calls(&mut script);
+    script.card(&TightInline::ending_with_file());
+    for slice in PLANTS {
+        script.plant(slice, NAME, 0);
+    }
     for _ in 0..6 {
         damage_files(&mut script, &mut random, 150);
     }
@@ -366,6 +460,7 @@ fn valgrind() {
     let mut script = Script::new();
     let mut random = Random::new(2);
     tight_card(&mut script, Tight::new());
+    TightInline::new().calls(&mut script);
     for _ in 0..3 {
         damage_files(&mut script, &mut random, 100);
     }
@@ -388,6 +483,13 @@ fn valgrind_on_plants() {
             "unset" => script.unset(),
             _ => script.plant(slice, NAME, ADDRESSES),
         }
+        expect_seen(&script, slice);
+    }
+    let image = TightInline::ending_with_file();
+    for slice in PLANTS {
+        let mut script = Script::new();
+        script.card(&image);
+        script.plant(slice, NAME, 0);
         expect_seen(&script, slice);
     }
     for slice in REPORT_PLANTS {
@@ -415,16 +517,24 @@ fn valgrind_on_program() {
     let random = &mut Random::new(3);
     let long = (b"long".to_vec(), contents(random, 880 * BLOCK_SIZE));
     let short = contents(random, 60_000);
-    let kept = filled_with(100, "", &[long, (b"short".to_vec(), short.clone())]);
+    let inline = contents(random, LONGEST_INLINE);
+    let files = [("short", &short), ("inline", &inline)];
+    let [short_file, inline_file] =
+        files.map(|(name, bytes)| (name.as_bytes().to_vec(), bytes.clone()));
+    let kept = filled_with(100, "", &[long, short_file, inline_file]);
     let mut fresh = kept.clone();
     fresh.set(node_lookup(kept.bytes(), ROOT).address, I_MODE, 0);
     let [kept, copy, fresh] = [&kept, &kept, &fresh].map(CardFile::of);
     let [kept, copy, fresh] = [kept.path(), copy.path(), fresh.path()];
     let [kept, copy, fresh] = [kept.as_os_str(), copy.as_os_str(), fresh.as_os_str()];
     let word = OsStr::new;
-    let read = expect_status(0, &[word("cat"), kept, word("short")]);
-    assert!(read == short, "bytes of the file");
-    expect_status(2, &[word("cat"), fresh, word("short")]);
+    for (name, bytes) in files {
+        let read = expect_status(0, &[word("cat"), kept, word(name)]);
+        assert!(read == *bytes, "bytes of {name}");
+        expect_status(2, &[word("cat"), fresh, word(name)]);
+    }
+    expect_status(0, &[word("ls"), kept]);
+    expect_status(2, &[word("pull"), kept, word("inline"), word("1")]);
     expect_status(0, &[word("segments"), kept]);
     expect_status(0, &[word("segments"), word("--json"), fresh]);
     for (status, image) in [(0, kept), (2, fresh)] {
@@ -435,11 +545,41 @@ fn valgrind_on_program() {
         );
     }
     for (status, new) in [(0, copy), (1, fresh)] {
-        let names = [word("short"), word("long")];
+        let names = [word("short"), word("long"), word("inline")];
         expect_status(
             status,
             &[&[word("compare"), kept, new], &names[..]].concat(),
         );
-        expect_status(status, &[word("compare"), kept, new, word("short")]);
+        for (name, _) in files {
+            expect_status(status, &[word("compare"), kept, new, word(name)]);
+        }
+    }
+}
+
+/// The program on an inline root directory, and an inline file, at the image's end; and where a card has other bytes in either.
+#[test]
+fn valgrind_on_inline_inodes() {
+    let sound = TightInline::ending_with_file();
+    let last = sound.areas.main_end - 1;
+    let mut ended_by_root = TightInline::new();
+    let root = ended_by_root.move_to_end(ROOT);
+    let mut other_file = sound.clone();
+    let at = inline::CONTENTS + 99;
+    other_file.put("byte", last, at, &[!sound.block(last)[at]]);
+    let mut other_entry = ended_by_root.card.image.clone();
+    other_entry.set(root, inline::in_slot(NAME_LEN, 0), 0);
+    let word = OsStr::new;
+    for (kept, new) in [
+        (&sound, &other_file),
+        (&ended_by_root.card.image, &other_entry),
+    ] {
+        let [kept, new] = [kept, new].map(CardFile::of);
+        let [kept, new] = [kept.path(), new.path()];
+        let [kept, new] = [kept.as_os_str(), new.as_os_str()];
+        expect_status(0, &[word("cat"), kept, word("road.bin")]);
+        expect_status(0, &[word("ls"), kept]);
+        expect_status(1, &[word("compare"), kept, new, word("road.bin")]);
+        expect_status(1, &[word("compare"), new, kept, word("road.bin")]);
+        expect_status(2, &[word("pull"), new, word("road.bin"), word("1")]);
     }
 }
