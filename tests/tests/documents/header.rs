@@ -7,11 +7,14 @@ use std::process::{Command, Stdio};
 use harptimber_tests::calls::lent::Lens;
 use harptimber_tests::cards::layout::checkpoint::CP_LARGE_NAT_BITMAP_FLAG;
 use harptimber_tests::cards::layout::dentry::LONGEST_NAME;
-use harptimber_tests::cards::layout::inode::{EXTRA_ATTR, INLINE_DATA, INLINE_DENTRY};
+use harptimber_tests::cards::layout::inode::{
+    EXTRA_ATTR, INLINE_DATA, INLINE_DENTRY, INLINE_XATTR,
+};
 use harptimber_tests::cards::layout::nat::MAP_BYTES_PER_SEGMENT;
 use harptimber_tests::cards::layout::{journal, sit_journal, BLOCK_SIZE, SEGMENT_BLOCKS};
+use harptimber_tests::program::inline::{ROOM, ROOM_BESIDE_XATTR};
 use harptimber_tests::program::levels::MOST_LEVEL;
-use harptimber_tests::program::page::meaning;
+use harptimber_tests::program::page::{meaning, with_commas};
 use harptimber_tests::program::{host, ran};
 use harptimber_tests::sizes::{BLOCKS_MOST, CARD_BLOCKS_MOST, NODES_MOST, SEGMENTS_MOST};
 use harptimber_tests::tools::published::Scratch;
@@ -147,10 +150,17 @@ fn unreadable() {
 /// The same of answer 12.
 #[test]
 fn kinds_not_read() {
+    let [room, beside] = [ROOM, ROOM_BESIDE_XATTR].map(with_commas);
+    let other_mark = format!("{INLINE_DATA}, inline data, or the file's have {INLINE_DENTRY}");
     let parts = [
         "the root isn't a directory".to_string(),
         "isn't a regular file".to_string(),
-        format!("inline flags have {INLINE_DATA}, {INLINE_DENTRY} or {EXTRA_ATTR:x} hex"),
+        format!("the inode's inline flags have {EXTRA_ATTR:x} hex"),
+        format!("the root's inline flags have {other_mark}, inline dentry"),
+        "alone or with its own".to_string(),
+        format!("the root's have {INLINE_DENTRY}, and its size is over {beside} bytes"),
+        format!("the file's have {INLINE_DATA}, and its size is over {beside} bytes if they have"),
+        format!("have {INLINE_XATTR} too, inline attributes, and over {room} if not"),
         "depth is over 63".to_string(),
         format!("directory level (i_dir_level) is over {MOST_LEVEL}"),
         "A file's own level isn't asked for".to_string(),

@@ -12,11 +12,12 @@ use harptimber_tests::cards::image::Image;
 use harptimber_tests::cards::knobs::{Knobs, Pack};
 use harptimber_tests::cards::layout::BLOCK_SIZE;
 use harptimber_tests::program::card::{ProgramCard, ROAD};
+use harptimber_tests::program::inline::{ROOM, ROOM_BESIDE_XATTR};
 use harptimber_tests::program::levels::MOST_LEVEL;
 use harptimber_tests::program::page::with_commas;
 use harptimber_tests::running::ran;
 use harptimber_tests::sizes::CARD_BLOCKS_MOST;
-use harptimber_tests::tools::published::Scratch;
+use harptimber_tests::tools::published::{Scratch, LONGEST_INLINE};
 use harptimber_tests::trial::Random;
 
 fn root() -> PathBuf {
@@ -126,7 +127,6 @@ fn directory_levels() {
             "README.md",
             format!("directory level (`dir_level` in Linux) of up to {MOST_LEVEL}."),
         ),
-        ("README.md", format!("a 12 of one before {READS_LEVELS}")),
         (
             "docs/C-API.md",
             format!("From {READS_LEVELS} on a root directory with a level of 1 to {MOST_LEVEL}"),
@@ -142,6 +142,41 @@ fn directory_levels() {
         (
             "host/harptimber.1",
             format!("its directory level (i_dir_level) is over {MOST_LEVEL}"),
+        ),
+    ] {
+        expect_words(page, &words);
+    }
+}
+
+/// The first version that reads inline files and roots: it is the last after which a 12 is to be thrown away.
+const READS_INLINE: &str = "0.7.0";
+
+/// Inline files and roots: how long they are, and since when they are read.
+#[test]
+fn inline_inodes() {
+    let [longest, room, beside] = [LONGEST_INLINE, ROOM, ROOM_BESIDE_XATTR].map(with_commas);
+    for (page, words) in [
+        ("README.md", format!("as files of up to {longest} bytes usually are")),
+        ("README.md", format!("a 12 of one before {READS_INLINE}")),
+        (
+            "docs/C-API.md",
+            format!("From {READS_INLINE} on inline files are read, and an inline root directory is searched"),
+        ),
+        (
+            "docs/C-API.md",
+            format!("at most {beside}, or {room} if the inode has no inline attributes"),
+        ),
+        (
+            "host/include/harptimber.h",
+            format!("before {READS_INLINE} an inline root directory and an inline file"),
+        ),
+        (
+            "host/harptimber.1",
+            format!("Files of up to {longest} bytes, empty ones too, usually are inline"),
+        ),
+        (
+            "host/harptimber.1",
+            format!("room for {beside} bytes, or for {room} of a file without inline attributes"),
         ),
     ] {
         expect_words(page, &words);
