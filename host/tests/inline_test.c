@@ -106,8 +106,8 @@ static const struct inode inline_root = {.mode = DIRECTORY, .inline_flags = DENT
 /* Sizes on both sides of each room, in an inode that keeps some for attributes and in one that doesn't. */
 static void test_sizes(void)
 {
-    static const uint64_t sizes[] = {0,    1,    2,    3343, 3344, 3345, 3487, 3488,         3489,
-                                     3687, 3688, 3689, 4095, 4096, 4097, 8192, 1ULL << 32, UINT64_MAX};
+    static const uint64_t sizes[] = {0,    1,    2,    3343, 3344, 3345, 3487,       3488,             3489,      3687,
+                                     3688, 3689, 4095, 4096, 4097, 8192, 1ULL << 32, (1ULL << 32) + 1, UINT64_MAX};
     static const uint8_t flags[] = {DATA, DATA | XATTR, DATA | 8, DATA | XATTR | 8 | 0x10 | 0x40 | 0x80};
     static const uint32_t indexes[] = {0, 1, 2, UINT32_MAX};
     put_root(&plain_root);
@@ -173,7 +173,7 @@ static void expect_root(const char *what, uint64_t value, struct inode root, uin
 /* Its size, depth and level, each around its bound; a size of 0 comes last. */
 static void test_roots(void)
 {
-    static const uint64_t sizes[] = {1, 4, 3487, 3488, 3489, 3688, 4096, UINT64_MAX};
+    static const uint64_t sizes[] = {1, 4, 3487, 3488, 3489, 3688, 4096, (1ULL << 32) + 1, UINT64_MAX};
     static const uint32_t depths[] = {0, 1, 2, 31, 62, 63, 64, UINT32_MAX}, levels[] = {0, 1, 29, 30, 31, 255};
     put_file(DATA | XATTR, 100);
     struct inode root = inline_root;

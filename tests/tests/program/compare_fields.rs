@@ -438,18 +438,23 @@ fn around_inline_files() {
 /// its new end.
 #[test]
 fn grown_inline_file() {
-    let mut cards = Cards::new();
-    let ino = cards.kept.file(INLINE).ino;
-    let block = cards.kept.card.inode_block(ino);
-    let told = cards.told(INLINE, block, |image| {
-        image.set_all(block, &[(I_INLINE, 0x0A), (I_SIZE, 200)]);
-        let byte = image.block(block)[CONTENTS + 199] ^ 1;
-        image.put("byte", block, CONTENTS + 199, &[byte]);
-    });
-    let flags = "inline flags (0x2 before, 0xa now)";
-    let place = format!("changed in the file's inode (node {ino}, the card's block {block})");
-    let size = "size (100 before, 200 now)";
-    assert_eq!(told, format!("{flags}, {size}, inline contents {place}"));
+    for [before, now] in [[0x02, 0x0A], [0x0A, 0x02]] {
+        let mut card = ProgramCard::build();
+        let ino = card.file(INLINE).ino;
+        let block = card.card.inode_block(ino);
+        card.disk.image.set(block, I_INLINE, before);
+        card.disk.image.settle("another flag");
+        card.disk.write_blocks(&[block]);
+        let told = Cards::of(card).told(INLINE, block, |image| {
+            image.set_all(block, &[(I_INLINE, now), (I_SIZE, 200)]);
+            let byte = image.block(block)[CONTENTS + 199] ^ 1;
+            image.put("byte", block, CONTENTS + 199, &[byte]);
+        });
+        let flags = format!("inline flags ({before:#x} before, {now:#x} now)");
+        let place = format!("changed in the file's inode (node {ino}, the card's block {block})");
+        let size = "size (100 before, 200 now)";
+        assert_eq!(told, format!("{flags}, {size}, inline contents {place}"));
+    }
 }
 
 /// Of many things that changed the first are told, and how many there are besides.

@@ -199,7 +199,7 @@ fn rooms_of_files() {
                 stage.with_fields(inode, &fields, |stage| stage.expect_read(size));
             }
             let over = room as u64 + 1;
-            for size in [over, 4096, 4097, 8192, 1 << 32, u64::MAX] {
+            for size in [over, 4096, 4097, 8192, 1 << 32, (1 << 32) + 1, u64::MAX] {
                 let reason = too_long(size, room);
                 let fields = [(I_SIZE, size)];
                 stage.with_fields(inode, &fields, |stage| stage.expect_unread(size, &reason));
@@ -240,10 +240,13 @@ fn rooms_of_roots() {
             let fields = [(I_SIZE, size)];
             stage.with_fields(root, &fields, |stage| stage.expect_read(100));
         }
-        for size in [3489, 3688, 4096, u64::MAX] {
+        for size in [3489, 3688, 4096, (1 << 32) + 1, u64::MAX] {
             let reason = not_read(&too_long(size, ROOM_BESIDE_XATTR));
-            let fields = [(I_SIZE, size)];
-            stage.with_fields(root, &fields, |stage| stage.expect_unread(100, &reason));
+            for (depth, level) in [(1, 0), (64, 0), (1, 31)] {
+                let others = [(I_CURRENT_DEPTH, depth), (I_DIR_LEVEL, level)];
+                let fields = [&others[..], &[(I_SIZE, size)]].concat();
+                stage.with_fields(root, &fields, |stage| stage.expect_unread(100, &reason));
+            }
         }
         for (field, read, over, what) in [
             (I_CURRENT_DEPTH, [0, 1, 2, 63], [64, 255], "depth"),
