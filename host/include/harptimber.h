@@ -105,8 +105,8 @@ enum harptimber_answer {
      *   - the root directory's depth is over 63;
      *   - its directory level (i_dir_level) is over 30. Up to 30, names are sought where that level puts them. A file's
      *     own level isn't asked for.
-     * A file with inline data is read otherwise, and a root with inline entries is searched, slot by slot whatever its depth
-     * and level are. No other inline flag is asked for.
+     * Otherwise a file with inline data is read, and a root with inline dentries is searched, slot by slot: within these bounds
+     * its depth and level decide nothing. No other inline flag is asked for.
      */
     HARPTIMBER_KIND_NOT_READ = 12,
     HARPTIMBER_DATA_OUTSIDE = 13,
