@@ -10,7 +10,7 @@ use crate::cards::knobs::{Knobs, Pack};
 use crate::cards::layout::inode::*;
 use crate::cards::layout::journal::JournalEntry;
 use crate::cards::layout::nat::{NatEntry, ENTRIES_PER_BLOCK};
-use crate::cards::layout::{footer, slots, Field};
+use crate::cards::layout::{footer, slots, Field, BLOCK_SIZE};
 use crate::cards::random::shuffle;
 use crate::cards::tree::{self, Step};
 use crate::trial::Random;
@@ -229,10 +229,16 @@ fn elsewhere(entry: NatEntry) -> NatEntry {
 
 /// Files.
 impl Card {
-    /// A directory or a regular file. What the fields leave out is junk.
+    /// A directory or a regular file. What the fields leave out is junk, and so is all that an inline one has instead of
+    /// addresses and node numbers.
     pub fn add_inode(&mut self, ino: u32, fields: &[(Field, u64)]) -> u32 {
         let block = self.add_node(ino, ino, 0).block;
         self.image.set_all(block, fields);
+        if self.image.get(block, I_INLINE) & (INLINE_DATA | INLINE_DENTRY) != 0 {
+            let at = slots::I_ADDR.at;
+            let junk = self.random.bytes(footer::NID.at - at);
+            self.image.put("contents of an inode", block, at, &junk);
+        }
         block
     }
 
@@ -240,18 +246,27 @@ impl Card {
         self.add_root_with(DirLevel(0), inline, depth)
     }
 
+    /// An inline one has no entries yet.
     pub fn add_root_with(&mut self, dir_level: DirLevel, inline: u64, depth: u32) -> u32 {
+        let size = match inline & INLINE_DENTRY {
+            0 => BLOCK_SIZE,
+            _ => INLINE_DIRECTORY_ROOM,
+        };
         let fields = [
             (I_MODE, S_IFDIR | 0o755),
             (I_INLINE, inline),
-            (I_SIZE, 4096),
+            (I_SIZE, size as u64),
             (I_CURRENT_DEPTH, u64::from(depth)),
             (I_DIR_LEVEL, u64::from(dir_level.0)),
         ];
-        self.add_inode(ROOT, &fields)
+        let block = self.add_inode(ROOT, &fields);
+        if let Some(slots) = self.inline_slots() {
+            self.image.clear_slots(slots);
+        }
+        block
     }
 
-    /// A file without blocks. Depth and level, which only a directory is asked for, are junk.
+    /// A file without blocks; an inline one has junk. Depth and level, which only a directory is asked for, are junk.
     pub fn add_file(&mut self, inline: u64, size: u64) -> u32 {
         let ino = self.free_number();
         let fields = [
@@ -275,6 +290,15 @@ impl Card {
 
     pub fn inode_block(&self, ino: u32) -> u32 {
         self.node(ino, 0).block
+    }
+
+    /// The way to the contents of an inode. It ends there: the first address isn't consulted.
+    pub fn inline_way(&self, ino: u32) -> Vec<Passage> {
+        vec![Passage {
+            node: self.node(ino, 0),
+            place: 0,
+            slot: slots::I_ADDR,
+        }]
     }
 
     pub fn addresses(&self, ino: u32) -> u32 {
@@ -318,6 +342,14 @@ impl Card {
         let block = self.free_block();
         self.set_address(ino, index, block);
         block
+    }
+}
+
+/// How many bytes of a file an inode has room for by its inline byte.
+pub fn inline_room_by(inline: u64) -> usize {
+    match inline & INLINE_XATTR {
+        0 => INLINE_ROOM,
+        _ => INLINE_ROOM_WITH_XATTR,
     }
 }
 

@@ -68,16 +68,12 @@ impl Dentry {
     }
 }
 
-/// A field of a slot's entry.
+/// A field of a slot's entry in a directory block.
 pub fn in_slot(field: Field, slot: usize) -> Field {
-    field.moved(slot * ENTRY_SIZE)
+    IN_BLOCK.in_slot(field, slot)
 }
 
-/// The byte of the map that has a slot's bit.
+/// The byte of a directory block's map that has a slot's bit.
 pub fn map_byte(slot: usize) -> Field {
-    Field {
-        name: "directory map",
-        at: slot / 8,
-        size: 1,
-    }
+    IN_BLOCK.map_byte(slot)
 }

@@ -1,31 +1,35 @@
-//! A block of a directory by itself, with any map.
+//! The block with a directory's slots by itself, with any map: one of the directory's own, or its inode.
 
 use std::ops::Range;
 
-use crate::cards::dentry::{in_slot, Dentry};
+use crate::cards::dentry::Dentry;
 use crate::cards::layout::dentry::*;
 use crate::cards::layout::{Field, BLOCK_SIZE};
-use crate::cards::maps::{Map, SLOTS};
+use crate::cards::maps::Map;
 use crate::trial::Random;
 
 #[derive(Clone)]
-pub struct DentryBlock(Vec<u8>);
+pub struct DentryBlock {
+    pub layout: Layout,
+    bytes: Vec<u8>,
+}
 
 impl DentryBlock {
-    /// Every slot is free. All bytes behind the map are this one.
-    pub fn free(byte: u8) -> DentryBlock {
+    /// Every slot is free. All bytes beside the map are this one.
+    pub fn free(layout: Layout, byte: u8) -> DentryBlock {
         let mut bytes = vec![byte; BLOCK_SIZE];
-        bytes[..MAP_BYTES].fill(0);
-        DentryBlock(bytes)
+        bytes[layout.start..][..layout.map_bytes].fill(0);
+        DentryBlock { layout, bytes }
     }
 
-    pub fn junk(random: &mut Random) -> DentryBlock {
-        DentryBlock(random.bytes(BLOCK_SIZE))
+    pub fn junk(layout: Layout, random: &mut Random) -> DentryBlock {
+        let bytes = random.bytes(BLOCK_SIZE);
+        DentryBlock { layout, bytes }
     }
 
     /// One entry in each slot that is in use, and another in each that is free. They take one slot each.
-    pub fn with_map(map: &Map, used: &Dentry, left: &Dentry) -> DentryBlock {
-        let mut block = DentryBlock::free(0);
+    pub fn with_map(layout: Layout, map: &Map, used: &Dentry, left: &Dentry) -> DentryBlock {
+        let mut block = DentryBlock::free(layout, 0);
         for (slot, &in_use) in map.iter().enumerate() {
             block.write(slot, if in_use { used } else { left });
             block.set_bit(slot, in_use);
@@ -34,12 +38,17 @@ impl DentryBlock {
     }
 
     pub fn bytes(&self) -> &[u8] {
-        &self.0
+        &self.bytes
+    }
+
+    /// All that may be in use: the map, the entries and the names.
+    pub fn slot_bytes(&self) -> &[u8] {
+        &self.bytes[self.layout.start..self.layout.name_at(self.layout.slots)]
     }
 
     /// A bit of the map, or of what lies behind it.
     pub fn set_bit(&mut self, slot: usize, set: bool) {
-        let byte = &mut self.0[slot / 8];
+        let byte = &mut self.bytes[self.layout.map_byte(slot).at];
         *byte &= !(1 << (slot % 8));
         *byte |= u8::from(set) << (slot % 8);
     }
@@ -50,20 +59,21 @@ impl DentryBlock {
         }
     }
 
-    /// Writes an entry, also one for a slot that the block doesn't have, and as much of its name as there is room
-    /// for. The map stays as it is.
+    /// Writes an entry, also one for a slot that isn't there, and as much of its name as there is room for before the
+    /// block's end. The map stays as it is.
     pub fn write(&mut self, slot: usize, dentry: &Dentry) {
         for (field, number) in [(HASH_CODE, dentry.hash), (INO, dentry.ino)] {
-            self.set(in_slot(field, slot), number);
+            self.set(field, slot, number);
         }
         self.set_len(slot, dentry.len);
-        let room = SLOTS.saturating_sub(slot) * SLOT_LEN;
-        let name = &dentry.name[..dentry.name.len().min(room)];
-        self.0[BLOCK_SIZE - room..][..name.len()].copy_from_slice(name);
+        let at = self.layout.name_at(slot).min(BLOCK_SIZE);
+        let room = &mut self.bytes[at..];
+        let len = dentry.name.len().min(room.len());
+        room[..len].copy_from_slice(&dentry.name[..len]);
     }
 
     pub fn set_len(&mut self, slot: usize, len: usize) {
-        self.set(in_slot(NAME_LEN, slot), len as u32);
+        self.set(NAME_LEN, slot, len as u32);
     }
 
     /// Writes an entry, and sets the bit of its first slot alone.
@@ -72,9 +82,9 @@ impl DentryBlock {
         self.set_bit(slot, true);
     }
 
-    fn set(&mut self, field: Field, number: u32) {
-        let stored = &number.to_le_bytes()[..field.size];
-        self.0[field.at..][..field.size].copy_from_slice(stored);
+    fn set(&mut self, field: Field, slot: usize, number: u32) {
+        let Field { at, size, .. } = self.layout.in_slot(field, slot);
+        self.bytes[at..][..size].copy_from_slice(&number.to_le_bytes()[..size]);
     }
 }
 
@@ -130,10 +140,10 @@ impl Mixture {
     }
 
     /// A block of such slots. The bits that belong to no slot are junk.
-    pub fn block(self, random: &mut Random, name: &[u8], ino: u32) -> DentryBlock {
-        let mut block = DentryBlock::junk(random);
-        for slot in 0..SLOTS {
-            let longest = self.longest.min((SLOT_LEN * (SLOTS - slot)) as u64);
+    pub fn block(self, layout: Layout, random: &mut Random, name: &[u8], ino: u32) -> DentryBlock {
+        let mut block = DentryBlock::junk(layout, random);
+        for slot in 0..layout.slots {
+            let longest = self.longest.min((SLOT_LEN * (layout.slots - slot)) as u64);
             let mut dentry = aside(name, random.number() as u32);
             dentry.len = 1 + random.below(longest) as usize;
             if random.below(self.malformed) == 0 {

@@ -3,7 +3,8 @@
 use crate::cards::card::{Card, ROOT};
 use crate::cards::image::Image;
 use crate::cards::layout::dentry::*;
-use crate::cards::layout::inode::I_DIR_LEVEL;
+use crate::cards::layout::inode::{INLINE_DENTRY, I_DIR_LEVEL, I_INLINE};
+use crate::cards::layout::Field;
 use crate::cards::tree::last_index;
 
 pub use crate::cards::dentry::{in_slot, map_byte, Dentry};
@@ -69,49 +70,92 @@ pub fn bucket_index(level: u32, hash: u32, nth: u32) -> u32 {
     DirLevel(0).index(level, hash, nth) as u32
 }
 
-/// Directory blocks.
+/// A directory's slots: the block that has them, and where they stand there.
+#[derive(Clone, Copy, Debug)]
+pub struct Slots {
+    pub block: u32,
+    pub layout: Layout,
+}
+
+/// A number alone is that of a directory block.
+impl From<u32> for Slots {
+    fn from(block: u32) -> Slots {
+        Slots {
+            block,
+            layout: IN_BLOCK,
+        }
+    }
+}
+
 impl Image {
     /// Clears every slot. The map's last bits, which belong to no slot, are set.
-    pub fn clear_slots(&mut self, block: u32) {
-        let mut map = [0; MAP_BYTES];
-        map[MAP_BYTES - 1] = !0 << (NR_DENTRY_IN_BLOCK % 8);
-        self.put("directory map", block, 0, &map);
+    pub fn clear_slots(&mut self, slots: impl Into<Slots>) {
+        let Slots { block, layout } = slots.into();
+        let mut map = vec![0; layout.map_bytes];
+        map[layout.map_bytes - 1] = !0 << (layout.slots % 8);
+        self.put("directory map", block, layout.start, &map);
     }
 
-    pub fn slot_bit(&self, block: u32, slot: usize) -> bool {
-        self.get(block, map_byte(slot)) >> (slot % 8) & 1 == 1
+    pub fn slot_bit(&self, slots: impl Into<Slots>, slot: usize) -> bool {
+        let Slots { block, layout } = slots.into();
+        self.get(block, layout.map_byte(slot)) >> (slot % 8) & 1 == 1
     }
 
-    pub fn set_slot_bit(&mut self, block: u32, slot: usize, set: bool) {
+    pub fn set_slot_bit(&mut self, slots: impl Into<Slots>, slot: usize, set: bool) {
+        let Slots { block, layout } = slots.into();
         let bit = 1 << (slot % 8);
-        let others = self.get(block, map_byte(slot)) & !bit;
+        let others = self.get(block, layout.map_byte(slot)) & !bit;
         let byte = if set { others | bit } else { others };
-        self.set(block, map_byte(slot), byte);
+        self.set(block, layout.map_byte(slot), byte);
     }
 
     /// Sets or clears the bit of each slot of an entry, as Linux does.
-    pub fn set_slot_bits(&mut self, block: u32, slot: usize, slots: usize, set: bool) {
-        for slot in slot..NR_DENTRY_IN_BLOCK.min(slot + slots) {
-            self.set_slot_bit(block, slot, set);
+    pub fn set_slot_bits(&mut self, of: impl Into<Slots>, slot: usize, slots: usize, set: bool) {
+        let of = of.into();
+        for slot in slot..of.layout.slots.min(slot + slots) {
+            self.set_slot_bit(of, slot, set);
         }
     }
 
-    /// Writes an entry with its bits. Of a name that is too long for the block only the start is
-    /// written.
-    pub fn put_dentry(&mut self, block: u32, slot: usize, dentry: &Dentry) {
-        self.set(block, in_slot(HASH_CODE, slot), u64::from(dentry.hash));
-        self.set(block, in_slot(INO, slot), u64::from(dentry.ino));
-        self.set(block, in_slot(NAME_LEN, slot), dentry.len as u64);
-        self.set_slot_bits(block, slot, dentry.slots().max(1), true);
-        let room = (NR_DENTRY_IN_BLOCK - slot) * SLOT_LEN;
+    /// Writes an entry with its bits. Of a name that is too long for its slots only the start is written.
+    pub fn put_dentry(&mut self, slots: impl Into<Slots>, slot: usize, dentry: &Dentry) {
+        let slots = slots.into();
+        let Slots { block, layout } = slots;
+        for (field, number) in [
+            (HASH_CODE, u64::from(dentry.hash)),
+            (INO, u64::from(dentry.ino)),
+            (NAME_LEN, dentry.len as u64),
+        ] {
+            self.set(block, layout.in_slot(field, slot), number);
+        }
+        self.set_slot_bits(slots, slot, dentry.slots().max(1), true);
+        let room = (layout.slots - slot) * SLOT_LEN;
         let name = &dentry.name[..dentry.name.len().min(room)];
-        self.put("name", block, FILENAMES + slot * SLOT_LEN, name);
+        self.put("name", block, layout.name_at(slot), name);
+    }
+
+    /// The entries in slots that are in use.
+    pub fn entries_in(&self, slots: impl Into<Slots>) -> Vec<Linked> {
+        let slots = slots.into();
+        let mut found = Vec::new();
+        let mut slot = 0;
+        while slot < slots.layout.slots {
+            if self.slot_bit(slots, slot) {
+                let linked = Linked::at(slots, slot);
+                found.push(linked);
+                let len = self.get(linked.block, linked.field(NAME_LEN)) as usize;
+                slot += len.div_ceil(SLOT_LEN).max(1);
+            } else {
+                slot += 1;
+            }
+        }
+        found
     }
 
     /// The first of so many free slots in a row.
-    fn free_slot(&self, block: u32, slots: usize) -> Option<usize> {
-        let free = |slot: usize| (slot..slot + slots).all(|slot| !self.slot_bit(block, slot));
-        (0..=NR_DENTRY_IN_BLOCK - slots).find(|&slot| free(slot))
+    fn free_slot(&self, of: Slots, slots: usize) -> Option<usize> {
+        let free = |slot: usize| (slot..slot + slots).all(|slot| !self.slot_bit(of, slot));
+        (0..=of.layout.slots - slots).find(|&slot| free(slot))
     }
 }
 
@@ -119,7 +163,30 @@ impl Image {
 #[derive(Clone, Copy, Debug)]
 pub struct Linked {
     pub block: u32,
+    pub layout: Layout,
     pub slot: usize,
+}
+
+impl Linked {
+    fn at(slots: Slots, slot: usize) -> Linked {
+        let Slots { block, layout } = slots;
+        Linked {
+            block,
+            layout,
+            slot,
+        }
+    }
+
+    /// The slots that it is one of.
+    pub fn of(&self) -> Slots {
+        let Linked { block, layout, .. } = *self;
+        Slots { block, layout }
+    }
+
+    /// A field of the entry.
+    pub fn field(&self, field: Field) -> Field {
+        self.layout.in_slot(field, self.slot)
+    }
 }
 
 impl Card {
@@ -154,12 +221,25 @@ impl Card {
         Some((index, *block))
     }
 
-    /// Puts an entry in a block of its bucket, in the first slots that are free.
+    /// The root directory's slots in its inode, if they stand there.
+    pub fn inline_slots(&self) -> Option<Slots> {
+        let block = self.inode_block(ROOT);
+        let inline = self.image.get(block, I_INLINE) & INLINE_DENTRY != 0;
+        inline.then_some(Slots {
+            block,
+            layout: IN_INODE,
+        })
+    }
+
+    /// Puts an entry in a block of its bucket, or in the inode of an inline directory, in the first slots that are free.
     pub fn link(&mut self, level: u32, nth: u32, dentry: &Dentry) -> Linked {
-        let block = self.bucket_block(level, dentry.hash, nth);
-        let slot = self.image.free_slot(block, dentry.slots());
-        let slot = slot.expect("free slots in the bucket");
-        self.image.put_dentry(block, slot, dentry);
-        Linked { block, slot }
+        let slots = match self.inline_slots() {
+            Some(slots) => slots,
+            None => self.bucket_block(level, dentry.hash, nth).into(),
+        };
+        let slot = self.image.free_slot(slots, dentry.slots());
+        let slot = slot.expect("free slots in the directory");
+        self.image.put_dentry(slots, slot, dentry);
+        Linked::at(slots, slot)
     }
 }

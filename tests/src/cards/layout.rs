@@ -386,16 +386,25 @@ pub mod inode {
     pub const S_IFREG: u64 = 0x8000;
     pub const S_IFDIR: u64 = 0x4000;
 
-    /// With it the inode has fewer addresses.
+    /// With it the inode has fewer addresses, and less room for a file's bytes.
     pub const INLINE_XATTR: u64 = 0x01;
-    /// Inode kinds that aren't read: the file's or the directory's contents stand in the inode, or
-    /// the addresses start further on.
+    /// A file's bytes or a directory's entries stand in the inode.
     pub const INLINE_DATA: u64 = 0x02;
     pub const INLINE_DENTRY: u64 = 0x04;
+    /// The file has data, as the tools note it. It isn't consulted.
+    pub const DATA_EXIST: u64 = 0x08;
+    /// A kind that isn't read: the addresses start further on.
     pub const EXTRA_ATTR: u64 = 0x20;
 
     pub const ADDRESSES: u32 = 923;
     pub const ADDRESSES_WITH_XATTR: u32 = 873;
+
+    /// Where contents start that stand in the inode, and the room for a file's.
+    pub const INLINE_AT: usize = 364;
+    pub const INLINE_ROOM: usize = 3688;
+    pub const INLINE_ROOM_WITH_XATTR: usize = 3488;
+    /// The room for a directory's, with that bit or without.
+    pub const INLINE_DIRECTORY_ROOM: usize = 3488;
 }
 
 /// The first of the slots in a node block that lead on: addresses and node numbers in an inode, and
@@ -413,9 +422,9 @@ pub mod slots {
     pub const PER_NODE: u64 = 1018;
 }
 
-/// A block of a directory.
+/// The slots of a directory.
 pub mod dentry {
-    // The numbers of the first slot's entry.
+    // The numbers of the first slot's entry in a block.
     fields! { from 30:
         HASH_CODE: 4 at 0,
         INO: 4 at 4,
@@ -430,4 +439,57 @@ pub mod dentry {
     pub const SLOT_LEN: usize = 8;
     pub const FILENAMES: usize = 2384;
     pub const LONGEST_NAME: usize = 255;
+    /// From the map's first byte to the first entry.
+    pub const BEFORE_ENTRIES: usize = 30;
+
+    /// Where the slots stand in 4,096 bytes.
+    #[derive(Clone, Copy, Debug, PartialEq, Eq)]
+    pub struct Layout {
+        pub name: &'static str,
+        /// The first byte of the map.
+        pub start: usize,
+        pub map_bytes: usize,
+        pub slots: usize,
+        /// From there to the first name.
+        pub filenames: usize,
+    }
+
+    /// A block of a directory.
+    pub const IN_BLOCK: Layout = Layout {
+        name: "in a block",
+        start: 0,
+        map_bytes: MAP_BYTES,
+        slots: NR_DENTRY_IN_BLOCK,
+        filenames: FILENAMES,
+    };
+    /// A directory that stands in its inode.
+    pub const IN_INODE: Layout = Layout {
+        name: "in an inode",
+        start: super::inode::INLINE_AT,
+        map_bytes: 23,
+        slots: 182,
+        filenames: 2032,
+    };
+    pub const LAYOUTS: [Layout; 2] = [IN_BLOCK, IN_INODE];
+
+    impl Layout {
+        /// A field of a slot's entry.
+        pub fn in_slot(self, field: super::Field, slot: usize) -> super::Field {
+            field.moved(self.start + slot * ENTRY_SIZE)
+        }
+
+        /// The byte of the map that has a slot's bit.
+        pub fn map_byte(self, slot: usize) -> super::Field {
+            super::Field {
+                name: "directory map",
+                at: self.start + slot / 8,
+                size: 1,
+            }
+        }
+
+        /// The first byte of a slot's name.
+        pub fn name_at(self, slot: usize) -> usize {
+            self.start + self.filenames + slot * SLOT_LEN
+        }
+    }
 }

@@ -1,47 +1,48 @@
-//! Maps of a directory block: which of its slots are in use.
+//! Maps of a directory's slots: which of them are in use.
 
-use std::array::from_fn;
 use std::ops::Range;
 
-use crate::cards::layout::dentry::{MAP_BYTES, NR_DENTRY_IN_BLOCK};
+use crate::cards::layout::dentry::BEFORE_ENTRIES;
 use crate::trial::Random;
 
-pub const SLOTS: usize = NR_DENTRY_IN_BLOCK;
-/// Bits of a map and of the reserved bytes behind it. From `SLOTS` on they belong to no slot.
-pub const BITS: usize = 8 * (MAP_BYTES + 3);
+/// Bits of a map and of the reserved bytes behind it. Those behind the last slot's belong to none.
+pub const BITS: usize = 8 * BEFORE_ENTRIES;
 
 /// Whether each slot is in use.
-pub type Map = [bool; SLOTS];
+pub type Map = Vec<bool>;
 
 /// So many slots in use, so many free, and so on, or the other way round.
-pub fn striped(width: usize, first: bool) -> Map {
-    from_fn(|slot| (slot / width % 2 == 0) == first)
+pub fn striped(slots: usize, width: usize, first: bool) -> Map {
+    let stripe = |slot: usize| (slot / width % 2 == 0) == first;
+    (0..slots).map(stripe).collect()
 }
 
 /// Just the slots of a run are in use, or just they aren't.
-pub fn with_run(run: Range<usize>, used: bool) -> Map {
-    from_fn(|slot| run.contains(&slot) == used)
+pub fn with_run(slots: usize, run: Range<usize>, used: bool) -> Map {
+    (0..slots).map(|slot| run.contains(&slot) == used).collect()
 }
 
 /// All free, all in use, and in turns by the slot, by the byte, and by words of 32 and 64 bits.
-pub fn plain() -> Vec<Map> {
-    [SLOTS, 1, 8, 32, 64]
+pub fn plain(slots: usize) -> Vec<Map> {
+    [slots, 1, 8, 32, 64]
         .into_iter()
-        .flat_map(|width| [true, false].map(|first| striped(width, first)))
+        .flat_map(|width| [true, false].map(|first| striped(slots, width, first)))
         .collect()
 }
 
 /// Where a byte of the map ends, or all of it, and the slots beside.
-pub fn byte_edges() -> Vec<usize> {
-    (0..=SLOTS)
-        .filter(|slot| [0, 1, 7].contains(&(slot % 8)) || slot + 2 > SLOTS)
-        .collect()
+pub fn byte_edges(slots: usize) -> Vec<usize> {
+    edges(slots, 8)
 }
 
 /// The same of words of 64 bits.
-pub fn word_edges() -> Vec<usize> {
-    (0..=SLOTS)
-        .filter(|slot| [0, 1, 63].contains(&(slot % 64)) || slot + 2 > SLOTS)
+pub fn word_edges(slots: usize) -> Vec<usize> {
+    edges(slots, 64)
+}
+
+fn edges(slots: usize, bits: usize) -> Vec<usize> {
+    (0..=slots)
+        .filter(|slot| [0, 1, bits - 1].contains(&(slot % bits)) || slot + 2 > slots)
         .collect()
 }
 
@@ -52,8 +53,8 @@ pub fn runs(ends: &[usize]) -> impl Iterator<Item = Range<usize>> + '_ {
 }
 
 /// One in so many slots is in use.
-pub fn random_map(random: &mut Random, one_in: u64) -> Map {
-    from_fn(|_| random.below(one_in) == 0)
+pub fn random_map(random: &mut Random, slots: usize, one_in: u64) -> Map {
+    (0..slots).map(|_| random.below(one_in) == 0).collect()
 }
 
 /// How many slots are in use.

@@ -2,11 +2,10 @@
 
 use reference::hash::raw_hash;
 
-use crate::cards::card::{addresses_by, Card, Passage, ROOT};
-use crate::cards::directory::{in_slot, Dentry, DirLevel, Linked, BUCKET_BLOCKS};
+use crate::cards::card::{addresses_by, inline_room_by, Card, Passage, ROOT};
+use crate::cards::directory::{Dentry, DirLevel, Linked, BUCKET_BLOCKS};
 use crate::cards::knobs::Knobs;
-use crate::cards::layout::dentry::{NAME_LEN, NR_DENTRY_IN_BLOCK, SLOT_LEN};
-use crate::cards::layout::inode::INLINE_XATTR;
+use crate::cards::layout::inode::{INLINE_DATA, INLINE_DENTRY, INLINE_XATTR, I_INLINE};
 use crate::cards::layout::{slots, BLOCK_SIZE};
 use crate::cards::names::good_name;
 use crate::cards::random::{between, large_knobs, pick, shuffle, sound_knobs};
@@ -25,7 +24,7 @@ pub struct Target {
     pub passages: Vec<Passage>,
     /// The blocks of the two inodes.
     pub inodes: Vec<u32>,
-    /// Entries in the buckets that the name leads to.
+    /// Entries in the buckets that the name leads to, or in an inline directory.
     pub entries: Vec<Linked>,
 }
 
@@ -68,17 +67,22 @@ struct File {
 }
 
 pub fn random_files(random: &mut Random) -> RandomFiles {
-    let dir_level = any_dir_level(random);
-    random_files_with(random, dir_level)
+    let knobs = small_knobs(random);
+    let root = any_root(random);
+    files_on(random, knobs, root)
 }
 
-/// In a directory with this level.
+/// In a directory with blocks and this level.
 pub fn random_files_with(random: &mut Random, dir_level: DirLevel) -> RandomFiles {
-    let knobs = Knobs {
+    let knobs = small_knobs(random);
+    files_on(random, knobs, Root::with_blocks(dir_level))
+}
+
+fn small_knobs(random: &mut Random) -> Knobs {
+    Knobs {
         main_segments: between(random, 1, 2),
         ..sound_knobs(random)
-    };
-    files_on(random, knobs, dir_level)
+    }
 }
 
 /// On a card of more than 1 GiB.
@@ -86,22 +90,42 @@ pub fn large_random_files(random: &mut Random) -> RandomFiles {
     loop {
         let knobs = large_knobs(random);
         if knobs.main_segments > 0 {
-            let dir_level = any_dir_level(random);
-            return files_on(random, knobs, dir_level);
+            let root = any_root(random);
+            return files_on(random, knobs, root);
         }
     }
 }
 
-/// Every other time none, as most cards have it.
-fn any_dir_level(random: &mut Random) -> DirLevel {
-    let any = random.below(31) as u32;
-    DirLevel(pick(random, &[0, any]))
+/// A root directory: its level, and the inline bit if its entries stand in its inode.
+#[derive(Clone, Copy)]
+struct Root {
+    dir_level: DirLevel,
+    inline: u64,
 }
 
-fn files_on(random: &mut Random, knobs: Knobs, dir_level: DirLevel) -> RandomFiles {
+impl Root {
+    fn with_blocks(dir_level: DirLevel) -> Root {
+        Root {
+            dir_level,
+            inline: 0,
+        }
+    }
+}
+
+/// Every other time without a level, as most cards have it, and every fourth time inline.
+fn any_root(random: &mut Random) -> Root {
+    let any = random.below(31) as u32;
+    Root {
+        dir_level: DirLevel(pick(random, &[0, any])),
+        inline: pick(random, &[0, 0, 0, INLINE_DENTRY]),
+    }
+}
+
+fn files_on(random: &mut Random, knobs: Knobs, root: Root) -> RandomFiles {
     let mut card = Card::new(knobs, Random::new(random.number()));
     let depth = between(random, 1, DEEPEST);
-    card.add_root_with(dir_level, any_inline(random), depth);
+    let Root { dir_level, inline } = root;
+    card.add_root_with(dir_level, any_inline(random) | inline, depth);
     let files: Vec<File> = (0..FILES)
         .map(|_| add_file(&mut card, random, depth))
         .collect();
@@ -122,8 +146,8 @@ fn any_inline(random: &mut Random) -> u64 {
     pick(random, &[0, INLINE_XATTR]) | pick(random, &[0, 0x08, 0x10, 0x40, 0x80])
 }
 
-/// So long that a block has room for two of each file.
-const LONGEST_NAME: u32 = 104;
+/// So long that a block, or an inode, has room for two of each file.
+const LONGEST_NAME: u32 = 88;
 
 fn any_name(random: &mut Random) -> Vec<u8> {
     let most = pick(random, &[8, 9, 20, LONGEST_NAME]);
@@ -131,8 +155,31 @@ fn any_name(random: &mut Random) -> Vec<u8> {
     good_name(random, len)
 }
 
-/// A file under a name of its own.
+/// A file under a name of its own, one in four an inline one.
 fn add_file(card: &mut Card, random: &mut Random, depth: u32) -> File {
+    let (ino, indexes) = match random.below(4) {
+        0 => add_inline(card, random),
+        _ => add_with_blocks(card, random),
+    };
+    let (name, level, nth) = any_place(card, random, depth);
+    card.link(level, nth, &Dentry::new(&name, ino));
+    File {
+        name,
+        ino,
+        level,
+        indexes,
+    }
+}
+
+/// A file whose bytes stand in its inode, and the indexes of its block and of the one behind it.
+fn add_inline(card: &mut Card, random: &mut Random) -> (u32, Vec<u32>) {
+    let inline = any_inline(random) | INLINE_DATA;
+    let size = between(random, 1, inline_room_by(inline) as u32);
+    (card.add_file(inline, size.into()), vec![0, 1])
+}
+
+/// A file with some blocks, and indexes around them.
+fn add_with_blocks(card: &mut Card, random: &mut Random) -> (u32, Vec<u32>) {
     let inline = any_inline(random);
     let indexes = any_indexes(random, inline);
     let past = indexes.iter().max().expect("an index") + between(random, 0, 2);
@@ -142,14 +189,7 @@ fn add_file(card: &mut Card, random: &mut Random, depth: u32) -> File {
     for &index in indexes.iter().filter(|_| random.below(8) > 0) {
         card.add_block(ino, index);
     }
-    let (name, level, nth) = any_place(card, random, depth);
-    card.link(level, nth, &Dentry::new(&name, ino));
-    File {
-        name,
-        ino,
-        level,
-        indexes,
-    }
+    (ino, indexes)
 }
 
 /// A name with a hash level and the block of a bucket there, if it isn't past the last index.
@@ -164,10 +204,10 @@ fn any_place(card: &Card, random: &mut Random, depth: u32) -> (Vec<u8>, u32, u32
     }
 }
 
-/// Whether the root directory can have a block of the bucket that a name leads to.
+/// Whether the root directory can have a block of the bucket that a name leads to, or needs none.
 fn has_block(card: &Card, level: u32, name: &[u8], nth: u32) -> bool {
     let index = card.dir_level().index(level, raw_hash(name), nth);
-    index <= u64::from(last_index(card.addresses(ROOT)))
+    card.inline_slots().is_some() || index <= u64::from(last_index(card.addresses(ROOT)))
 }
 
 /// Indexes around one at which the way changes its nodes.
@@ -200,9 +240,9 @@ fn add_entries_aside(card: &mut Card, random: &mut Random, files: &[File]) {
         }
         if random.below(2) == 0 {
             let deleted = Dentry::new(&file.name, ino);
-            let Linked { block, slot } = card.link(level, nth, &deleted);
+            let linked = card.link(level, nth, &deleted);
             card.image
-                .set_slot_bits(block, slot, deleted.slots(), false);
+                .set_slot_bits(linked.of(), linked.slot, deleted.slots(), false);
         } else {
             let other = Dentry::new(&any_name(random), ino);
             card.link(level, nth, &other.under_hash_of(&file.name));
@@ -219,40 +259,37 @@ fn journal_some(card: &mut Card, random: &mut Random, files: &[File]) {
 }
 
 fn target(card: &mut Card, file: &File, index: u32, depth: u32) -> Target {
-    let hash = raw_hash(&file.name);
+    let (mut passages, entries) = match card.inline_slots() {
+        Some(slots) => (card.inline_way(ROOT), card.image.entries_in(slots)),
+        None => in_buckets(card, &file.name, depth),
+    };
+    let file_block = card.inode_block(file.ino);
+    passages.extend(match card.image.get(file_block, I_INLINE) & INLINE_DATA {
+        0 => card.way(file.ino, index),
+        _ => card.inline_way(file.ino),
+    });
+    Target {
+        name: file.name.clone(),
+        index,
+        passages,
+        inodes: vec![card.inode_block(ROOT), file_block],
+        entries,
+    }
+}
+
+/// The ways to the buckets that a name leads to, and their entries.
+fn in_buckets(card: &mut Card, name: &[u8], depth: u32) -> (Vec<Passage>, Vec<Linked>) {
+    let hash = raw_hash(name);
     let dir_level = card.dir_level();
-    let mut passages = Vec::new();
-    let mut entries = Vec::new();
+    let (mut passages, mut entries) = (Vec::new(), Vec::new());
     for level in 0..depth {
         for nth in 0..BUCKET_BLOCKS {
             let index = dir_level.index(level, hash, nth);
             if let Some((bucket, block)) = card.block_at(index) {
                 passages.extend(card.way(ROOT, bucket));
-                entries.extend(entries_in(card, block));
+                entries.extend(card.image.entries_in(block));
             }
         }
     }
-    passages.extend(card.way(file.ino, index));
-    Target {
-        name: file.name.clone(),
-        index,
-        passages,
-        inodes: vec![card.inode_block(ROOT), card.inode_block(file.ino)],
-        entries,
-    }
-}
-
-fn entries_in(card: &Card, block: u32) -> Vec<Linked> {
-    let mut found = Vec::new();
-    let mut slot = 0;
-    while slot < NR_DENTRY_IN_BLOCK {
-        if card.image.slot_bit(block, slot) {
-            found.push(Linked { block, slot });
-            let len = card.image.get(block, in_slot(NAME_LEN, slot)) as usize;
-            slot += len.div_ceil(SLOT_LEN).max(1);
-        } else {
-            slot += 1;
-        }
-    }
-    found
+    (passages, entries)
 }

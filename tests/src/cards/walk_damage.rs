@@ -2,9 +2,8 @@
 
 use crate::cards::card::{Card, Passage, ROOT};
 use crate::cards::damage::{altered, Damage};
-use crate::cards::directory::{in_slot, map_byte};
 use crate::cards::image::Image;
-use crate::cards::layout::dentry::{self, FILENAMES, NR_DENTRY_IN_BLOCK, SLOT_LEN};
+use crate::cards::layout::dentry::{self, Layout, LAYOUTS, SLOT_LEN};
 use crate::cards::layout::inode::{I_CURRENT_DEPTH, I_INLINE, I_MODE, I_SIZE, S_IFDIR, S_IFREG};
 use crate::cards::layout::{footer, inode, nat, slots, Field, BLOCK_SIZE};
 use crate::cards::random::pick;
@@ -13,14 +12,15 @@ use crate::trial::Random;
 
 /// Gives a number of a block a new value, whatever it is a block of.
 pub fn strike_block(image: &mut Image, block: u32, random: &mut Random) {
-    let slot = random.below(NR_DENTRY_IN_BLOCK as u64) as usize;
+    let layout = pick(random, &LAYOUTS);
+    let slot = random.below(layout.slots as u64) as usize;
     let any = slots::ADDR_OR_NID.moved(slots::SIZE * random.below(slots::PER_NODE) as usize);
     let field = match random.below(6) {
         0 => pick(random, footer::ALL),
         1 => pick(random, inode::ALL),
         2 => slots::I_ADDR,
-        3 => in_slot(pick(random, dentry::ALL), slot % 8),
-        4 => map_byte(slot),
+        3 => layout.in_slot(pick(random, dentry::ALL), slot % 8),
+        4 => layout.map_byte(slot),
         _ => any,
     };
     let areas = image.areas;
@@ -121,8 +121,13 @@ fn inode_number(target: &Target, random: &mut Random) -> Aim {
             .map(|kind| kind << 12)
             .chain([S_IFDIR, S_IFREG])
             .collect(),
-        I_INLINE => (0..8).map(|bit| 1 << bit).collect(),
-        I_SIZE => vec![start, start + 1, start + 4095, start + 4096, start + 4097],
+        // Each bit alone, and mixes of those that say what stands in the inode.
+        I_INLINE => (0..8).map(|bit| 1 << bit).chain(1..8).collect(),
+        I_SIZE => [0, 1, 4095, 4096, 4097]
+            .map(|more| start + more)
+            .into_iter()
+            .chain([3487, 3488, 3489, 3687, 3688, 3689])
+            .collect(),
         I_CURRENT_DEPTH => vec![0, 1, 2, 29, 30, 31, 62, 63, 64, 256],
         // The directory's level.
         _ => vec![0, 1, 2, 22, 23, 29, 30, 31, 32, 0x80, 0xFF],
@@ -144,15 +149,16 @@ fn slot(card: &Card, target: &Target, random: &mut Random) -> Aim {
     }
 }
 
-/// In a directory block: a byte of the map, a number of an entry or a byte of a name.
+/// In a directory's slots: a byte of the map, a number of an entry or a byte of a name.
 fn directory_number(card: &Card, target: &Target, random: &mut Random) -> Aim {
     let linked = pick(random, &target.entries);
-    let any_slot = random.below(NR_DENTRY_IN_BLOCK as u64) as usize;
+    let layout = linked.layout;
+    let any_slot = random.below(layout.slots as u64) as usize;
     let slot = pick(random, &[linked.slot, linked.slot, linked.slot, any_slot]);
     let field = match random.below(4) {
-        0 => map_byte(slot),
-        1 => name_byte(slot, random),
-        _ => in_slot(pick(random, dentry::ALL), slot),
+        0 => layout.map_byte(slot),
+        1 => name_byte(layout, slot, random),
+        _ => layout.in_slot(pick(random, dentry::ALL), slot),
     };
     let lens = [0, 1, 7, 8, 9, 255, 256, target.name.len() as u64];
     let hash = u64::from(reference::hash::raw_hash(&target.name));
@@ -163,11 +169,10 @@ fn directory_number(card: &Card, target: &Target, random: &mut Random) -> Aim {
     }
 }
 
-fn name_byte(slot: usize, random: &mut Random) -> Field {
-    let name = FILENAMES + slot * SLOT_LEN;
+fn name_byte(layout: Layout, slot: usize, random: &mut Random) -> Field {
     Field {
         name: "byte of a name",
-        at: name + random.below(SLOT_LEN as u64) as usize,
+        at: layout.name_at(slot) + random.below(SLOT_LEN as u64) as usize,
         size: 1,
     }
 }

@@ -6,10 +6,11 @@ use harptimber_tests::cards::deep::{all_blocks, Deep};
 use harptimber_tests::cards::dentry::Dentry;
 use harptimber_tests::cards::dentry_block::{aside, leftovers, DentryBlock, Mixture};
 use harptimber_tests::cards::directory::{in_slot, DirLevel};
-use harptimber_tests::cards::layout::dentry::NAME_LEN;
+use harptimber_tests::cards::layout::dentry::{IN_BLOCK, NAME_LEN};
 use harptimber_tests::cards::maps::*;
 use harptimber_tests::cards::one_file::NAME;
 
+const SLOTS: usize = IN_BLOCK.slots;
 /// Both blocks of the name's bucket in each of three hash levels.
 const LEVELS: u32 = 3;
 const BLOCKS: usize = 6;
@@ -36,7 +37,7 @@ fn put(deep: &mut Deep, bucket: usize, block: &DentryBlock) {
 /// All blocks of the search have this map, with every bit set behind it. First they are without the name, then one of
 /// them has it in its last slot in use, or in the very last if none is, and then that slot is malformed.
 fn try_map(pulls: &mut Pulls, deep: &mut Deep, map: &Map, left: &Dentry, with_name: &[usize]) {
-    let mut block = DentryBlock::with_map(map, &aside(NAME, ROOT), left);
+    let mut block = DentryBlock::with_map(IN_BLOCK, map, &aside(NAME, ROOT), left);
     block.set_bits(SLOTS..BITS, true);
     for bucket in 0..BLOCKS {
         put(deep, bucket, &block);
@@ -61,7 +62,7 @@ fn plain_maps() {
     let mut pulls = Pulls::new("pull by plain maps");
     for level in [0, 3] {
         let mut deep = three_levels(&mut pulls, DirLevel(level));
-        for map in plain() {
+        for map in plain(SLOTS) {
             for left in leftovers(NAME, ROOT) {
                 try_map(&mut pulls, &mut deep, &map, &left, &[0, 1, 2, 3, 4, 5]);
             }
@@ -76,16 +77,13 @@ fn first_block_by_itself() {
     let mut pulls = Pulls::new("pull by plain maps in the first block");
     let mut deep = three_levels(&mut pulls, DirLevel(0));
     let aside = aside(NAME, ROOT);
-    for first in plain() {
-        for others in plain() {
+    for first in plain(SLOTS) {
+        for others in plain(SLOTS) {
             for left in leftovers(NAME, ROOT) {
                 for bucket in 0..BLOCKS {
                     let map = if bucket == 0 { &first } else { &others };
-                    put(
-                        &mut deep,
-                        bucket,
-                        &DentryBlock::with_map(map, &aside, &left),
-                    );
+                    let block = DentryBlock::with_map(IN_BLOCK, map, &aside, &left);
+                    put(&mut deep, bucket, &block);
                 }
                 deep.expect_missing(&mut pulls, BLOCKS);
                 deep.link(1, deep.ino);
@@ -105,7 +103,7 @@ fn one_slot() {
     let lefts = leftovers(NAME, ROOT);
     for slot in 0..SLOTS {
         for used in [true, false] {
-            let map = with_run(slot..slot + 1, used);
+            let map = with_run(SLOTS, slot..slot + 1, used);
             let bucket = slot % BLOCKS;
             try_map(&mut pulls, &mut deep, &map, &lefts[slot % 4], &[bucket]);
         }
@@ -117,9 +115,9 @@ fn one_slot() {
 fn runs_at_edges() {
     let mut pulls = Pulls::new("pull by runs of slots at the edges of words");
     let mut deep = three_levels(&mut pulls, DirLevel(1));
-    for run in runs(&word_edges()) {
+    for run in runs(&word_edges(SLOTS)) {
         for used in [true, false] {
-            let map = with_run(run.clone(), used);
+            let map = with_run(SLOTS, run.clone(), used);
             for left in leftovers(NAME, ROOT) {
                 try_map(&mut pulls, &mut deep, &map, &left, &[1, 4]);
             }
@@ -136,7 +134,7 @@ fn random_blocks() {
         let mut deep = three_levels(&mut pulls, DirLevel(0));
         for mixture in Mixture::all() {
             for bucket in 0..BLOCKS {
-                let block = mixture.block(&mut pulls.trial.random, NAME, deep.ino);
+                let block = mixture.block(IN_BLOCK, &mut pulls.trial.random, NAME, deep.ino);
                 put(&mut deep, bucket, &block);
             }
             pulls.compare(&deep.card.image, NAME, 0);

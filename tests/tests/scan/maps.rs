@@ -2,7 +2,7 @@
 
 use crate::cards::dentry::Dentry;
 use crate::cards::dentry_block::{aside, leftovers, DentryBlock};
-use crate::cards::layout::dentry::LONGEST_NAME;
+use crate::cards::layout::dentry::{Layout, IN_BLOCK, IN_INODE, LAYOUTS, LONGEST_NAME};
 use crate::cards::maps::*;
 use crate::scans::{found, malformed, missing, Scans, INO, NAME};
 
@@ -11,20 +11,37 @@ fn turns(map: &Map) -> usize {
     in_use(map) + free_runs(map)
 }
 
-fn expect_missing(scans: &mut Scans, map: &Map, left: &Dentry) {
-    let block = DentryBlock::with_map(map, &aside(NAME, INO), left);
+fn expect_missing(scans: &mut Scans, layout: Layout, map: &Map, left: &Dentry) {
+    let block = DentryBlock::with_map(layout, map, &aside(NAME, INO), left);
     scans.expect(&block, NAME, missing(turns(map)));
 }
 
 #[test]
 fn plain_maps() {
     let mut scans = Scans::new("scan by plain maps");
-    for map in plain() {
-        for left in leftovers(NAME, INO) {
-            expect_missing(&mut scans, &map, &left);
+    for layout in LAYOUTS {
+        for map in plain(layout.slots) {
+            for left in leftovers(NAME, INO) {
+                expect_missing(&mut scans, layout, &map, &left);
+            }
         }
     }
-    scans.finish(10 * 4, &[2]);
+    scans.finish(2 * 10 * 4, &[2]);
+}
+
+/// All slots are free: one run, and so one turn.
+#[test]
+fn one_run_over_all_slots() {
+    let mut scans = Scans::new("scan by one run over all slots");
+    for layout in LAYOUTS {
+        for byte in [0, 0xFF] {
+            scans.expect(&DentryBlock::free(layout, byte), NAME, missing(1));
+        }
+        let mut block = DentryBlock::free(layout, 0);
+        block.put(layout.slots - 1, &Dentry::new(NAME, INO));
+        scans.expect(&block, NAME, found(INO, 2));
+    }
+    scans.finish(2 * 3, &[0, 2]);
 }
 
 /// In the one slot is another entry, the one sought, or one that is malformed.
@@ -32,12 +49,12 @@ fn plain_maps() {
 fn one_slot_in_use() {
     let mut scans = Scans::new("scan by one slot in use");
     let sought = Dentry::new(NAME, INO);
-    for slot in 0..SLOTS {
-        let map = with_run(slot..slot + 1, true);
+    for (layout, slot) in every_slot() {
+        let map = with_run(layout.slots, slot..slot + 1, true);
         let before = usize::from(slot > 0);
         for left in leftovers(NAME, !INO) {
-            expect_missing(&mut scans, &map, &left);
-            let mut block = DentryBlock::with_map(&map, &sought, &left);
+            expect_missing(&mut scans, layout, &map, &left);
+            let mut block = DentryBlock::with_map(layout, &map, &sought, &left);
             scans.expect(&block, NAME, found(INO, before + 1));
             for len in [0, LONGEST_NAME + 1, 0xFFFF] {
                 block.set_len(slot, len);
@@ -45,18 +62,24 @@ fn one_slot_in_use() {
             }
         }
     }
-    scans.finish(214 * 4 * 5, &[0, 2, 14]);
+    scans.finish((214 + 182) * 4 * 5, &[0, 2, 14]);
+}
+
+fn every_slot() -> impl Iterator<Item = (Layout, usize)> {
+    let slots = |layout: Layout| (0..layout.slots).map(move |slot| (layout, slot));
+    LAYOUTS.into_iter().flat_map(slots)
 }
 
 #[test]
 fn one_free_slot() {
     let mut scans = Scans::new("scan by one free slot");
-    for slot in 0..SLOTS {
+    for (layout, slot) in every_slot() {
         for left in leftovers(NAME, INO) {
-            expect_missing(&mut scans, &with_run(slot..slot + 1, false), &left);
+            let map = with_run(layout.slots, slot..slot + 1, false);
+            expect_missing(&mut scans, layout, &map, &left);
         }
     }
-    scans.finish(214 * 4, &[2]);
+    scans.finish((214 + 182) * 4, &[2]);
 }
 
 /// At every distance, from every slot. The second one is now another entry and now the one sought.
@@ -64,18 +87,19 @@ fn one_free_slot() {
 fn two_slots_in_use() {
     let mut scans = Scans::new("scan by two slots in use");
     let lefts = leftovers(NAME, !INO);
-    for first in 0..SLOTS {
-        for second in first + 1..SLOTS {
-            let map: Map = std::array::from_fn(|slot| slot == first || slot == second);
+    for (layout, first) in every_slot() {
+        for second in first + 1..layout.slots {
+            let mut map = with_run(layout.slots, first..first + 1, true);
+            map[second] = true;
             let left = &lefts[(first + second) % 4];
-            let mut block = DentryBlock::with_map(&map, &aside(NAME, INO), left);
+            let mut block = DentryBlock::with_map(layout, &map, &aside(NAME, INO), left);
             scans.expect(&block, NAME, missing(turns(&map)));
             block.write(second, &Dentry::new(NAME, INO));
-            let behind = usize::from(second + 1 < SLOTS);
+            let behind = usize::from(second + 1 < layout.slots);
             scans.expect(&block, NAME, found(INO, turns(&map) - behind));
         }
     }
-    scans.finish(2 * 214 * 213 / 2, &[0, 2]);
+    scans.finish(214 * 213 + 182 * 181, &[0, 2]);
 }
 
 /// Every run of free slots in a full block, and every run in use in an empty one.
@@ -83,14 +107,17 @@ fn two_slots_in_use() {
 fn every_run() {
     let mut scans = Scans::new("scan by every run of slots");
     let lefts = leftovers(NAME, INO);
-    let ends: Vec<usize> = (0..=SLOTS).collect();
-    for run in runs(&ends) {
-        let left = &lefts[(run.start + run.end) % 4];
-        for used in [true, false] {
-            expect_missing(&mut scans, &with_run(run.clone(), used), left);
+    for layout in LAYOUTS {
+        let ends: Vec<usize> = (0..=layout.slots).collect();
+        for run in runs(&ends) {
+            let left = &lefts[(run.start + run.end) % 4];
+            for used in [true, false] {
+                let map = with_run(layout.slots, run.clone(), used);
+                expect_missing(&mut scans, layout, &map, left);
+            }
         }
     }
-    scans.finish(2 * 215 * 214 / 2, &[2]);
+    scans.finish(215 * 214 + 183 * 182, &[2]);
 }
 
 /// At the edges of bytes and words, over all that may stand in the free slots; and the entry sought is right behind the
@@ -99,54 +126,68 @@ fn every_run() {
 fn runs_at_edges() {
     let mut scans = Scans::new("scan by runs at the edges of bytes and words");
     let (aside, sought) = (aside(NAME, !INO), Dentry::new(NAME, INO));
-    for run in runs(&byte_edges()) {
-        let (free, used) = (with_run(run.clone(), false), with_run(run.clone(), true));
-        for left in leftovers(NAME, !INO) {
-            let mut block = DentryBlock::with_map(&used, &aside, &left);
-            block.write(run.end - 1, &sought);
-            let before = usize::from(run.start > 0);
-            scans.expect(&block, NAME, found(INO, before + run.len()));
-            if run.end < SLOTS {
-                let mut block = DentryBlock::with_map(&free, &aside, &left);
-                block.write(run.end, &sought);
-                scans.expect(&block, NAME, found(INO, run.start + 2));
+    for layout in LAYOUTS {
+        for run in runs(&byte_edges(layout.slots)) {
+            let [free, used] =
+                [false, true].map(|used| with_run(layout.slots, run.clone(), used));
+            for left in leftovers(NAME, !INO) {
+                let mut block = DentryBlock::with_map(layout, &used, &aside, &left);
+                block.write(run.end - 1, &sought);
+                let before = usize::from(run.start > 0);
+                scans.expect(&block, NAME, found(INO, before + run.len()));
+                if run.end < layout.slots {
+                    let mut block = DentryBlock::with_map(layout, &free, &aside, &left);
+                    block.write(run.end, &sought);
+                    scans.expect(&block, NAME, found(INO, run.start + 2));
+                }
             }
         }
     }
-    // Of the 82 edges, with the last one no slot is behind the run.
-    scans.finish(4 * (82 * 81 - 81), &[0]);
+    // Of the 82 edges and the 70, with the last one no slot is behind the run.
+    scans.finish(4 * (82 * 81 - 81 + 70 * 69 - 69), &[0]);
 }
 
-/// Bits 214 and 215 and the reserved bytes belong to no slot, whatever would be their entries.
+/// Bits 214 and 215, in an inode 182 and 183, and the reserved bytes belong to no slot, whatever would be their entries.
+fn expect_behind(scans: &mut Scans, layout: Layout, map: &Map) {
+    let slots = layout.slots;
+    let mapped = 8 * layout.map_bytes;
+    let single = (slots..BITS).map(|bit| bit..bit + 1);
+    let behind: Vec<_> = single
+        .chain([slots..mapped, mapped..BITS, slots..BITS, slots..slots])
+        .collect();
+    for no_entry in leftovers(NAME, INO) {
+        let mut block = DentryBlock::with_map(layout, map, &aside(NAME, INO), &no_entry);
+        for slot in [slots, slots + 1] {
+            block.write(slot, &no_entry);
+        }
+        for set in &behind {
+            let mut block = block.clone();
+            block.set_bits(slots..BITS, false);
+            block.set_bits(set.clone(), true);
+            scans.expect(&block, NAME, missing(turns(map)));
+        }
+    }
+}
+
 #[test]
 fn bits_behind_the_slots() {
     let mut scans = Scans::new("scan by bits behind the slots");
-    let single = (SLOTS..BITS).map(|bit| bit..bit + 1);
-    let behind: Vec<_> = single
-        .chain([SLOTS..216, 216..BITS, SLOTS..BITS, SLOTS..SLOTS])
-        .collect();
-    let by_runs =
-        [207, 208, 212, 213, 214].map(|end| [true, false].map(|used| with_run(100..end, used)));
-    let to_the_end = [208, 213].map(|start| with_run(start..SLOTS, true));
-    for map in plain()
-        .into_iter()
-        .chain(by_runs.concat())
-        .chain(to_the_end)
-    {
-        for no_entry in leftovers(NAME, INO) {
-            let mut block = DentryBlock::with_map(&map, &aside(NAME, INO), &no_entry);
-            for slot in [SLOTS, SLOTS + 1] {
-                block.write(slot, &no_entry);
-            }
-            for set in &behind {
-                let mut block = block.clone();
-                block.set_bits(SLOTS..BITS, false);
-                block.set_bits(set.clone(), true);
-                scans.expect(&block, NAME, missing(turns(&map)));
-            }
+    for (layout, ends, starts) in [
+        (IN_BLOCK, [207, 208, 212, 213, 214], [208, 213]),
+        (IN_INODE, [175, 176, 180, 181, 182], [176, 181]),
+    ] {
+        let slots = layout.slots;
+        let by_runs = ends.map(|end| [true, false].map(|used| with_run(slots, 100..end, used)));
+        let to_the_end = starts.map(|start| with_run(slots, start..slots, true));
+        for map in plain(slots)
+            .into_iter()
+            .chain(by_runs.concat())
+            .chain(to_the_end)
+        {
+            expect_behind(&mut scans, layout, &map);
         }
     }
-    scans.finish((10 + 10 + 2) * 4 * 30, &[2]);
+    scans.finish((10 + 10 + 2) * 4 * (30 + 62), &[2]);
 }
 
 #[test]
@@ -154,11 +195,14 @@ fn random_maps() {
     let mut scans = Scans::new("scan by random maps");
     let lefts = leftovers(NAME, INO);
     for _ in 0..scans.trial.times(500) {
-        for one_in in [1, 2, 3, 5, 9, 20, 60, 214] {
-            let map = random_map(&mut scans.trial.random, one_in);
-            let left = &lefts[scans.trial.random.below(4) as usize];
-            expect_missing(&mut scans, &map, left);
+        for layout in LAYOUTS {
+            for one_in in [1, 2, 3, 5, 9, 20, 60, 214] {
+                let random = &mut scans.trial.random;
+                let map = random_map(random, layout.slots, one_in);
+                let left = &lefts[random.below(4) as usize];
+                expect_missing(&mut scans, layout, &map, left);
+            }
         }
     }
-    scans.finish(500 * 8, &[2]);
+    scans.finish(2 * 500 * 8, &[2]);
 }

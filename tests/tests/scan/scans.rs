@@ -4,7 +4,7 @@ use std::fmt::{Debug, Formatter, Result};
 
 use crate::answers::Answers;
 use crate::cards::dentry_block::DentryBlock;
-use crate::cards::layout::dentry::MAP_BYTES;
+use crate::cards::layout::dentry::{Layout, IN_BLOCK};
 use crate::scan_export::{scan, Scanned};
 use crate::system::Guarded;
 use crate::trial::Trial;
@@ -41,17 +41,33 @@ const fn ended(answer: u32, turns: usize) -> Scanned {
 
 /// What is asked of a scan.
 struct Call<'a> {
+    layout: Layout,
     block: &'a [u8],
     name: &'a [u8],
+}
+
+impl Call<'_> {
+    fn by_reference(&self) -> reference::slots::Scan {
+        match self.layout {
+            IN_BLOCK => reference::slots::scan(self.block, self.name),
+            _ => reference::slots::scan_inline(self.block, self.name),
+        }
+    }
 }
 
 impl Debug for Call<'_> {
     fn fmt(&self, f: &mut Formatter) -> Result {
         let len = self.block.len();
-        let map = &self.block[..len.min(MAP_BYTES)];
+        let Layout {
+            start, map_bytes, ..
+        } = self.layout;
+        let map = self.block.get(start..start + map_bytes);
         let sum = reference::checksum::checksum(self.block);
-        let name = self.name.escape_ascii();
-        write!(f, "'{name}' in {len} bytes, map {map:02X?}, sum {sum:08X}")
+        let (name, layout) = (self.name.escape_ascii(), self.layout.name);
+        write!(
+            f,
+            "'{name}' {layout} of {len} bytes, map {map:02X?}, sum {sum:08X}"
+        )
     }
 }
 
@@ -82,26 +98,30 @@ impl Scans {
 
     /// Compares a scan with the reference's.
     pub fn compare(&mut self, block: &DentryBlock, name: &[u8]) {
-        let block = block.bytes();
-        self.check(&Call { block, name }, None);
+        self.check(block.layout, block.bytes(), name, None);
     }
 
     /// Compares also with what the paper says.
     pub fn expect(&mut self, block: &DentryBlock, name: &[u8], paper: Scanned) {
-        self.expect_in(block.bytes(), name, paper);
+        self.expect_in(block.layout, block.bytes(), name, paper);
     }
 
     /// The same in any bytes.
-    pub fn expect_in(&mut self, block: &[u8], name: &[u8], paper: Scanned) {
-        self.check(&Call { block, name }, Some(paper));
+    pub fn expect_in(&mut self, layout: Layout, block: &[u8], name: &[u8], paper: Scanned) {
+        self.check(layout, block, name, Some(paper));
     }
 
     /// Scans a block that ends at a guard page, and one near the other guard page at any alignment.
-    fn check(&mut self, call: &Call, paper: Option<Scanned>) {
-        let at_end = scan(self.memory.lend_at_end(call.block), call.name);
-        let at_start = scan(self.memory.lend(self.alignment, call.block), call.name);
+    fn check(&mut self, layout: Layout, block: &[u8], name: &[u8], paper: Option<Scanned>) {
+        let call = Call {
+            layout,
+            block,
+            name,
+        };
+        let at_end = scan(layout, self.memory.lend_at_end(block), name);
+        let at_start = scan(layout, self.memory.lend(self.alignment, block), name);
         self.alignment = (self.alignment + 1) % ALIGNMENTS;
-        let met = reference::slots::scan(call.block, call.name);
+        let met = call.by_reference();
         let library = [at_end, at_start].map(|scanned| Judged {
             scanned,
             by_the_paper: scanned,

@@ -2,12 +2,12 @@
 
 use crate::cards::dentry::Dentry;
 use crate::cards::dentry_block::{aside, DentryBlock};
-use crate::cards::maps::SLOTS;
+use crate::cards::layout::dentry::{Layout, IN_BLOCK, IN_INODE};
 use crate::scans::{found, missing, Scans, INO, NAME};
 
-/// A block with so many entries of so many slots, each behind so many free ones.
-fn apart(entries: usize, slots: usize, free: usize) -> DentryBlock {
-    let mut block = DentryBlock::free(0xFF);
+/// So many entries of so many slots, each behind so many free ones.
+fn apart(layout: Layout, entries: usize, slots: usize, free: usize) -> DentryBlock {
+    let mut block = DentryBlock::free(layout, 0xFF);
     for nth in 0..entries {
         let mut dentry = aside(NAME, INO);
         dentry.len = 8 * slots - 1;
@@ -21,37 +21,43 @@ fn apart(entries: usize, slots: usize, free: usize) -> DentryBlock {
 #[test]
 fn bound_is_met() {
     let mut scans = Scans::new("scan that takes the most turns");
-    for (slots, most) in [(1, 106), (2, 71), (5, 35), (32, 6)] {
-        for entries in 0..=most {
-            for free in [1, 2, 3] {
-                let end = entries * (free + slots);
-                if end < SLOTS {
-                    let block = apart(entries, slots, free);
+    // Slots of an entry, and how many such fit.
+    let in_block = [(1, 106), (2, 71), (5, 35), (32, 6)];
+    let in_inode = [(1, 90), (2, 60), (5, 30), (32, 5)];
+    for (layout, entries) in [(IN_BLOCK, in_block), (IN_INODE, in_inode)] {
+        for (slots, most) in entries {
+            for (entries, free) in (0..=most).flat_map(|n| [1, 2, 3].map(|free| (n, free))) {
+                if entries * (free + slots) < layout.slots {
+                    let block = apart(layout, entries, slots, free);
                     scans.expect(&block, NAME, missing(2 * entries + 1));
                 }
             }
+            let one_more = (most + 1) * (1 + slots);
+            assert!(layout.slots < one_more + 1, "{most} is the most");
         }
-        assert!(SLOTS < (most + 1) * (1 + slots) + 1, "{most} is the most");
     }
-    scans.finish(107 + 72 + 36 + 7, &[2]);
+    scans.finish(107 + 72 + 36 + 7 + 91 + 61 + 31 + 6, &[2]);
 }
 
-/// Fewer where the scan ends at the name, or where the first slot or the last is in use; in a full block there are just
+/// Fewer where the scan ends at the name, or where the first slot or the last is in use; where all are there are just
 /// the entries.
 #[test]
 fn below_the_bound() {
     let mut scans = Scans::new("scan that takes fewer turns");
-    for entries in 1..=106 {
-        let mut block = apart(entries, 1, 1);
-        block.write(2 * entries - 1, &Dentry::new(NAME, INO));
-        scans.expect(&block, NAME, found(INO, 2 * entries));
-        let mut block = apart(entries, 1, 1);
-        block.put(0, &aside(NAME, INO));
-        scans.expect(&block, NAME, missing(2 * (entries + 1) - 1));
-        let mut block = apart(entries - 1, 1, 1);
-        block.put(SLOTS - 1, &aside(NAME, INO));
-        scans.expect(&block, NAME, missing(2 * entries));
+    for (layout, most) in [(IN_BLOCK, 106), (IN_INODE, 90)] {
+        let slots = layout.slots;
+        for entries in 1..=most {
+            let mut block = apart(layout, entries, 1, 1);
+            block.write(2 * entries - 1, &Dentry::new(NAME, INO));
+            scans.expect(&block, NAME, found(INO, 2 * entries));
+            let mut block = apart(layout, entries, 1, 1);
+            block.put(0, &aside(NAME, INO));
+            scans.expect(&block, NAME, missing(2 * (entries + 1) - 1));
+            let mut block = apart(layout, entries - 1, 1, 1);
+            block.put(slots - 1, &aside(NAME, INO));
+            scans.expect(&block, NAME, missing(2 * entries));
+        }
+        scans.expect(&apart(layout, slots, 1, 0), NAME, missing(slots));
     }
-    scans.expect(&apart(SLOTS, 1, 0), NAME, missing(SLOTS));
-    scans.finish(106 * 3 + 1, &[0, 2]);
+    scans.finish((106 + 90) * 3 + 2, &[0, 2]);
 }
