@@ -54,7 +54,7 @@ pub fn pulls(kept: &Image) -> [Kept<'_>; 4] {
 }
 
 /// Changes a byte, expects this of a compare, and takes the change back.
-fn with_byte(
+pub fn with_byte(
     compares: &mut Compares,
     kept: &Kept,
     image: &mut Image,
@@ -70,7 +70,7 @@ fn with_byte(
     image.undo(mark);
 }
 
-fn some_places(random: &mut Random, count: usize) -> Vec<usize> {
+pub fn some_places(random: &mut Random, count: usize) -> Vec<usize> {
     let ends = [
         0,
         1,

@@ -2,6 +2,7 @@
 
 mod changes;
 mod checkpoints;
+mod inline;
 mod levels;
 mod lists;
 mod random;

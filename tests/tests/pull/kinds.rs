@@ -47,21 +47,6 @@ fn modes() {
     pulls.finish(16 * 5 * 2, &[0, 12]);
 }
 
-/// Every inline byte, at both inodes.
-#[test]
-fn inline_bytes() {
-    let mut pulls = Pulls::new("pull by inline byte");
-    let (mut scene, root, file) = scene(&mut pulls);
-    for inline in 0..=0xFF {
-        let unread = INLINE_DATA | INLINE_DENTRY | EXTRA_ATTR;
-        let answer = if inline & unread == 0 { 0 } else { 12 };
-        for block in [root, file] {
-            expect_with(&mut pulls, &mut scene, (block, I_INLINE, inline), answer);
-        }
-    }
-    pulls.finish(256 * 2, &[0, 12]);
-}
-
 /// Depths up to 63 are read. With 0 no level is searched.
 #[test]
 fn depths() {
@@ -235,12 +220,14 @@ fn kind_before_size() {
     let (mut scene, root, file) = scene(&mut pulls);
     let unread = [
         (root, I_MODE, S_IFREG),
-        (root, I_INLINE, INLINE_DENTRY),
+        (root, I_INLINE, INLINE_DATA),
+        (root, I_INLINE, EXTRA_ATTR),
         (root, I_CURRENT_DEPTH, 64),
         (root, I_DIR_LEVEL, 31),
         (root, I_DIR_LEVEL, 255),
         (file, I_MODE, S_IFDIR),
-        (file, I_INLINE, INLINE_DATA),
+        (file, I_INLINE, INLINE_DENTRY),
+        (file, I_INLINE, EXTRA_ATTR),
     ];
     for (block, field, value) in unread {
         scene.card.image.set(block, I_SIZE, 0);
@@ -250,5 +237,5 @@ fn kind_before_size() {
         }
         scene.card.image.undo(0);
     }
-    pulls.finish(7 * 3, &[12]);
+    pulls.finish(9 * 3, &[12]);
 }

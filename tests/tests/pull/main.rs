@@ -3,6 +3,9 @@
 mod call;
 mod directory;
 mod file;
+mod inline_bits;
+mod inline_directory;
+mod inline_files;
 mod kinds;
 mod levels;
 mod maps;

@@ -118,19 +118,55 @@ fn nodes_of_a_file() {
 #[test]
 fn root_node() {
     let mut pulls = Pulls::new("pull by faults of the root");
-    let mut scene = Scene::new(&mut pulls.trial.random, LONGEST);
-    let root = scene.card.way(ROOT, 0)[0];
-    for fault in faults(&scene.card, root) {
-        let mark = scene.card.image.mark();
-        fault.apply(&mut scene.card.image);
-        for name in [NAME, b"other", b"."] {
-            let call = Call::new(&scene.card.image, name, 0);
-            let blocks = &[root.node.block][..fault.blocks_read(0)];
-            pulls.expect_lists(&call, fault.answer, &[ROOT], blocks);
+    for root_inline in [0, inode::INLINE_DENTRY] {
+        let setting = Setting {
+            root_inline,
+            ..LONGEST
+        };
+        let mut scene = Scene::new(&mut pulls.trial.random, setting);
+        let root = scene.card.inline_way(ROOT)[0];
+        for fault in faults(&scene.card, root) {
+            fault.apply(&mut scene.card.image);
+            for name in [NAME, b"other", b"."] {
+                let call = Call::new(&scene.card.image, name, 0);
+                let blocks = &[root.node.block][..fault.blocks_read(0)];
+                pulls.expect_lists(&call, fault.answer, &[ROOT], blocks);
+            }
+            scene.card.image.undo(0);
         }
-        scene.card.image.undo(mark);
     }
-    pulls.finish(3 * FAULTS, &[9, 10, 11]);
+    pulls.finish(2 * 3 * FAULTS, &[9, 10, 11]);
+}
+
+/// Each fault of the inode of an inline file, whose size is within its room or above it.
+fn expect_inline_faults(pulls: &mut Pulls, root_inline: u64, size: u64, sound: u32) {
+    let setting = Setting {
+        root_inline,
+        file_inline: inode::INLINE_DATA,
+        size,
+    };
+    let mut scene = Scene::new(&mut pulls.trial.random, setting);
+    let way = scene.card.inline_way(scene.ino);
+    for fault in faults(&scene.card, way[0]) {
+        fault.apply(&mut scene.card.image);
+        let (nodes, blocks) = scene.lists(&way, 1, fault.blocks_read(0));
+        let call = Call::new(&scene.card.image, NAME, 0);
+        pulls.expect_lists(&call, fault.answer, &nodes, &blocks);
+        scene.card.image.undo(0);
+    }
+    pulls.expect(&scene.card.image, NAME, 0, sound);
+}
+
+/// An inline inode is looked up, read and listed as any other is before it is asked for its kind and size.
+#[test]
+fn inline_inodes() {
+    let mut pulls = Pulls::new("pull by faults of inline inodes");
+    for root_inline in [0, inode::INLINE_DENTRY] {
+        for (size, sound) in [(100, 0), (u64::MAX, 12)] {
+            expect_inline_faults(&mut pulls, root_inline, size, sound);
+        }
+    }
+    pulls.finish(2 * 2 * (FAULTS + 1), &[0, 9, 10, 11, 12]);
 }
 
 /// A card whose one directory block is in this hash level, behind nodes.

@@ -119,7 +119,10 @@ fn slots_inside_an_entry() {
     for slots in 2..=32 {
         let long = Dentry::new(&good_name(&mut scans.trial.random, 8 * slots - 1), !INO);
         for (slot, inside) in [1, slots / 2, slots - 1].map(|by| (60, 60 + by)) {
-            for (layout, set) in LAYOUTS.map(|layout| [(layout, true), (layout, false)]).concat() {
+            for (layout, set) in LAYOUTS
+                .map(|layout| [(layout, true), (layout, false)])
+                .concat()
+            {
                 let mut block = DentryBlock::free(layout, 0);
                 put_whole(&mut block, slot, &long, || set);
                 block.write(inside, &Dentry::new(NAME, !INO));

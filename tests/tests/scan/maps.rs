@@ -128,8 +128,7 @@ fn runs_at_edges() {
     let (aside, sought) = (aside(NAME, !INO), Dentry::new(NAME, INO));
     for layout in LAYOUTS {
         for run in runs(&byte_edges(layout.slots)) {
-            let [free, used] =
-                [false, true].map(|used| with_run(layout.slots, run.clone(), used));
+            let [free, used] = [false, true].map(|used| with_run(layout.slots, run.clone(), used));
             for left in leftovers(NAME, !INO) {
                 let mut block = DentryBlock::with_map(layout, &used, &aside, &left);
                 block.write(run.end - 1, &sought);
