@@ -42,6 +42,22 @@ pub fn fsck(image: &Image) -> Checked {
     }
 }
 
+/// How many entries a root directory has that stand in its inode, without the dots, and how many slots are there:
+/// "Inline Dentry Block Done : dentries:13 in 182 slots".
+pub fn inline_entries(image: &Image) -> [u32; 2] {
+    let ran = check(image, "1");
+    let words = ran.words();
+    let line = words
+        .lines()
+        .find_map(|line| line.split_once("Inline Dentry Block Done : dentries:"));
+    let (_, counts) = line.unwrap_or_else(|| panic!("{ran:?}"));
+    let mut numbers = counts.split(|c: char| !c.is_ascii_digit());
+    [(); 2].map(|_| {
+        let number = numbers.find_map(|digits| digits.parse().ok());
+        number.unwrap_or_else(|| panic!("two numbers: {counts}"))
+    })
+}
+
 /// An entry that isn't in a block of the bucket that its hash leads to: "Wrong position of dirent".
 #[derive(Debug, PartialEq, Eq)]
 pub struct Misplaced {

@@ -22,7 +22,7 @@ const MEGABYTE: usize = 1 << 20;
 /// The megabytes of the largest card, 16 GiB.
 pub const LARGEST: usize = 16_384;
 
-/// Files up to this size stand in their inode, which is a kind that isn't read.
+/// sload.f2fs puts files up to this size into their inode.
 pub const LONGEST_INLINE: usize = 3344;
 
 /// A file's name and bytes.

@@ -17,12 +17,6 @@ use harptimber_tests::tools::published::{
 use harptimber_tests::trial::Random;
 
 fn expect_file(pulls: &mut Pulls, image: &Image, (name, bytes): &File) {
-    if bytes.len() <= LONGEST_INLINE {
-        for index in [0, 1, u32::MAX] {
-            pulls.expect(image, name, index, 12);
-        }
-        return;
-    }
     let blocks = bytes.chunks(BLOCK_SIZE);
     let past = blocks.len() as u32;
     for (index, block) in blocks.enumerate() {

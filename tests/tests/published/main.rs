@@ -3,6 +3,8 @@
 mod accident;
 mod damaged;
 mod files;
+mod inline_files;
+mod inline_root;
 mod levels;
 mod lookups;
 mod outside_readers;

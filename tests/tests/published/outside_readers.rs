@@ -1,5 +1,5 @@
-//! Outside opinions: GRUB's reader and dump.f2fs give each file in the root directory that is read at
-//! all as `harptimber cat` does, and all of them as it was put on the card.
+//! Outside opinions: GRUB's reader and dump.f2fs give each file in the root directory as `harptimber cat` does, and all
+//! of them as it was put on the card.
 
 use harptimber_tests::calls::pulls::Pulls;
 use harptimber_tests::cards::card::{slot_field, ROOT};
@@ -136,7 +136,7 @@ fn expect_not_read(pulls: &mut Pulls, card: &CardFile, image: &Image, name: &[u8
     assert_eq!(json["answer"].number(), 12, "{json:?}");
 }
 
-/// A card that was filled twice. What isn't read stands beside what is: it is refused with 12.
+/// A card that was filled twice. What isn't read, a folder, stands beside what is: it is refused with 12.
 #[test]
 fn others_beside() {
     let mut random = Random::new(4);
@@ -150,16 +150,12 @@ fn others_beside() {
     let card = CardFile::of(&image);
     let mut opinions = Opinions::new("outside readers, a card filled twice");
     let mut pulls = Pulls::new("what isn't read, beside what outside readers read");
-    for files in [first, second] {
-        let (read, not_read) = files.split_at(3);
-        expect_files(&mut opinions, &ALL, &image, read);
-        for (name, _) in not_read {
-            let name = name.split(|&byte| byte == b'/').next().expect("a name");
-            expect_not_read(&mut pulls, &card, &image, name);
-        }
+    for (files, folder) in [(first, b"folder".as_slice()), (second, b"folder 2")] {
+        expect_files(&mut opinions, &ALL, &image, &files[..5]);
+        expect_not_read(&mut pulls, &card, &image, folder);
     }
-    opinions.finish(&least(&ALL, 2 * 3));
-    pulls.finish(2 * 3, &[12]);
+    opinions.finish(&least(&ALL, 2 * 5));
+    pulls.finish(2, &[12]);
 }
 
 /// GRUB ends its search of a directory block at a name of 255 bytes, so that such a card isn't for it.
