@@ -7,7 +7,7 @@ use harptimber_tests::calls::pulls::{Call, Pulls};
 use harptimber_tests::cards::card::ROOT;
 use harptimber_tests::cards::damage::Damage;
 use harptimber_tests::cards::directory::DirLevel;
-use harptimber_tests::cards::layout::inode::I_DIR_LEVEL;
+use harptimber_tests::cards::layout::inode::{INLINE_DATA, INLINE_DENTRY, I_DIR_LEVEL, I_INLINE};
 use harptimber_tests::cards::names::good_name;
 use harptimber_tests::cards::random::within;
 use harptimber_tests::cards::random_files::{
@@ -23,7 +23,7 @@ const OPENING: u64 = 6;
 /// Makes a card.
 type Files = fn(&mut Random) -> RandomFiles;
 
-/// Each target of a card, and names that aren't there. With a level that isn't read nothing is.
+/// Each target of a card, and names that aren't there. With a level that isn't read nothing is, of an inline root too.
 fn expect_targets(pulls: &mut Pulls, files: RandomFiles) {
     let RandomFiles { mut card, targets } = files;
     let root = card.inode_block(ROOT);
@@ -39,16 +39,27 @@ fn expect_targets(pulls: &mut Pulls, files: RandomFiles) {
     pulls.expect_lists(&call, 12, &[ROOT], &[root]);
 }
 
+/// Whether the root's entries stand in its inode, and a file's bytes in its.
+fn note_inline(met: &mut Answers<[bool; 2]>, RandomFiles { card, targets }: &RandomFiles) {
+    for target in targets {
+        let inode = |nth: usize| card.image.get(target.inodes[nth], I_INLINE);
+        met.note([inode(0) & INLINE_DENTRY != 0, inode(1) & INLINE_DATA != 0]);
+    }
+}
+
 /// Returns how the packs' versions lay to each other.
 fn expect_sound(name: &'static str, cards: u64, files: Files) -> Answers<Apart> {
     let mut pulls = Pulls::new(name);
     let mut met = Answers::default();
+    let mut inline = Answers::default();
     for _ in 0..pulls.trial.times(cards) {
         let files = files(&mut pulls.trial.random);
         met.note_versions(&files.card.image);
+        note_inline(&mut inline, &files);
         expect_targets(&mut pulls, files);
     }
-    pulls.finish(cards * 33, &[0, 1, 2, 12]);
+    pulls.finish(cards * 33, &[0, 1, 2, 3, 12]);
+    inline.finish(&[[false, false], [false, true], [true, false], [true, true]]);
     met
 }
 
