@@ -53,9 +53,7 @@ struct Other {
 impl Far {
     /// The last block of the card is the one that is used after so many others.
     pub fn new(random: &mut Random, at_end: usize) -> Far {
-        let blocks = last_blocks(random, at_end);
-        let card = Card::within(knobs(random), Random::new(random.number()), blocks);
-        let mut scene = Scene::on(card, SETTING);
+        let mut scene = far_scene(random, at_end, SETTING);
         let mut block_at = |index| (index, scene.card.add_block(scene.ino, index));
         let data = DATA.into_iter().map(&mut block_at).collect();
         let other = Other::on(&mut scene.card);
@@ -130,6 +128,13 @@ impl Other {
             directory,
         }
     }
+}
+
+/// A root and a file at the card's end, whose last block is the one that is used after so many others.
+pub fn far_scene(random: &mut Random, at_end: usize, setting: Setting) -> Scene {
+    let blocks = last_blocks(random, at_end);
+    let card = Card::within(knobs(random), Random::new(random.number()), blocks);
+    Scene::on(card, setting)
 }
 
 /// The NAT map says now the one copy and now the other.

@@ -7,13 +7,16 @@ use harptimber_tests::calls::compares::{changed, Compares, Kept, SAME};
 use harptimber_tests::calls::lent::Lent;
 use harptimber_tests::calls::lookups::Lookups;
 use harptimber_tests::calls::pulls::{reference_pull, Call, Outcome, Pulls};
+use harptimber_tests::cards::card::ROOT;
 use harptimber_tests::cards::image::Image;
+use harptimber_tests::cards::layout::inode::{INLINE_AT, INLINE_DATA, INLINE_DENTRY, INLINE_ROOM};
 use harptimber_tests::cards::layout::nat::BLOCK_ADDR;
-use harptimber_tests::cards::layout::BLOCK_SIZE;
-use harptimber_tests::cards::one_file::NAME;
+use harptimber_tests::cards::layout::{dentry, BLOCK_SIZE};
+use harptimber_tests::cards::one_file::{Setting, NAME};
 use harptimber_tests::trial::Random;
 
-use crate::far_file::{Far, DATA, HOLES, HOLE_AT_END, LAST_BLOCK, MISSING, PAST, USED};
+use crate::far_file::{far_scene, Far};
+use crate::far_file::{DATA, HOLES, HOLE_AT_END, LAST_BLOCK, MISSING, PAST, USED};
 
 /// A card with decoys, and where they are.
 fn with_decoys(far: &mut Far) -> BTreeSet<u32> {
@@ -64,6 +67,35 @@ fn pulls_up_to_the_last_block() {
         assert_eq!(listed.last(), Some(&LAST_BLOCK));
     }
     pulls.finish(USED as u64 * (9 * 2 + 3), &[0, 1, 2, 3]);
+}
+
+/// An inline root and an inline file, each as the card's last block. Their decoys have other bytes, and another file's
+/// number.
+#[test]
+fn inline_inodes_up_to_the_last_block() {
+    let mut pulls = Pulls::new("pull of inline inodes from the end of the largest card");
+    let setting = Setting {
+        root_inline: INLINE_DENTRY,
+        file_inline: INLINE_DATA,
+        size: INLINE_ROOM as u64,
+    };
+    for at_end in [0, 1] {
+        let mut scene = far_scene(&mut pulls.trial.random, at_end, setting);
+        let (root, file, linked) = (scene.root_block(), scene.file_block(), scene.linked);
+        assert_eq!([root, file][at_end], LAST_BLOCK);
+        let bytes = scene.card.image.block(file)[INLINE_AT..][..INLINE_ROOM].to_vec();
+        let mut astray = scene.card.image.clone();
+        let inverted: Vec<u8> = bytes.iter().map(|byte| !byte).collect();
+        astray.put("inverted", file, INLINE_AT, &inverted);
+        astray.set(root, linked.field(dentry::INO), 0);
+        pulls.expect(&astray, NAME, 0, 9);
+        scene.card.image.put_decoys(&astray);
+        let image = &scene.card.image;
+        pulls.expect_data(image, NAME, 0, &bytes);
+        let call = Call::new(image, NAME, 0);
+        pulls.expect_lists(&call, 0, &[ROOT, scene.ino], &[root, file]);
+    }
+    pulls.finish(2 * 3, &[0, 9]);
 }
 
 /// What pulls of each kind give.
