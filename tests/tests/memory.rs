@@ -7,15 +7,16 @@ use std::process::Command;
 use harptimber_tests::calls::guard_script::Script;
 use harptimber_tests::calls::lookups::{distinct_entry, journalled};
 use harptimber_tests::calls::pulls::{lists, Call};
-use harptimber_tests::cards::card::{Card, ROOT};
+use harptimber_tests::cards::card::{inline_room_by, Card, ROOT};
 use harptimber_tests::cards::damage::{Damage, HARMS};
 use harptimber_tests::cards::deep::Deep;
 use harptimber_tests::cards::directory::{in_slot, Dentry, DirLevel};
 use harptimber_tests::cards::image::Image;
 use harptimber_tests::cards::knobs::{Knobs, Pack};
-use harptimber_tests::cards::layout::dentry::{NAME_LEN, NR_DENTRY_IN_BLOCK};
+use harptimber_tests::cards::layout::dentry::{IN_INODE, NAME_LEN, NR_DENTRY_IN_BLOCK};
 use harptimber_tests::cards::layout::inode::{
-    ADDRESSES, INLINE_DATA, INLINE_XATTR, I_DIR_LEVEL, I_INLINE, I_MODE, I_SIZE,
+    ADDRESSES, INLINE_AT, INLINE_DATA, INLINE_DENTRY, INLINE_XATTR, I_DIR_LEVEL, I_INLINE, I_MODE,
+    I_SIZE,
 };
 use harptimber_tests::cards::layout::journal::MOST_ENTRIES;
 use harptimber_tests::cards::layout::sit::SitEntry;
@@ -26,7 +27,7 @@ use harptimber_tests::cards::random_segments::random_segments;
 use harptimber_tests::cards::segments::SegmentCard;
 use harptimber_tests::cards::walk_damage::{strike_block, strike_either};
 use harptimber_tests::node_lookup;
-use harptimber_tests::program::inline::{self, move_entries, put_inline, room, SLOTS};
+use harptimber_tests::program::inline::{put_inline, slots_in};
 use harptimber_tests::program::{built, program};
 use harptimber_tests::tools::outside::CardFile;
 use harptimber_tests::tools::published::{contents, filled_with, ran, File, LONGEST_INLINE};
@@ -252,9 +253,8 @@ struct TightInline {
 impl TightInline {
     fn new() -> TightInline {
         let mut card = Card::new(Knobs::sound(), Random::new(4));
-        card.add_root(0, 1);
+        card.add_root(INLINE_DENTRY, 1);
         let ino = put_inline(&mut card, NAME, 0, 100).ino;
-        move_entries(&mut card, 0);
         card.image
             .settle("an inline file in an inline root directory");
         TightInline { card, ino }
@@ -273,7 +273,7 @@ impl TightInline {
     fn files(&mut self, script: &mut Script) {
         let sound = self.card.image.clone();
         for flags in [0, INLINE_XATTR] {
-            let room = room(flags) as u64;
+            let room = inline_room_by(flags) as u64;
             for size in [0, 1, room - 1, room, room + 1, 4096, u64::MAX] {
                 let last = self.move_to_end(self.ino);
                 let fields = [(I_INLINE, INLINE_DATA | flags), (I_SIZE, size)];
@@ -296,12 +296,12 @@ impl TightInline {
         let sound = self.card.image.clone();
         let long = [b'x'; 255];
         for (name, len) in [(NAME, 8), (NAME, 9), (NAME, 0), (NAME, 65535), (&long, 255)] {
-            for from_end in [1, 2, 31, 32, 33, SLOTS] {
+            for from_end in [1, 2, 31, 32, 33, IN_INODE.slots] {
                 let last = self.move_to_end(ROOT);
-                let (slot, image) = (SLOTS - from_end, &mut self.card.image);
-                inline::clear_slots(image, last);
-                inline::put_dentry(image, last, slot, &Dentry::new(name, self.ino));
-                image.set(last, inline::in_slot(NAME_LEN, slot), len);
+                let (slot, image) = (IN_INODE.slots - from_end, &mut self.card.image);
+                image.clear_slots(slots_in(last));
+                image.put_dentry(slots_in(last), slot, &Dentry::new(name, self.ino));
+                image.set(last, IN_INODE.in_slot(NAME_LEN, slot), len);
                 let fits = (1..=255).contains(&len) && len.div_ceil(8) <= from_end as u64;
                 let found = fits && len as usize == name.len();
                 let answer = script.pull(&sound, image, name, 0);
@@ -564,10 +564,10 @@ fn valgrind_on_inline_inodes() {
     let mut ended_by_root = TightInline::new();
     let root = ended_by_root.move_to_end(ROOT);
     let mut other_file = sound.clone();
-    let at = inline::CONTENTS + 99;
+    let at = INLINE_AT + 99;
     other_file.put("byte", last, at, &[!sound.block(last)[at]]);
     let mut other_entry = ended_by_root.card.image.clone();
-    other_entry.set(root, inline::in_slot(NAME_LEN, 0), 0);
+    other_entry.set(root, IN_INODE.in_slot(NAME_LEN, 0), 0);
     let word = OsStr::new;
     for (kept, new) in [
         (&sound, &other_file),

@@ -13,14 +13,17 @@ use crate::cards::card::Card;
 use crate::cards::directory::{Dentry, DirLevel};
 use crate::cards::image::Image;
 use crate::cards::knobs::{Knobs, Pack};
-use crate::cards::layout::inode::{ADDRESSES, INLINE_DENTRY, INLINE_XATTR, I_MODE, S_IFDIR};
+use crate::cards::layout::inode::{ADDRESSES, I_MODE, S_IFDIR};
+use crate::cards::layout::inode::{
+    INLINE_AT, INLINE_DENTRY, INLINE_ROOM, INLINE_ROOM_WITH_XATTR, INLINE_XATTR,
+};
 use crate::cards::layout::nat::MAP_BYTES_PER_SEGMENT;
 use crate::cards::layout::sit::SitEntry;
 use crate::cards::layout::{footer, BLOCK_SIZE, SEGMENT_BLOCKS};
 use crate::cards::on_disk::{OnDisk, Shared};
 use crate::cards::one_file::small_knobs;
 use crate::cards::random::shuffle;
-use crate::program::inline::{self, put_inline, CONTENTS, ROOM, ROOM_BESIDE_XATTR};
+use crate::program::inline::put_inline;
 use crate::trial::Random;
 
 pub const ROAD: &[u8] = b"road.bin";
@@ -86,7 +89,7 @@ impl Put {
     /// The bytes of a block that are the file's.
     pub fn block(&self, image: &Image, index: u32) -> Vec<u8> {
         let block = self.blocks.get(&index).map(|&block| image.block(block));
-        let inline = self.inline.map(|inode| &image.block(inode)[CONTENTS..]);
+        let inline = self.inline.map(|inode| &image.block(inode)[INLINE_AT..]);
         let mut bytes = inline.or(block).map_or(vec![0; BLOCK_SIZE], <[u8]>::to_vec);
         let rest = self.size - u64::from(index) * BLOCK_SIZE as u64;
         bytes.truncate(rest as usize);
@@ -120,20 +123,20 @@ impl ProgramCard {
 
     /// The same with a directory level, at which each of the names has a block.
     pub fn leveled(level: u8) -> ProgramCard {
+        ProgramCard::small(level, 0)
+    }
+
+    /// The same with an inline root directory, which has these flags besides. It has no malformed slot: that would end each
+    /// search that comes to it.
+    pub fn in_inline_root(flags: u64) -> ProgramCard {
+        ProgramCard::small(0, INLINE_DENTRY | flags)
+    }
+
+    fn small(level: u8, inline: u64) -> ProgramCard {
         let mut random = Random::new(11);
         let knobs = with_sit(small_knobs(&mut random));
         let segments = 0..knobs.main_segments;
-        ProgramCard::on(Card::new(knobs, random), segments, level)
-    }
-
-    /// The same with an inline root directory, without the malformed slot: that would end each search that comes to it.
-    pub fn in_inline_root(flags: u64) -> ProgramCard {
-        let mut built = ProgramCard::build();
-        inline::move_entries(&mut built.card, flags);
-        built.card.image.settle("an inline root directory");
-        built.refused.retain(|(.., answer)| *answer != 14);
-        built.disk = OnDisk::new(built.card.image.clone());
-        built
+        ProgramCard::on(Card::new(knobs, random), segments, level, inline)
     }
 
     /// The same on a card of the most blocks: all that its files have is in its last two segments, with the root's inode in
@@ -151,12 +154,12 @@ impl ProgramCard {
         // The last of the list is used first.
         blocks.push(end - 1);
         let segments = knobs.main_segments - 2..knobs.main_segments;
-        ProgramCard::on(Card::within(knobs, random, blocks), segments, 0)
+        ProgramCard::on(Card::within(knobs, random, blocks), segments, 0, 0)
     }
 
-    /// These segments have valid blocks.
-    fn on(mut card: Card, segments: Range<u32>, level: u8) -> ProgramCard {
-        card.add_root_with(DirLevel(level.into()), 0, 2);
+    /// These segments have valid blocks, and the root directory this level and these inline flags.
+    fn on(mut card: Card, segments: Range<u32>, level: u8, inline: u64) -> ProgramCard {
+        card.add_root_with(DirLevel(level.into()), inline, 2);
         let files = readable(&mut card);
         let (outside, refused) = unreadable(&mut card);
         let unused = [0, 77].map(|ino| {
@@ -270,12 +273,12 @@ fn readable(card: &mut Card) -> Vec<Put> {
         put(card, LONG, 926 * block - 3, &[0, 1, 922, 923, 925]),
         put(card, &longest, block, &[0]),
         put_inline(card, INLINE, 0, 100),
-        put_inline(card, FULL, 0, ROOM as u64),
+        put_inline(card, FULL, 0, INLINE_ROOM as u64),
         put_inline(
             card,
             FULL_BESIDE_XATTR,
             INLINE_XATTR,
-            ROOM_BESIDE_XATTR as u64,
+            INLINE_ROOM_WITH_XATTR as u64,
         ),
         put_inline(card, INLINE_EMPTY, 0, 0),
     ];
@@ -307,8 +310,8 @@ fn unreadable(card: &mut Card) -> (Put, Vec<Refused>) {
     card.set_entry(far.nid, 0, behind_main);
     let foreign = of_a_node(card, "foreign node");
     card.image.set(foreign.block, footer::NID, 77);
-    put_inline(card, TOO_LONG, 0, ROOM as u64 + 1);
-    let size = ROOM_BESIDE_XATTR as u64 + 1;
+    put_inline(card, TOO_LONG, 0, INLINE_ROOM as u64 + 1);
+    let size = INLINE_ROOM_WITH_XATTR as u64 + 1;
     put_inline(card, TOO_LONG_BESIDE_XATTR, INLINE_XATTR, size);
     let marked = card.add_file(INLINE_DENTRY, 100);
     card.link(0, 0, &Dentry::new(MARKED, marked));
@@ -331,11 +334,13 @@ fn unreadable(card: &mut Card) -> (Put, Vec<Refused>) {
         (malformed.as_bytes(), 0, 14),
     ];
     let refused = refused.map(|(name, index, answer)| (name.to_vec(), index, answer));
-    (outside, refused.to_vec())
+    let is_inline = card.inline_slots().is_some();
+    let there = refused.len() - usize::from(is_inline);
+    (outside, refused[..there].to_vec())
 }
 
 /// Puts a malformed slot into a bucket of the second hash level, the second one if there is no directory level. Returns a
-/// name that is sought in another, and one that is sought in this.
+/// name that is sought in another, and one that is sought in this. An inline directory has no buckets, and gets no such slot.
 fn malformed_level(card: &mut Card) -> [String; 2] {
     let names = [0, 1].map(|bucket| {
         let mut names = (0..).map(|n| format!("missing {n}"));
@@ -343,8 +348,10 @@ fn malformed_level(card: &mut Card) -> [String; 2] {
             .find(|name| raw_hash(name.as_bytes()) % 2 == bucket)
             .unwrap()
     });
-    let too_long = Dentry::new(b"123456789", 5).under_hash_of(names[1].as_bytes());
-    let block = card.bucket_block(1, raw_hash(names[1].as_bytes()), 0);
-    card.image.put_dentry(block, 213, &too_long);
+    if card.inline_slots().is_none() {
+        let too_long = Dentry::new(b"123456789", 5).under_hash_of(names[1].as_bytes());
+        let block = card.bucket_block(1, raw_hash(names[1].as_bytes()), 0);
+        card.image.put_dentry(block, 213, &too_long);
+    }
     names
 }

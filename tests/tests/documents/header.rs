@@ -8,11 +8,10 @@ use harptimber_tests::calls::lent::Lens;
 use harptimber_tests::cards::layout::checkpoint::CP_LARGE_NAT_BITMAP_FLAG;
 use harptimber_tests::cards::layout::dentry::LONGEST_NAME;
 use harptimber_tests::cards::layout::inode::{
-    EXTRA_ATTR, INLINE_DATA, INLINE_DENTRY, INLINE_XATTR,
+    EXTRA_ATTR, INLINE_DATA, INLINE_DENTRY, INLINE_ROOM, INLINE_ROOM_WITH_XATTR, INLINE_XATTR,
 };
 use harptimber_tests::cards::layout::nat::MAP_BYTES_PER_SEGMENT;
 use harptimber_tests::cards::layout::{journal, sit_journal, BLOCK_SIZE, SEGMENT_BLOCKS};
-use harptimber_tests::program::inline::{ROOM, ROOM_BESIDE_XATTR};
 use harptimber_tests::program::levels::MOST_LEVEL;
 use harptimber_tests::program::page::{meaning, with_commas};
 use harptimber_tests::program::{host, ran};
@@ -150,7 +149,7 @@ fn unreadable() {
 /// The same of answer 12.
 #[test]
 fn kinds_not_read() {
-    let [room, beside] = [ROOM, ROOM_BESIDE_XATTR].map(with_commas);
+    let [room, beside] = [INLINE_ROOM, INLINE_ROOM_WITH_XATTR].map(with_commas);
     let other_mark = format!("{INLINE_DATA}, inline data, or the file's have {INLINE_DENTRY}");
     let parts = [
         "the root isn't a directory".to_string(),

@@ -10,9 +10,9 @@ use harptimber_tests::cards::card::Card;
 use harptimber_tests::cards::directory::Dentry;
 use harptimber_tests::cards::image::Image;
 use harptimber_tests::cards::knobs::{Knobs, Pack};
+use harptimber_tests::cards::layout::inode::{INLINE_ROOM, INLINE_ROOM_WITH_XATTR};
 use harptimber_tests::cards::layout::BLOCK_SIZE;
 use harptimber_tests::program::card::{ProgramCard, ROAD};
-use harptimber_tests::program::inline::{ROOM, ROOM_BESIDE_XATTR};
 use harptimber_tests::program::levels::MOST_LEVEL;
 use harptimber_tests::program::page::with_commas;
 use harptimber_tests::running::ran;
@@ -154,7 +154,8 @@ const READS_INLINE: &str = "0.7.0";
 /// Inline files and roots: how long they are, and since when they are read.
 #[test]
 fn inline_inodes() {
-    let [longest, room, beside] = [LONGEST_INLINE, ROOM, ROOM_BESIDE_XATTR].map(with_commas);
+    let [longest, room, beside] =
+        [LONGEST_INLINE, INLINE_ROOM, INLINE_ROOM_WITH_XATTR].map(with_commas);
     for (page, words) in [
         ("README.md", format!("as files of up to {longest} bytes usually are")),
         ("README.md", format!("a 12 of one before {READS_INLINE}")),

@@ -5,7 +5,9 @@ use std::collections::BTreeSet;
 
 use harptimber_tests::cards::directory::Dentry;
 use harptimber_tests::cards::image::Image;
-use harptimber_tests::cards::layout::inode::I_SIZE;
+use harptimber_tests::cards::layout::inode::{
+    INLINE_AT, INLINE_ROOM, INLINE_ROOM_WITH_XATTR, I_SIZE,
+};
 use harptimber_tests::cards::layout::nat::BLOCK_ADDR;
 use harptimber_tests::cards::layout::superblock::SEGMENT_COUNT_MAIN;
 use harptimber_tests::cards::layout::BLOCK_SIZE;
@@ -13,7 +15,6 @@ use harptimber_tests::cards::on_disk::OnDisk;
 use harptimber_tests::program::card::{ProgramCard, EMPTY, LONG, NAMES, OUTSIDE, ROAD};
 use harptimber_tests::program::card::{FULL, FULL_BESIDE_XATTR, INLINE, INLINE_EMPTY};
 use harptimber_tests::program::compares::Expected;
-use harptimber_tests::program::inline::{CONTENTS, ROOM, ROOM_BESIDE_XATTR};
 use harptimber_tests::program::page::{expect_head, expect_name, shown};
 use harptimber_tests::program::special_build::SpecialBuild;
 use harptimber_tests::program::versions::{add_moved_road, MOVED_BYTE};
@@ -190,11 +191,14 @@ fn inline_files() {
 }
 
 pub(crate) fn expect_inline_files(cards: &mut Cards) {
-    for (name, room) in [(INLINE, ROOM), (FULL_BESIDE_XATTR, ROOM_BESIDE_XATTR)] {
+    for (name, room) in [
+        (INLINE, INLINE_ROOM),
+        (FULL_BESIDE_XATTR, INLINE_ROOM_WITH_XATTR),
+    ] {
         let file = cards.kept.file(name).clone();
         let inode = file.inline.expect("an inline file");
-        let end = CONTENTS + file.size as usize;
-        for at in [32, CONTENTS - 1, CONTENTS, end - 1, end, 4051, 4095] {
+        let end = INLINE_AT + file.size as usize;
+        for at in [32, INLINE_AT - 1, INLINE_AT, end - 1, end, 4051, 4095] {
             cards.byte(inode, at);
             assert_eq!(cards.expect(name), 1, "byte {at} changed");
             assert_eq!(cards.expect_at(FULL, None), 0, "another file");

@@ -5,13 +5,14 @@ use harptimber_tests::cards::card::ROOT;
 use harptimber_tests::cards::directory::{in_slot, Dentry};
 use harptimber_tests::cards::image::Image;
 use harptimber_tests::cards::layout::dentry;
-use harptimber_tests::cards::layout::inode::{INLINE_XATTR, I_INLINE, I_SIZE};
+use harptimber_tests::cards::layout::dentry::IN_INODE;
+use harptimber_tests::cards::layout::inode::{INLINE_AT, INLINE_XATTR, I_INLINE, I_SIZE};
 use harptimber_tests::cards::layout::Field;
 use harptimber_tests::cards::on_disk::OnDisk;
 use harptimber_tests::program::card::{ProgramCard, LONG, ROAD};
 use harptimber_tests::program::card::{FULL, FULL_BESIDE_XATTR, INLINE};
 use harptimber_tests::program::compare_words::grouped;
-use harptimber_tests::program::inline::{self, CONTENTS};
+use harptimber_tests::program::inline::slots_in;
 use harptimber_tests::program::{run, Words};
 
 struct Cards {
@@ -269,17 +270,21 @@ fn inline_entries() {
         let place = format!("the root directory's inode (node 3, the card's block {root})");
         let place = format!("inline contents changed in {place}");
         let told = cards.told(ROAD, root, |image| {
-            inline::put_dentry(image, root, 180, &Dentry::new(b"new\x01", 77))
+            image.put_dentry(slots_in(root), 180, &Dentry::new(b"new\x01", 77))
         });
         assert_eq!(told, format!("{place}: an entry is new (new\\x01)"));
         let slot = inline_slot_of(&cards.kept.disk.image, root, ROAD);
         let told = cards.told(b"4096", root, |image| {
-            inline::set_bits(image, root, slot, 1, false)
+            image.set_slot_bits(slots_in(root), slot, 1, false)
         });
         assert_eq!(told, format!("{place}: an entry is gone (road.bin)"));
         let ino = cards.kept.file(ROAD).ino;
         let told = cards.told(b"4096", root, |image| {
-            image.set(root, inline::in_slot(dentry::INO, slot), u64::from(ino + 1))
+            image.set(
+                root,
+                IN_INODE.in_slot(dentry::INO, slot),
+                u64::from(ino + 1),
+            )
         });
         let inodes = format!("inode {ino} before, {} now", ino + 1);
         assert_eq!(
@@ -287,12 +292,12 @@ fn inline_entries() {
             format!("{place}: an entry changed (road.bin: {inodes})")
         );
         let told = cards.told(b"4096", root, |image| {
-            image.put("name", root, inline::name_at(slot), b"rail")
+            image.put("name", root, IN_INODE.name_at(slot), b"rail")
         });
         let names = "road.bin before, rail.bin now";
         assert_eq!(told, format!("{place}: an entry changed ({names})"));
         // The seven bytes between the map and the entries.
-        for at in [CONTENTS + 23, CONTENTS + 29] {
+        for at in [INLINE_AT + 23, INLINE_AT + 29] {
             let told = cards.told_of_byte(ROAD, root, at);
             assert_eq!(told, format!("{place}: bytes of no entry changed"));
         }
@@ -323,8 +328,8 @@ fn around_inline_entries() {
 
 /// The inline slot in which an inode has a name.
 fn inline_slot_of(image: &Image, inode: u32, name: &[u8]) -> usize {
-    let mut slots = 0..inline::SLOTS;
-    let at = |slot: usize| inline::name_at(slot);
+    let mut slots = 0..IN_INODE.slots;
+    let at = |slot: usize| IN_INODE.name_at(slot);
     let found = slots.find(|&slot| image.block(inode)[at(slot)..].starts_with(name));
     found.expect("the name in the inode")
 }
@@ -447,8 +452,8 @@ fn grown_inline_file() {
         card.disk.write_blocks(&[block]);
         let told = Cards::of(card).told(INLINE, block, |image| {
             image.set_all(block, &[(I_INLINE, now), (I_SIZE, 200)]);
-            let byte = image.block(block)[CONTENTS + 199] ^ 1;
-            image.put("byte", block, CONTENTS + 199, &[byte]);
+            let byte = image.block(block)[INLINE_AT + 199] ^ 1;
+            image.put("byte", block, INLINE_AT + 199, &[byte]);
         });
         let flags = format!("inline flags ({before:#x} before, {now:#x} now)");
         let place = format!("changed in the file's inode (node {ino}, the card's block {block})");

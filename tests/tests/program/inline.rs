@@ -4,20 +4,17 @@
 use std::fs;
 use std::path::PathBuf;
 
-use harptimber_tests::cards::card::{Card, ROOT};
+use harptimber_tests::cards::card::{inline_room_by, Card, ROOT};
 use harptimber_tests::cards::directory::Dentry;
 use harptimber_tests::cards::knobs::Knobs;
-use harptimber_tests::cards::layout::dentry::{self, NAME_LEN, SLOT_LEN};
+use harptimber_tests::cards::layout::dentry::{self, IN_INODE, NAME_LEN, SLOT_LEN};
 use harptimber_tests::cards::layout::inode::*;
 use harptimber_tests::cards::layout::{footer, Field, BLOCK_SIZE};
 use harptimber_tests::cards::on_disk::OnDisk;
 use harptimber_tests::cards::one_file::{small_knobs, NAME};
 use harptimber_tests::cards::random::pick;
 use harptimber_tests::program::card::{ProgramCard, Put};
-use harptimber_tests::program::inline::{
-    self, clear_slots, in_slot, move_entries, put_dentry, put_inline, room, CONTENTS,
-    ROOM_BESIDE_XATTR, SLOTS,
-};
+use harptimber_tests::program::inline::{put_inline, slots_in};
 use harptimber_tests::program::page::{counted, expect_head, meaning, with_commas};
 use harptimber_tests::program::special_build::SpecialBuild;
 use harptimber_tests::program::{run, Ran, Words};
@@ -76,14 +73,13 @@ impl Stage {
     }
 
     fn on(mut card: Card, of_root: Option<u64>, of_file: u64) -> Stage {
-        card.add_root(0, 1);
+        card.add_root(of_root.map_or(0, |flags| INLINE_DENTRY | flags), 1);
         let file = put_inline(&mut card, NAME, of_file, 100);
         // What only words speak of is junk else.
         for ino in [ROOT, file.ino] {
             let inode = card.inode_block(ino);
             card.image.set_all(inode, &[(I_ADVISE, 0), (I_FLAGS, 0)]);
         }
-        of_root.map(|flags| move_entries(&mut card, flags));
         card.image.settle("an inline file");
         let disk = OnDisk::new(card.image.clone());
         Stage { card, file, disk }
@@ -193,7 +189,7 @@ fn rooms_of_files() {
     for (number, of_root) in ROOTS.into_iter().enumerate() {
         for of_file in [0, INLINE_XATTR, 0x08, 0xD9] {
             let mut stage = Stage::new(110 + number as u64, of_root, of_file);
-            let (inode, room) = (stage.inode(), room(of_file));
+            let (inode, room) = (stage.inode(), inline_room_by(of_file));
             for size in [1, 2, 3343, 3344, 3345, room - 1, room] {
                 let fields = [(I_SIZE, size as u64)];
                 stage.with_fields(inode, &fields, |stage| stage.expect_read(size));
@@ -241,7 +237,7 @@ fn rooms_of_roots() {
             stage.with_fields(root, &fields, |stage| stage.expect_read(100));
         }
         for size in [3489, 3688, 4096, (1 << 32) + 1, u64::MAX] {
-            let reason = not_read(&too_long(size, ROOM_BESIDE_XATTR));
+            let reason = not_read(&too_long(size, INLINE_ROOM_WITH_XATTR));
             for (depth, level) in [(1, 0), (64, 0), (1, 31)] {
                 let others = [(I_CURRENT_DEPTH, depth), (I_DIR_LEVEL, level)];
                 let fields = [&others[..], &[(I_SIZE, size)]].concat();
@@ -361,11 +357,12 @@ fn last_slots() {
     let (root, ino) = (stage.root(), stage.file.ino);
     for len in [1, 8, 9, 16, 17, 255] {
         let name = vec![b'n'; len];
-        let first = SLOTS - len.div_ceil(SLOT_LEN);
-        for slot in (first..SLOTS).take(2) {
+        let first = IN_INODE.slots - len.div_ceil(SLOT_LEN);
+        for slot in (first..IN_INODE.slots).take(2) {
             let put = |card: &mut Card| {
-                clear_slots(&mut card.image, root);
-                put_dentry(&mut card.image, root, slot, &Dentry::new(&name, ino));
+                card.image.clear_slots(slots_in(root));
+                card.image
+                    .put_dentry(slots_in(root), slot, &Dentry::new(&name, ino));
             };
             let whose = format!(
                 "inline slot {slot} of the card's block {root} (the root directory's inode)"
@@ -400,11 +397,11 @@ fn malformed() {
     ] {
         let put = |card: &mut Card| {
             let image = &mut card.image;
-            put_dentry(image, root, slot, &Dentry::new(b"m", ino));
-            image.set(root, in_slot(NAME_LEN, slot), len);
-            inline::set_bits(image, root, 0, 1, false);
-            put_dentry(image, root, 40, &Dentry::new(b"before", ino));
-            inline::set_bits(image, root, slot + 1, SLOTS, false);
+            image.put_dentry(slots_in(root), slot, &Dentry::new(b"m", ino));
+            image.set(root, IN_INODE.in_slot(NAME_LEN, slot), len);
+            image.set_slot_bits(slots_in(root), 0, 1, false);
+            image.put_dentry(slots_in(root), 40, &Dentry::new(b"before", ino));
+            image.set_slot_bits(slots_in(root), slot + 1, IN_INODE.slots, false);
         };
         let place = format!("inline slot {slot} of the card's block {root}");
         let bytes = counted(len as usize, "byte");
@@ -424,7 +421,7 @@ fn malformed() {
 fn free_slots() {
     let mut stage = Stage::new(120, Some(0), 0);
     let root = stage.root();
-    let free = |card: &mut Card| clear_slots(&mut card.image, root);
+    let free = |card: &mut Card| card.image.clear_slots(slots_in(root));
     stage.with(free, |stage| {
         assert_eq!(expect_json(&stage.disk, &stage.card.image, NAME, 0), 2);
         expect_listing(&stage.path(), vec![], &[]);
@@ -445,7 +442,7 @@ fn listed_entries() {
             (20, hidden),
             (181, Dentry::new(b"last one", ino)),
         ] {
-            put_dentry(&mut card.image, root, slot, &dentry);
+            card.image.put_dentry(slots_in(root), slot, &dentry);
         }
     };
     stage.with(put, |stage| {
@@ -477,9 +474,9 @@ fn any_field(random: &mut Random) -> (Field, Vec<u64>) {
             pick(random, &[I_CURRENT_DEPTH, I_DIR_LEVEL]),
             vec![0, 30, 31, 63, 64, 255],
         ),
-        4 => (inline::map_byte(slot), vec![0, 1, 3, 7, 255]),
+        4 => (IN_INODE.map_byte(slot), vec![0, 1, 3, 7, 255]),
         _ => (
-            in_slot(pick(random, dentry::ALL), slot),
+            IN_INODE.in_slot(pick(random, dentry::ALL), slot),
             vec![0, 1, 7, 8, 9, 255, 256, 3],
         ),
     }
@@ -542,10 +539,11 @@ fn at_the_end_under_sanitizers() {
         let card = Card::new(Knobs::sound(), Random::new(124));
         let Stage { mut card, file, .. } = Stage::on(card, Some(flags), flags);
         let [root, inode] = [ROOT, file.ino].map(|ino| card.inode_block(ino));
-        let size = room(flags);
+        let size = inline_room_by(flags);
         card.image.set(inode, I_SIZE, size as u64);
         let longest = [b'n'; 255];
-        put_dentry(&mut card.image, root, 150, &Dentry::new(&longest, file.ino));
+        card.image
+            .put_dentry(slots_in(root), 150, &Dentry::new(&longest, file.ino));
         let (nid, from) = if root_is_last {
             (ROOT, root)
         } else {
@@ -559,7 +557,7 @@ fn at_the_end_under_sanitizers() {
         card.set_entry(nid, nid, last);
         assert_eq!(card.image.bytes().len(), (last as usize + 1) * BLOCK_SIZE);
         let disk = OnDisk::new(card.image);
-        let contents = &disk.image.block(inode)[CONTENTS..][..size];
+        let contents = &disk.image.block(inode)[INLINE_AT..][..size];
         for name in [NAME, &longest] {
             let cat = build.run(&[&"cat", &disk.path(), &name]).expect(0);
             assert!(cat.out == contents, "bytes by {cat:?}");
