@@ -41,7 +41,7 @@ pub const KIND_NOT_READ: u32 = 12;
 // A data address lies outside the main area.
 pub const DATA_OUTSIDE: u32 = 13;
 
-// A directory entry doesn't fit its block.
+// A directory entry is malformed.
 pub const MALFORMED_SLOT: u32 = 14;
 
 // Compare: the new image gives the same answer.
