@@ -27,6 +27,7 @@ pub const MEMCMP: usize = 2;
 /// The calls on every card.
 pub struct Calls {
     pub single: Grid,
+    pub inline: Grid,
     pub in_order: Grid,
     /// On the cards that have a file so long.
     pub indirect: Grid,
@@ -39,6 +40,7 @@ impl Calls {
     pub fn on(cards: &[Card], agreed: &mut Agreed) -> Calls {
         Calls {
             single: single(cards),
+            inline: inline(cards),
             in_order: in_order(cards),
             indirect: indirect(&cards[WITHOUT_SURVEY..]),
             lookup: lookup(cards, agreed),
@@ -47,9 +49,10 @@ impl Calls {
         }
     }
 
-    pub fn on_all_cards(&self) -> [(&str, &Grid); 4] {
+    pub fn on_all_cards(&self) -> [(&str, &Grid); 5] {
         [
             ("single pull, block in the inode", &self.single),
+            ("pull of a small file, inline", &self.inline),
             ("pulls of a whole file, in order", &self.in_order),
             ("node lookup", &self.lookup),
             ("compare, full list, all the same", &self.compare),
@@ -74,6 +77,11 @@ fn pulls<'a>(card: &'a Card, name: &'a str, indexes: Range<u32>) -> Vec<Contende
 /// A pull of a block that stands in the inode.
 fn single(cards: &[Card]) -> Grid {
     by_card(OFTEN, cards, |card| pulls(card, ROAD, 0..1))
+}
+
+/// A pull of a file whose bytes are in its inode.
+fn inline(cards: &[Card]) -> Grid {
+    by_card(OFTEN, cards, |card| pulls(card, TABLE, 0..1))
 }
 
 /// Pulls of every block of a file; then, by the archive, as many pulls of its first block.

@@ -16,6 +16,9 @@ const MEGABYTES: [usize; 3] = [64, 1024, LARGEST];
 /// A file that every card has: blocks in its inode and behind both of its direct nodes.
 pub const ROAD: &str = "road.bin";
 pub const ROAD_BLOCKS: u32 = 1920;
+/// A small one, which sload.f2fs puts into its inode.
+pub const TABLE: &str = "friction.tbl";
+const TABLE_BYTES: usize = 2560;
 /// One that reaches an indirect node too. It is on the larger cards, which are all but the first.
 pub const SURVEY: &str = "survey.bin";
 pub const SURVEY_BLOCKS: u32 = 8192;
@@ -82,17 +85,20 @@ impl Card {
     }
 }
 
-pub fn files() -> [File; 2] {
+/// The survey comes last: the smallest card is without it.
+pub fn files() -> [File; 3] {
     let mut random = Random::new(1);
-    [(ROAD, ROAD_BLOCKS), (SURVEY, SURVEY_BLOCKS)].map(|(name, blocks)| {
-        let bytes = random.bytes(blocks as usize * BLOCK_SIZE);
-        (name.as_bytes().to_vec(), bytes)
-    })
+    [
+        (ROAD, ROAD_BLOCKS as usize * BLOCK_SIZE),
+        (TABLE, TABLE_BYTES),
+        (SURVEY, SURVEY_BLOCKS as usize * BLOCK_SIZE),
+    ]
+    .map(|(name, len)| (name.as_bytes().to_vec(), random.bytes(len)))
 }
 
-pub fn cards(files: &[File; 2], agreed: &mut Agreed) -> Vec<Card> {
+pub fn cards(files: &[File; 3], agreed: &mut Agreed) -> Vec<Card> {
     let card = |(n, megabytes)| {
-        let files = &files[..if n < WITHOUT_SURVEY { 1 } else { 2 }];
+        let files = &files[..if n < WITHOUT_SURVEY { 2 } else { 3 }];
         let card = Card::new(megabytes, files);
         files.iter().for_each(|file| card.check(file, agreed));
         card

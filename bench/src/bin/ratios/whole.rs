@@ -30,11 +30,10 @@ pub struct Whole<'a> {
 }
 
 /// The columns: one file on every card, then the long one on those that have it.
-pub fn columns<'a>(cards: &'a [Card], files: &'a [File; 2]) -> Vec<Whole<'a>> {
+pub fn columns<'a>(cards: &'a [Card], [road, _, survey]: &'a [File; 3]) -> Vec<Whole<'a>> {
     let of = |cards: &'a [Card], file| cards.iter().map(move |card| Whole { card, file });
-    let road = of(cards, &files[0]);
-    road.chain(of(&cards[WITHOUT_SURVEY..], &files[1]))
-        .collect()
+    let on_all = of(cards, road);
+    on_all.chain(of(&cards[WITHOUT_SURVEY..], survey)).collect()
 }
 
 impl Whole<'_> {
