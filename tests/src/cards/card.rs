@@ -229,7 +229,7 @@ fn elsewhere(entry: NatEntry) -> NatEntry {
 
 /// Files.
 impl Card {
-    /// A directory or a regular file. What the fields leave out is junk, and so is all that an inline one has instead of
+    /// A directory or a regular file. What the fields leave out is junk, and so is what an inline one has in place of
     /// addresses and node numbers.
     pub fn add_inode(&mut self, ino: u32, fields: &[(Field, u64)]) -> u32 {
         let block = self.add_node(ino, ino, 0).block;

@@ -231,7 +231,7 @@ impl Card {
         })
     }
 
-    /// Puts an entry in a block of its bucket, or in the inode of an inline directory, in the first slots that are free.
+    /// Puts an entry in a block of its bucket, or in the inode of an inline directory: in the first free slots.
     pub fn link(&mut self, level: u32, nth: u32, dentry: &Dentry) -> Linked {
         let slots = match self.inline_slots() {
             Some(slots) => slots,

@@ -20,7 +20,7 @@ const TOO_LARGE: &[u8] = b"too large";
 struct Cards {
     kept: Image,
     scene: Scene,
-    /// A node that is there, to which the inline inodes' node numbers lead, and a block, to which the first address does.
+    /// A node and a block that are there: node numbers and the first address of inline inodes lead to them.
     node: u32,
     data: u32,
 }

@@ -34,8 +34,8 @@ fn block_with(image: &Image, at: usize, bytes: &[u8]) -> u32 {
 }
 
 /// A compare on each block of a file says "changed" where its bytes differ, else "same". The inode with
-/// its dates is listed too: it is the same wherever the data is what changed, unless that stands in it. Returns how many
-/// did.
+/// its dates is listed too: it is the same wherever the data is what changed, unless that stands in it.
+/// Returns how many did.
 fn expect_file(
     compares: &mut Compares,
     cards: [&Image; 2],

@@ -1,5 +1,5 @@
-//! Inline root directories. No tool writes one, so that the root of a card by sload.f2fs is made one by hand; fsck.f2fs,
-//! which knows them, then finds nothing to complain of.
+//! Inline root directories. No tool writes one, so that the root of a card by sload.f2fs is made one by hand. fsck.f2fs
+//! finds nothing to complain of then.
 
 use harptimber_tests::calls::compares::{changed, Compares, Kept, SAME};
 use harptimber_tests::calls::pulls::{lists, Call, Pulls};

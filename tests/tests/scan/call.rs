@@ -75,8 +75,8 @@ fn scan_past_guard(layout: Layout) {
     panic!("no guard: {scanned:?}");
 }
 
-/// Every block is lent so that it ends at a guard page. A scan that is told of more than there is, from the last byte of
-/// a name on, ends the program: so would any read past the end.
+/// Every block is lent so that it ends at a guard page. A scan that is told of more than there is, the last byte of a
+/// name among it, ends the program: so would any read past the end.
 #[test]
 fn guard_is_seen() {
     const SIGSEGV: i32 = 11;

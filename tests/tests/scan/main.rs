@@ -1,5 +1,5 @@
-//! The scans of a directory's slots, in a block and in an inode, against the reference, which moves slot by slot: answer,
-//! inode number and turns.
+//! The scans of a directory's slots, in a block and in an inode, against the reference, which moves slot by slot:
+//! answer, inode number and turns.
 
 // By their paths and not from the lib of this package, which would bring libharptimber.a along.
 #[path = "../../src/calls/answers.rs"]

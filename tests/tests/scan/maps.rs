@@ -146,7 +146,7 @@ fn runs_at_edges() {
     scans.finish(4 * (82 * 81 - 81 + 70 * 69 - 69), &[0]);
 }
 
-/// Bits 214 and 215, in an inode 182 and 183, and the reserved bytes belong to no slot, whatever would be their entries.
+/// Bits 214 and 215, or 182 and 183, and the reserved bytes belong to no slot, whatever would be their entries.
 fn expect_behind(scans: &mut Scans, layout: Layout, map: &Map) {
     let slots = layout.slots;
     let mapped = 8 * layout.map_bytes;
