@@ -391,8 +391,6 @@ pub mod inode {
     /// A file's bytes or a directory's entries stand in the inode.
     pub const INLINE_DATA: u64 = 0x02;
     pub const INLINE_DENTRY: u64 = 0x04;
-    /// The file has data, as the tools note it. It isn't consulted.
-    pub const DATA_EXIST: u64 = 0x08;
     /// A kind that isn't read: the addresses start further on.
     pub const EXTRA_ATTR: u64 = 0x20;
 
@@ -418,6 +416,12 @@ pub mod slots {
 
     pub const SIZE: usize = 4;
     pub const NIDS_PER_INODE: usize = 5;
+
+    /// The node numbers of an inode.
+    pub fn node_numbers() -> impl Iterator<Item = super::Field> {
+        (0..NIDS_PER_INODE).map(|nth| I_NID.moved(nth * SIZE))
+    }
+
     /// In a node that isn't an inode.
     pub const PER_NODE: u64 = 1018;
 }

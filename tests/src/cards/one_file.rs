@@ -3,7 +3,7 @@
 use crate::cards::card::{Card, Passage, ROOT};
 use crate::cards::directory::{Dentry, Linked};
 use crate::cards::knobs::{Knobs, Pack};
-use crate::cards::layout::inode::INLINE_XATTR;
+use crate::cards::layout::inode::{INLINE_DENTRY, INLINE_XATTR};
 use crate::cards::layout::nat::MAP_BYTES_PER_SEGMENT;
 use crate::trial::Random;
 
@@ -47,6 +47,9 @@ pub const INLINES: [[u64; 2]; 4] = [
     [0, INLINE_XATTR],
     [INLINE_XATTR, INLINE_XATTR],
 ];
+
+/// An inline root, with the bit for attributes and without.
+pub const INLINE_ROOTS: [u64; 2] = [INLINE_DENTRY, INLINE_DENTRY | INLINE_XATTR];
 
 impl Scene {
     /// Unneeded slots of the nodes are holes.

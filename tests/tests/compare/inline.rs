@@ -6,7 +6,7 @@ use harptimber_tests::cards::directory::Dentry;
 use harptimber_tests::cards::image::Image;
 use harptimber_tests::cards::layout::inode::*;
 use harptimber_tests::cards::layout::nat::ENTRY_SIZE;
-use harptimber_tests::cards::layout::slots::{self, I_ADDR, I_NID};
+use harptimber_tests::cards::layout::slots::{node_numbers, I_ADDR};
 use harptimber_tests::cards::layout::BLOCK_SIZE;
 use harptimber_tests::cards::one_file::{Scene, Setting, NAME};
 use harptimber_tests::trial::Random;
@@ -42,8 +42,7 @@ fn cards(random: &mut Random, root_inline: u64, file_inline: u64) -> Cards {
         let block = card.inode_block(ino);
         if card.image.get(block, I_INLINE) & (INLINE_DATA | INLINE_DENTRY) != 0 {
             card.image.set(block, I_ADDR, data.into());
-            for nth in 0..slots::NIDS_PER_INODE {
-                let field = I_NID.moved(nth * slots::SIZE);
+            for field in node_numbers() {
                 card.image.set(block, field, node.into());
             }
         }

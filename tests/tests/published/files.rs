@@ -16,7 +16,8 @@ use harptimber_tests::tools::published::{
 };
 use harptimber_tests::trial::Random;
 
-fn expect_file(pulls: &mut Pulls, image: &Image, (name, bytes): &File) {
+/// Each block of a file, and none behind the last.
+pub fn expect_file(pulls: &mut Pulls, image: &Image, (name, bytes): &File) {
     let blocks = bytes.chunks(BLOCK_SIZE);
     let past = blocks.len() as u32;
     for (index, block) in blocks.enumerate() {

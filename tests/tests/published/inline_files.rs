@@ -4,19 +4,15 @@ use harptimber_tests::calls::pulls::{Call, Pulls};
 use harptimber_tests::cards::card::ROOT;
 use harptimber_tests::cards::image::Image;
 use harptimber_tests::cards::layout::inode::*;
+use harptimber_tests::cards::layout::slots::I_ADDR;
 use harptimber_tests::node_lookup;
 use harptimber_tests::tools::fsck::fsck;
 use harptimber_tests::tools::outside::{inode_number, CardFile, Opinions, Reader};
 use harptimber_tests::tools::published::{contents, filled_with, root_block, File, LONGEST_INLINE};
 use harptimber_tests::trial::Random;
 
-const ALL: [Reader; 4] = [
-    Reader::Harptimber,
-    Reader::GrubCat,
-    Reader::GrubCp,
-    Reader::Dump,
-];
-const WITHOUT_GRUB: [Reader; 2] = [Reader::Harptimber, Reader::Dump];
+use crate::files::expect_file;
+use crate::outside_readers::{ALL, WITHOUT_GRUB};
 
 fn files(random: &mut Random, sizes: &[usize]) -> Vec<File> {
     let file = |(n, &size): (usize, &usize)| {
@@ -38,20 +34,16 @@ fn is_inline(image: &Image, name: &[u8]) -> bool {
 }
 
 /// Expects an inline file's bytes, and that its inode's block is all that was read of it.
-fn expect_inline(pulls: &mut Pulls, image: &Image, (name, bytes): &File) {
+fn expect_inline(pulls: &mut Pulls, image: &Image, file: &File) {
+    let (name, bytes) = file;
     let (number, block) = inode(image, name);
     // The root's first block has all names: the directory is small.
     let root = root_block(image);
-    let directory = image.get(root, harptimber_tests::cards::layout::slots::I_ADDR) as u32;
+    let directory = image.get(root, I_ADDR) as u32;
     let call = Call::new(image, name, 0);
     let answer = if bytes.is_empty() { 3 } else { 0 };
     pulls.expect_lists(&call, answer, &[ROOT, number], &[root, directory, block]);
-    if answer == 0 {
-        pulls.expect_data(image, name, 0, bytes);
-    }
-    for index in [1, u32::MAX] {
-        pulls.expect(image, name, index, 3);
-    }
+    expect_file(pulls, image, file);
 }
 
 /// Sizes around those at which something changes: sload.f2fs leaves more room than it has to.
@@ -73,12 +65,12 @@ fn sizes() {
         assert_eq!(is_inline(&image, name), inline, "{} bytes", bytes.len());
         match inline {
             true => expect_inline(&mut pulls, &image, file),
-            false => pulls.expect_data(&image, name, 0, bytes),
+            false => expect_file(&mut pulls, &image, file),
         }
         opinions.expect(&ALL, &card, (name, bytes));
     }
     opinions.finish(&ALL.map(|reader| (reader, 20)));
-    pulls.finish(12 * 3 + 8, &[0, 3]);
+    pulls.finish(12 + 19 + 20 * 4, &[0, 3]);
 }
 
 /// So many that they need several hash levels.
@@ -93,19 +85,15 @@ fn many() {
     let image = filled_with(100, "", &files);
     let depth = image.get(root_block(&image), I_CURRENT_DEPTH);
     assert!(depth > 1, "so many names need levels");
-    for (name, bytes) in &files {
-        match bytes.len() {
-            0 => pulls.expect(&image, name, 0, 3),
-            _ => pulls.expect_data(&image, name, 0, bytes),
-        }
-        pulls.expect(&image, name, 1, 3);
+    for file in &files {
+        expect_file(&mut pulls, &image, file);
     }
     let card = CardFile::of(&image);
     for (name, bytes) in files.iter().step_by(60) {
         opinions.expect(&ALL, &card, (name, bytes));
     }
     opinions.finish(&ALL.map(|reader| (reader, 10)));
-    pulls.finish(600 * 2, &[0, 3]);
+    pulls.finish(600 * 4, &[0, 3]);
 }
 
 /// Inline files that are made longer by hand, up to all the room that the paper gives them. fsck.f2fs finds nothing to
@@ -145,5 +133,5 @@ fn made_longer() {
         (Reader::GrubCat, 5),
         (Reader::Dump, 8),
     ]);
-    pulls.finish(8 * 4, &[0, 3]);
+    pulls.finish(8 * (1 + 5), &[0, 3]);
 }

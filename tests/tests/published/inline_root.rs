@@ -4,18 +4,22 @@
 use harptimber_tests::calls::compares::{changed, Compares, Kept, SAME};
 use harptimber_tests::calls::pulls::{lists, Call, Pulls};
 use harptimber_tests::cards::card::ROOT;
-use harptimber_tests::cards::directory::{Dentry, Slots};
+use harptimber_tests::cards::directory::{Dentry, Linked, Slots};
 use harptimber_tests::cards::image::Image;
 use harptimber_tests::cards::layout::checkpoint::VALID_BLOCK_COUNT;
 use harptimber_tests::cards::layout::dentry::*;
 use harptimber_tests::cards::layout::inode::*;
 use harptimber_tests::cards::layout::sit::{VALID_MAP, VBLOCKS, VBLOCKS_SHIFT};
-use harptimber_tests::cards::layout::{slots, Field, BLOCK_SIZE, SEGMENT_BLOCKS};
+use harptimber_tests::cards::layout::{slots, Field, SEGMENT_BLOCKS};
+use harptimber_tests::cards::one_file::INLINE_ROOTS;
 use harptimber_tests::cards::segments::SegmentCard;
 use harptimber_tests::tools::fsck::{fsck, inline_entries};
-use harptimber_tests::tools::outside::{CardFile, Opinions, Reader};
+use harptimber_tests::tools::outside::{CardFile, Opinions};
 use harptimber_tests::tools::published::{contents, filled_with, root_block, File};
 use harptimber_tests::trial::Random;
+
+use crate::files::expect_file;
+use crate::outside_readers::FIRST;
 
 /// How many blocks an inode has, itself included.
 const I_BLOCKS: Field = Field {
@@ -36,7 +40,7 @@ type Typed = (Dentry, u64);
 
 /// The entries of a directory block.
 fn entries(image: &Image, block: u32) -> Vec<Typed> {
-    let entry = |linked: &harptimber_tests::cards::directory::Linked| {
+    let entry = |linked: &Linked| {
         let number = |field| image.get(block, linked.field(field));
         let len = number(NAME_LEN) as usize;
         let name = &image.block(block)[linked.layout.name_at(linked.slot)..][..len];
@@ -113,10 +117,6 @@ fn inline_card(inline: u64, files: &[File]) -> (Image, usize) {
     (card.image, slots)
 }
 
-/// Inline directories, with the bit for attributes and without.
-const INLINES: [u64; 2] = [INLINE_DENTRY, INLINE_DENTRY | INLINE_XATTR];
-const READERS: [Reader; 3] = [Reader::Harptimber, Reader::GrubCat, Reader::Dump];
-
 /// Files of these names, some of them inline.
 fn files(random: &mut Random, names: impl IntoIterator<Item = String>) -> Vec<File> {
     let sizes = [0, 1, 3000, 3344, 3345, 4097, 20_000];
@@ -125,17 +125,13 @@ fn files(random: &mut Random, names: impl IntoIterator<Item = String>) -> Vec<Fi
     named.map(file).collect()
 }
 
-/// Each block of each file, and names that aren't there.
+/// Each file, and names that aren't there.
 fn expect_files(pulls: &mut Pulls, image: &Image, files: &[File]) {
-    let root = root_block(image);
-    for (name, bytes) in files {
-        for (index, block) in bytes.chunks(BLOCK_SIZE).enumerate() {
-            pulls.expect_data(image, name, index as u32, block);
-        }
-        let past = bytes.len().div_ceil(BLOCK_SIZE) as u32;
-        pulls.expect(image, name, past, 3);
-        let call = Call::new(image, b"missing", 0);
-        pulls.expect_lists(&call, 2, &[ROOT], &[root]);
+    for file in files {
+        expect_file(pulls, image, file);
+        let missing = [&file.0, b"x".as_slice()].concat();
+        let call = Call::new(image, &missing, 0);
+        pulls.expect_lists(&call, 2, &[ROOT], &[root_block(image)]);
     }
     for dots in [b".".as_slice(), b".."] {
         pulls.expect(image, dots, 0, 12);
@@ -147,7 +143,7 @@ fn expect_files(pulls: &mut Pulls, image: &Image, files: &[File]) {
 fn names() {
     let mut pulls = Pulls::new("published files in an inline root");
     let mut opinions = Opinions::new("outside readers, an inline root");
-    for inline in INLINES {
+    for inline in INLINE_ROOTS {
         let lens = [1, 2, 7, 8, 9, 15, 16, 17, 31, 64, 100, 200, 254];
         let names = lens.map(|len: usize| format!("{len:x}").repeat(len)[..len].to_string());
         let files = files(&mut pulls.trial.random, names);
@@ -156,11 +152,11 @@ fn names() {
         expect_files(&mut pulls, &image, &files);
         let card = CardFile::of(&image);
         for (name, bytes) in &files {
-            opinions.expect(&READERS, &card, (name, bytes));
+            opinions.expect(&FIRST, &card, (name, bytes));
         }
     }
-    opinions.finish(&READERS.map(|reader| (reader, 2 * 13)));
-    pulls.finish(2 * 13 * 3, &[0, 2, 3, 12]);
+    opinions.finish(&FIRST.map(|reader| (reader, 2 * 13)));
+    pulls.finish(2 * (13 * 5 + 2), &[0, 2, 3, 12]);
 }
 
 /// As many names as there are slots, the two dots included: GRUB and fsck.f2fs find the last one too.
@@ -168,7 +164,7 @@ fn names() {
 fn full() {
     let mut pulls = Pulls::new("published files in a full inline root");
     let mut opinions = Opinions::new("outside readers, a full inline root");
-    for inline in INLINES {
+    for inline in INLINE_ROOTS {
         let names = (0..180).map(|n| format!("file.{n}"));
         let files = files(&mut pulls.trial.random, names);
         let (image, slots) = inline_card(inline, &files);
@@ -176,11 +172,11 @@ fn full() {
         expect_files(&mut pulls, &image, &files);
         let card = CardFile::of(&image);
         for (name, bytes) in files.iter().step_by(30).chain(files.last()) {
-            opinions.expect(&READERS, &card, (name, bytes));
+            opinions.expect(&FIRST, &card, (name, bytes));
         }
     }
-    opinions.finish(&READERS.map(|reader| (reader, 2 * 7)));
-    pulls.finish(2 * 180 * 3, &[0, 2, 3, 12]);
+    opinions.finish(&FIRST.map(|reader| (reader, 2 * 7)));
+    pulls.finish(2 * (180 * 5 + 2), &[0, 2, 3, 12]);
 }
 
 /// A small friction table in an inline root: a byte of it makes it another, and the road beside it stays the same.

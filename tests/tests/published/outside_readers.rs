@@ -20,14 +20,14 @@ use harptimber_tests::tools::published::{
 };
 use harptimber_tests::trial::Random;
 
-const ALL: [Reader; 4] = [
+pub const ALL: [Reader; 4] = [
     Reader::Harptimber,
     Reader::GrubCat,
     Reader::GrubCp,
     Reader::Dump,
 ];
-const FIRST: [Reader; 3] = [Reader::Harptimber, Reader::GrubCat, Reader::Dump];
-const WITHOUT_GRUB: [Reader; 2] = [Reader::Harptimber, Reader::Dump];
+pub const FIRST: [Reader; 3] = [Reader::Harptimber, Reader::GrubCat, Reader::Dump];
+pub const WITHOUT_GRUB: [Reader; 2] = [Reader::Harptimber, Reader::Dump];
 
 /// Expects all files of an image from these readers.
 fn expect_files(opinions: &mut Opinions, readers: &[Reader], image: &Image, files: &[File]) {

@@ -8,8 +8,8 @@ use harptimber_tests::cards::layout::inode::*;
 use harptimber_tests::cards::layout::{slots, BLOCK_SIZE};
 use harptimber_tests::cards::one_file::{Scene, Setting, NAME};
 
-/// The first address of the root leads to a directory block with the name, for a file; its inline slots have the name
-/// for another file. The first address of that file leads to a block, and other bytes stand in its inode.
+/// The root's first address leads to a directory block that has the name for a file, and its inline slots have it for
+/// another file. Each file's first address leads to a block, and other bytes stand in its inode.
 struct TwoWays {
     scene: Scene,
     root: u32,

@@ -6,10 +6,10 @@ use harptimber_tests::cards::dentry_block::{aside, leftovers, DentryBlock, Mixtu
 use harptimber_tests::cards::directory::{Dentry, Slots};
 use harptimber_tests::cards::layout::dentry::*;
 use harptimber_tests::cards::layout::inode::*;
-use harptimber_tests::cards::layout::slots::{self, I_ADDR, I_NID};
+use harptimber_tests::cards::layout::slots::{node_numbers, I_ADDR};
 use harptimber_tests::cards::maps::*;
 use harptimber_tests::cards::names::good_name;
-use harptimber_tests::cards::one_file::{Scene, Setting, NAME};
+use harptimber_tests::cards::one_file::{Scene, Setting, INLINE_ROOTS, NAME};
 
 const SLOTS: usize = 182;
 const MISSING: &[u8] = b"missing";
@@ -67,9 +67,6 @@ impl Inline {
     }
 }
 
-/// Inline directories, with the bit for attributes and without.
-const INLINES: [u64; 2] = [INLINE_DENTRY, INLINE_DENTRY | INLINE_XATTR];
-
 /// 0 is 2, and any size above the room is 12, with the bit for attributes or without. The size is asked for no more.
 #[test]
 fn sizes() {
@@ -78,7 +75,7 @@ fn sizes() {
     let above = [3489, 3490, 3687, 3688, 3689, 4096, 4097].map(|size| (size, 12));
     let far = [32, 33, 40, 63].map(|bit| 1 << bit);
     let far = far.map(|far| [(far, 12), (far + 1, 12), (far + 3488, 12)]);
-    for inline in INLINES {
+    for inline in INLINE_ROOTS {
         let mut directory = Inline::new(&mut pulls, inline);
         for (size, answer) in [[(0, 2)].as_slice(), &within, &above, &far.concat()].concat() {
             let image = &mut directory.scene.card.image;
@@ -229,7 +226,7 @@ fn other_layouts() {
 #[test]
 fn addresses_and_numbers() {
     let mut pulls = Pulls::new("pull by addresses and node numbers of an inline directory");
-    for inline in INLINES {
+    for inline in INLINE_ROOTS {
         let mut directory = Inline::new(&mut pulls, inline);
         let card = &mut directory.scene.card;
         let block = card.free_block();
@@ -240,8 +237,7 @@ fn addresses_and_numbers() {
         let (past, areas) = (card.node_numbers, card.image.areas);
         let ino = directory.scene.ino;
         for value in [0, block, ROOT, ino, areas.main_end, past, u32::MAX] {
-            let numbers = (0..slots::NIDS_PER_INODE).map(|nth| I_NID.moved(nth * slots::SIZE));
-            for field in numbers.chain([I_ADDR]) {
+            for field in node_numbers().chain([I_ADDR]) {
                 let image = &mut directory.scene.card.image;
                 image.set(directory.root, field, value.into());
                 directory.expect_found(&mut pulls, NAME);

@@ -2,9 +2,10 @@
 
 use harptimber_tests::calls::pulls::{Call, Pulls};
 use harptimber_tests::cards::card::ROOT;
+use harptimber_tests::cards::directory::Dentry;
 use harptimber_tests::cards::layout::inode::*;
-use harptimber_tests::cards::layout::slots::{self, I_ADDR, I_NID};
-use harptimber_tests::cards::layout::{Field, BLOCK_SIZE};
+use harptimber_tests::cards::layout::slots::{node_numbers, I_ADDR};
+use harptimber_tests::cards::layout::BLOCK_SIZE;
 use harptimber_tests::cards::one_file::{Scene, Setting, NAME};
 
 /// Inline bytes of a file, and the room that it has by the paper.
@@ -75,21 +76,20 @@ fn sizes() {
     pulls.finish(2 * 4 * (18 + 11) * 9, &[0, 3, 12]);
 }
 
-/// All sizes that fit, one byte more each time.
 #[test]
 fn every_size() {
     let mut pulls = Pulls::new("pull of inline files of every size");
     for (inline, room) in [ROOMS[0], ROOMS[1]] {
         let mut scene = scene(&mut pulls, 0, inline, 0);
         let file = scene.file_block();
-        for size in (1..=room).step_by(7).chain(room - 20..=room) {
+        for size in 1..=room {
             scene.card.image.set(file, I_SIZE, size as u64);
             let image = &scene.card.image;
             let bytes = &image.block(file)[364..364 + size];
             pulls.expect_data(image, NAME, 0, bytes);
         }
     }
-    pulls.finish(527 + 21 + 499 + 21, &[0]);
+    pulls.finish(3688 + 3488, &[0]);
 }
 
 /// Whatever the bytes are, they are data: zeros don't make a hole, and ones no address.
@@ -137,13 +137,7 @@ fn one_byte() {
     pulls.finish(2 * (8 + 39), &[0]);
 }
 
-/// The first address and the five node numbers, whether they lead somewhere or not.
-fn unconsulted() -> Vec<Field> {
-    let numbers = (0..slots::NIDS_PER_INODE).map(|nth| I_NID.moved(nth * slots::SIZE));
-    [I_ADDR].into_iter().chain(numbers).collect()
-}
-
-/// Numbers that lead to nodes and blocks which are there, and numbers that lead nowhere.
+/// The first address and the five node numbers lead to nodes and blocks which are there, or nowhere.
 #[test]
 fn addresses_and_numbers() {
     let mut pulls = Pulls::new("pull of inline files by their addresses and node numbers");
@@ -167,12 +161,12 @@ fn addresses_and_numbers() {
             u32::MAX,
         ];
         for value in values {
-            for field in unconsulted() {
+            for field in node_numbers().chain([I_ADDR]) {
                 scene.card.image.set(file, field, value.into());
                 expect_bytes(&mut pulls, &scene, room);
                 scene.card.image.undo(0);
             }
-            for field in unconsulted() {
+            for field in node_numbers().chain([I_ADDR]) {
                 scene.card.image.set(file, field, value.into());
             }
             // What would be the second address and on are the file's bytes.
@@ -195,8 +189,7 @@ fn files_side_by_side() {
         let data = scene.card.add_block(ino, 0);
         let names = [(b"other".as_slice(), ino), (b"again", scene.ino)];
         for (name, ino) in names {
-            let dentry = harptimber_tests::cards::directory::Dentry::new(name, ino);
-            scene.card.link(0, 0, &dentry);
+            scene.card.link(0, 0, &Dentry::new(name, ino));
         }
         let image = &scene.card.image;
         let inline = &image.block(scene.file_block())[364..4052];
