@@ -93,25 +93,11 @@ fn sizes() {
 #[test]
 fn depths_and_levels() {
     let mut pulls = Pulls::new("pull by depth and level of an inline directory");
-    let depths = [
-        0,
-        1,
-        2,
-        28,
-        29,
-        31,
-        62,
-        63,
-        64,
-        65,
-        255,
-        256,
-        1 << 31,
-        0xFFFF_FFFF,
-    ];
+    let near = [0, 1, 2, 28, 29, 31, 62, 63, 64, 65, 255, 256];
+    let depths = near.into_iter().chain([1 << 31, 0xFFFF_FFFF]);
     let levels = [0, 1, 2, 29, 30, 31, 32, 63, 0x80, 0xFF];
     let mut directory = Inline::new(&mut pulls, INLINE_DENTRY);
-    for (depth, level) in depths.iter().flat_map(|&d| levels.map(|l| (d, l))) {
+    for (depth, level) in depths.flat_map(|depth| levels.map(|level| (depth, level))) {
         for size in [0, 1, 3488, 3489] {
             let fields = [
                 (I_CURRENT_DEPTH, depth),
