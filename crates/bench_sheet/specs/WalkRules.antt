@@ -21,7 +21,8 @@ use Rattle.nat.specs.Entry.{inJournal}
 use Rattle.nat.specs.Table.{inRange, tableAddress, entryIn, inTable, tableAnswer}
 use Rattle.walk.specs.Walk.{Walk, done, Outcome, ok, stop, Ran, empty, run, bind, onward, andThen}
 use Rattle.inode.specs.declared.Inode.{Inode}
-use Rattle.inode.specs.Inode.{inodeOf, hasInlineData, hasInlineDentry, hasExtraAttr, dataRoom, isDirectory, isRegular, levelsIn, dirLevelIn, addressesIn, isPast, countIn}
+use Rattle.inode.specs.Inode.{inodeOf, hasInlineData, hasInlineDentry, hasExtraAttr, dataRoom, isDirectory, isRegular}
+use Rattle.inode.specs.Inode.{addressesIn, isPast, countIn}
 use Rattle.node.specs.Node.{Bounds, inMain, belongs, atBlock, atEntry, nodeWalk}
 use Rattle.node.specs.Block.{isHole, dataWalk, followWalk, wayWalk, blockWalk}
 use Rattle.dentry.specs.declared.Layout.{Layout}
@@ -399,5 +400,6 @@ scan-rules = refl
 pub pull-rules : Holds pullRules
 unfolding le16 le32 le64 bytesOf placeOf insert run bind onward andThen inMain belongs atBlock atEntry nodeWalk isHole dataWalk followWalk
     wayWalk blockWalk inodeOf hasInlineData hasInlineDentry hasExtraAttr dataRoom isDirectory isRegular addressesIn isPast countIn
-    levelsIn dirLevelIn contentWalk atFile fileWalk fetchFrom levelsWalk findWalk atRoot rootWalk lentInShape firstOf bucketOf bucketWalk afterBlock lowBit slotAt slotsFrom hashOf sameAt
+    contentWalk atFile fileWalk fetchFrom levelsWalk findWalk atRoot rootWalk lentInShape firstOf bucketOf bucketWalk afterBlock lowBit slotAt
+    slotsFrom hashOf sameAt
 pull-rules = refl

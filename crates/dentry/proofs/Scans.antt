@@ -18,7 +18,8 @@ use Rattle.dentry.proofs.Slots.{bitOf, slot-bit, other-bounds}
 use Rattle.dentry.proofs.Runs.{tally-over, run-free, slots-run, turns-run, step-used, turns-most, entries-most}
 
 -- what a turn came to, by the variant that was told
-pub took-told : (l : Layout) (part : List ℕ) (w : Wanted) (scan next : Scan) {turn told : Turn} → Took l part w scan turn next → turn ≡ told → Took l part w scan told next
+pub took-told : (l : Layout) (part : List ℕ) (w : Wanted) (scan next : Scan) {turn told : Turn}
+    → Took l part w scan turn next → turn ≡ told → Took l part w scan told next
 took-told l part w scan next took e = subst (λ (turn : Turn). Took l part w scan turn next) e took
 
 -- what the slots of a block come to, by the layout and the part of it that were given

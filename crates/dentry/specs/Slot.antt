@@ -23,8 +23,6 @@ wanted hash name = record { hash = hash; name = name }
 
 -- ---- where slots are
 
--- A layout has the byte of the block that it starts at, its number of slots, and where behind that byte their names begin.
-
 -- "A block has 214 slots: map 27 bytes, 3 reserved, entries of 11 (hash, inode, 16-bit length, type) from 30, names of 8 bytes a slot
 -- from 2,384."
 abbrev pub blockLayout : Layout
@@ -100,10 +98,6 @@ inPart l part w = slotsFrom l part w (l .slots) 0
 -- of a block, by a layout
 abbrev pub inSlots : Layout → List ℕ → Wanted → Sought
 inSlots l block w = inPart l (drop (l .start) block) w
-
--- of a directory block
-abbrev pub inBlock : List ℕ → Wanted → Sought
-inBlock block w = inSlots blockLayout block w
 
 -- of an inline directory, by the bytes of its inode
 abbrev pub inInode : List ℕ → Wanted → Sought

@@ -16,7 +16,7 @@ use Rattle.node.proofs.Sizes.{Small, block-within, block-past}
 use Rattle.hash_level.specs.Level.{blocksOf, bucketOf}
 use Rattle.hash_level.specs.Reach.{upTo, inReach}
 use Rattle.hash_level.proofs.Reach.{at-most-58}
-use Rattle.dentry.specs.Slot.{layoutOf, Wanted, Sought, absent, found, malformed, inSlots}
+use Rattle.dentry.specs.Slot.{layoutOf, Wanted, Sought, absent, found, malformed, inSlots, inInode}
 use Rattle.directory.specs.Find.{Directory, fetchFrom, fetchWalk, afterSlots, afterBlock, bucketWalk, levelsWalk, findWalk}
 
 module _ (d : Directory) where
@@ -74,4 +74,5 @@ module _ (d : Directory) where
     unfolding findWalk
     find-within few depth =
         let most = at-most-58 (d .dirLevel) (w .hash) depth few in
-        within-le _ _ (omega arith) (omega arith) (levels-within depth 0)
+        within-choose (d .inline) (slots-within (ends refl) (inInode (d .inode) w))
+        (within-le _ _ (omega arith) (omega arith) (levels-within depth 0))

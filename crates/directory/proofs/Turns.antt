@@ -12,7 +12,7 @@ use Rattle.walk.proofs.Fits.{fits-at, fits-first}
 use Rattle.node.specs.Block.{Fetched, hole, held}
 use Rattle.hash_level.specs.Level.{blocksOf, bucketOf}
 use Rattle.dentry.specs.Slot.{layoutOf, Wanted, Sought, absent, found, malformed, inSlots}
-use Rattle.directory.specs.Find.{Directory, fetchWalk, afterSlots, afterBlock, bucketWalk, levelsWalk, findWalk}
+use Rattle.directory.specs.Find.{Directory, fetchWalk, afterSlots, afterBlock, bucketWalk, levelsWalk}
 
 -- the search from a level on, and from a block of a level's bucket on
 abbrev pub levelsLeft : Directory → Wanted → ℕ → ℕ → Walk (Outcome ℕ)
@@ -22,7 +22,7 @@ abbrev pub bucketLeft : Directory → Wanted → ℕ → ℕ → ℕ → Walk (O
 bucketLeft d w depth level k = bucketWalk d w level (levelsLeft d w depth (level + 1)) (blocksOf level - k) k
 
 pub record Levels (v : View) (d : Directory) (w : Wanted) (depth : ℕ) (s : Lists) (level : ℕ) (t : Lists) : Type 0 where
-  pub at : Reached v (findWalk d w depth) s (levelsLeft d w depth level) t
+  pub at : Reached v (levelsWalk d w depth 0) s (levelsLeft d w depth level) t
 
 pub record Bucket (v : View) (d : Directory) (w : Wanted) (depth level : ℕ) (s : Lists) (k : ℕ) (t : Lists) : Type 0 where
   pub at : Reached v (bucketLeft d w depth level 0) s (bucketLeft d w depth level k) t
@@ -43,7 +43,8 @@ module _ (d : Directory) (w : Wanted) (depth level : ℕ) where
       rw p
 
   bucket-step : (k : ℕ) → k < blocksOf level
-      → bucketLeft d w depth level k ≡ andThen (fetchWalk d (bucketOf (d .dirLevel) level (w .hash) + k)) (afterBlock (d .inline) w (bucketLeft d w depth level (k + 1)))
+      → bucketLeft d w depth level k
+      ≡ andThen (fetchWalk d (bucketOf (d .dirLevel) level (w .hash) + k)) (afterBlock (d .inline) w (bucketLeft d w depth level (k + 1)))
   unfolding bucketWalk
   bucket-step k h =
       let p : blocksOf level - k ≡ suc (blocksOf level - (k + 1)) = omega arith in
@@ -66,7 +67,6 @@ module _ (inline : Bool) (w : Wanted) (rest : Walk (Outcome ℕ)) where
 
 -- ---- the loop over levels
 pub levels-start : {v : View} {s : Lists} (d : Directory) (w : Wanted) (depth : ℕ) → Levels v d w depth s 0 s
-unfolding findWalk
 levels-start {v = v} {s = s} d w depth =
     let p : depth - 0 ≡ depth = omega arith in
     record { at = rw p (reached-start v _ s) }
@@ -75,20 +75,21 @@ pub bucket-start : {v : View} (d : Directory) (w : Wanted) (depth level : ℕ) {
 bucket-start d w depth level = record { at = reached-start _ _ _ }
 
 module _ {v : View} {d : Directory} {w : Wanted} {depth level : ℕ} {s t : Lists} (go : Levels v d w depth s level t) where
-  pub levels-end : depth ≤ level → Walked v (findWalk d w depth) s (stop 2) t
+  pub levels-end : depth ≤ level → Walked v (levelsWalk d w depth 0) s (stop 2) t
   levels-end h = reached-done (reached-to (go .at) (levels-over d w depth level h))
 
   module _ (h : level < depth) where
-    at-bucket : Reached v (findWalk d w depth) s (bucketLeft d w depth level 0) t
+    at-bucket : Reached v (levelsWalk d w depth 0) s (bucketLeft d w depth level 0) t
     at-bucket = reached-to (go .at) (levels-step d w depth level h)
 
     -- out of both loops
-    pub levels-out : {x : Outcome ℕ} {u : Lists} → Walked v (bucketLeft d w depth level 0) t x u → Walked v (findWalk d w depth) s x u
+    pub levels-out : {x : Outcome ℕ} {u : Lists} → Walked v (bucketLeft d w depth level 0) t x u → Walked v (levelsWalk d w depth 0) s x u
     levels-out out = reached-all at-bucket out
 
     module _ {k : ℕ} {u : Lists} (turn : Bucket v d w depth level t k u) where
       -- the bucket's next block fits, as the search does
-      pub block-fits : k < blocksOf level → {i : ℕ} → i ≡ bucketOf (d .dirLevel) level (w .hash) + k → Fits v (findWalk d w depth) s → Fits v (fetchWalk d i) u
+      pub block-fits : k < blocksOf level → {i : ℕ} → i ≡ bucketOf (d .dirLevel) level (w .hash) + k → Fits v (levelsWalk d w depth 0) s
+          → Fits v (fetchWalk d i) u
       block-fits more e fits =
           let here = reached-to (reached-on at-bucket (turn .at)) (bucket-step d w depth level k more) in
           subst (λ (j : ℕ). Fits v (fetchWalk d j) u) (sym e) (fits-first _ (fits-at fits here))

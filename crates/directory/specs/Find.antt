@@ -13,7 +13,7 @@ use Rattle.node.specs.Block.{Fetched, hole, held, blockWalk}
 use Rattle.hash_level.specs.Level.{blocksOf, bucketOf}
 use Rattle.directory.specs.declared.Entry.{Entry}
 use Rattle.directory.specs.declared.Entry.the-variants.{Found, Stop}
-use Rattle.dentry.specs.Slot.{layoutOf, Wanted, Sought, absent, found, malformed, inSlots}
+use Rattle.dentry.specs.Slot.{layoutOf, Wanted, Sought, absent, found, malformed, inSlots, inInode}
 
 -- a directory: the main area bounds, its inode's number and bytes, how many addresses the inode holds, whether it is inline, and its
 -- directory level
@@ -34,7 +34,7 @@ abbrev pub directoryOf : Card → Volume → File → Bool → ℕ → Directory
 directoryOf card v file inline dir =
     directory (boundsOf v) (file .ino) (card .block (file .inode)) (file .addresses) inline dir
 
--- its block of an index. K4: of an inline directory the inode's own is the first, and there is "no data block of its own"
+-- its block of an index. K4: of an inline directory the inode's own is the first, and there is no other
 unfoldable pub fetchFrom : Bool → Bounds → ℕ → List ℕ → ℕ → ℕ → Walk (Outcome Fetched)
 fetchFrom inline m ino inode A index =
     choose inline (done (ok (choose (eqb index 0) (held inode) hole))) (blockWalk m ino inode A index)
@@ -64,9 +64,11 @@ unfoldable pub levelsWalk : Directory → Wanted → ℕ → ℕ → Walk (Outco
 levelsWalk d w zero level = done (stop 2)
 levelsWalk d w (suc n) level = bucketWalk d w level (levelsWalk d w n (level + 1)) (blocksOf level) 0
 
--- "Search levels 0 to depth − 1": the inode number in the name's entry
+-- "Search levels 0 to depth − 1": the inode number in the name's entry. K4: an inline directory's slots are "scanned at any depth up to
+-- 63", and there is "no data block of its own" to read
 unfoldable pub findWalk : Directory → Wanted → ℕ → Walk (Outcome ℕ)
-findWalk d w depth = levelsWalk d w depth 0
+findWalk d w depth =
+    choose (d .inline) (afterSlots (done (stop 2)) (inInode (d .inode) w)) (levelsWalk d w depth 0)
 
 -- the code's answer as the walk's
 abbrev pub entryOf : Entry → Outcome ℕ

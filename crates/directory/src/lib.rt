@@ -1,5 +1,7 @@
 // A name sought in a directory: the nested search over hash levels, blocks and slots.
 // What it means is in specs/: Find.
+ghost use mathlib.Core.Path.{_≡_};
+ghost use mathlib.Core.Bool.{true};
 ghost use Prim.Native.Nat.{_<_, _≤_};
 ghost use Rattle.field.specs.Card.{cardOf};
 ghost use Rattle.checkpoint.specs.Volume.{VolumeIn};
@@ -8,7 +10,7 @@ ghost use Rattle.node.specs.Node.{boundsOf};
 ghost use Rattle.node.specs.Found.{dataOf, DataIn, FileIn};
 ghost use Rattle.hash_level.specs.Table.{IsTable};
 ghost use Rattle.dentry.specs.Slot.{wanted};
-ghost use Rattle.directory.specs.Find.{fetchFrom, directoryOf, findWalk, entryOf};
+ghost use Rattle.directory.specs.Find.{fetchFrom, directoryOf, levelsWalk, findWalk, entryOf};
 
 // The inode number in the name's entry, or the answer that ends the walk.
 pub enum Entry {
@@ -22,7 +24,7 @@ pub struct EntryStep {
     pub counts: walk::Counts,
 }
 
-// The block of an index of a directory. Past the last index there is none; an inline directory has its inode's own.
+// The block of an index of a directory. Past the last index there is none; an inline directory has its inode's own at index 0, and no other.
 fn fetch(
     image: &[u8],
     v: checkpoint::Volume,
@@ -78,12 +80,12 @@ fn find_by(
     hash: u32,
     name: &[u8],
 ) -> EntryStep
-    requires { ⌜ Fits (imageView (now image) v) (findWalk (directoryOf (cardOf (now image)) v file inline «dir_level») (wanted hash (now name)) depth)
+    requires { ⌜ Fits (imageView (now image) v) (levelsWalk (directoryOf (cardOf (now image)) v file inline «dir_level») (wanted hash (now name)) depth 0)
         (lists (now nodes) (now blocks) counts) ⌝ }
     requires { ⌜ VolumeIn (cardOf (now image)) v ⌝ }
     requires { ⌜ FileIn (cardOf (now image)) file × (depth ≤ 63) × («dir_level» < 31) × IsTable «dir_level» (now firsts) ⌝ }
     ensures { λ r. ⌜ Walked (imageView (now (image .entry)) v)
-        (findWalk (directoryOf (cardOf (now (image .entry))) v file inline «dir_level») (wanted hash (now (name .entry))) depth)
+        (levelsWalk (directoryOf (cardOf (now (image .entry))) v file inline «dir_level») (wanted hash (now (name .entry))) depth 0)
         (lists (now (nodes .entry)) (now (blocks .entry)) counts) (entryOf (r .entry))
         (lists (now (nodes .exit)) (now (blocks .exit)) (r .counts)) ⌝ }
 {
@@ -129,7 +131,8 @@ fn find_by(
     }
 }
 
-// The same, by the directory's level. Its table is taken once, before the search, which stands once for whichever table it is.
+// The same, by the directory's level; an inline directory is one hash level of one block, without a directory level. The table is taken
+// once, before the search, which stands once for whichever table it is.
 pub fn find(
     image: &[u8],
     v: checkpoint::Volume,
@@ -148,6 +151,7 @@ pub fn find(
         (lists (now nodes) (now blocks) counts) ⌝ }
     requires { ⌜ VolumeIn (cardOf (now image)) v ⌝ }
     requires { ⌜ FileIn (cardOf (now image)) file × (depth ≤ 63) × («dir_level» < 31) ⌝ }
+    requires { ⌜ (inline ≡ true → («dir_level» ≡ 0) × (depth ≡ 1)) ⌝ }
     ensures { λ r. ⌜ Walked (imageView (now (image .entry)) v)
         (findWalk (directoryOf (cardOf (now (image .entry))) v file inline «dir_level») (wanted hash (now (name .entry))) depth)
         (lists (now (nodes .entry)) (now (blocks .entry)) counts) (entryOf (r .entry))

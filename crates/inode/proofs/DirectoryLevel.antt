@@ -1,13 +1,17 @@
 -- What the directory level decides: of a directory whether it is read, of a file nothing.
 use Prim.Native.Nat.{ℕ, _/_, _≤_, _<_}
+use native.Mathlib.Omega.{arith}
 use mathlib.Core.Path.{_≡_, refl, sym, ap, _∙_}
 use mathlib.Core.Bool.{Bool, true, false, not, _&&_, _||_, and-false}
 use mathlib.Core.Logic.{⊎-elim}
 use lib.Dec.{ltb, leb, eqb}
 use borrow.Author.Tests.{lt-ltb, le-ltb, ltb-true, ltb-false}
+use Rattle.field.specs.Choice.{choose}
 use Rattle.field.proofs.Choosing.{either, clash}
 use Rattle.inode.specs.declared.Inode.{Inode}
-use Rattle.inode.specs.Inode.{hasInlineData, hasInlineDentry, hasExtraAttr, dataRoom, dentryRoom, isDirectory, isRegular, addressesIn, isPast, countIn}
+use Rattle.inode.proofs.Counting.{shallow}
+use Rattle.inode.specs.Inode.{hasInlineData, hasInlineDentry, hasExtraAttr, dataRoom, dentryRoom, isDirectory, isRegular}
+use Rattle.inode.specs.Inode.{levelsIn, dirLevelIn, addressesIn, isPast, countIn}
 
 -- an inode with another level
 abbrev pub withLevel : Inode → ℕ → Inode
@@ -42,3 +46,33 @@ level-read i level h = by-level i level (lt-ltb level 31 h) ∙ sym (by-level i 
 pub low-level : (i : Inode) → isDirectory i ≡ true → i .level < 31
 low-level i h =
     ⊎-elim (λ e. ltb-true (i .level) 31 e) (λ e. absurd (clash h (level-refused i (i .level) (ltb-false (i .level) 31 e)))) (either (ltb (i .level) 31))
+
+-- ---- the numbers that the code goes by
+
+-- of a directory that is read
+module _ (i : Inode) (is : isDirectory i ≡ true) where
+  pub few-levels : levelsIn i ≤ 63
+  unfolding levelsIn
+  few-levels = go (hasInlineDentry i) (shallow i is)
+    where
+      go : (b : Bool) → i .depth ≤ 63 → choose b 1 (i .depth) ≤ 63
+      go true h = omega arith
+      go false h = h
+
+  pub has-table : dirLevelIn i < 31
+  unfolding dirLevelIn
+  has-table = go (hasInlineDentry i) (low-level i is)
+    where
+      go : (b : Bool) → i .level < 31 → choose b 0 (i .level) < 31
+      go true h = omega arith
+      go false h = h
+
+-- an inline directory is one level; another has its own numbers
+module _ (i : Inode) where
+  pub one-level : hasInlineDentry i ≡ true → (dirLevelIn i ≡ 0) × (levelsIn i ≡ 1)
+  unfolding levelsIn dirLevelIn
+  one-level own = (rw own, rw own)
+
+  pub own-levels : hasInlineDentry i ≡ false → (dirLevelIn i ≡ i .level) × (levelsIn i ≡ i .depth)
+  unfolding levelsIn dirLevelIn
+  own-levels apart = (rw apart, rw apart)

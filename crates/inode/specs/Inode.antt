@@ -24,7 +24,7 @@ hasInlineData i = eqb (i .inline / 2 % 2) 1
 unfoldable pub hasInlineDentry : Inode → Bool
 hasInlineDentry i = eqb (i .inline / 4 % 2) 1
 
--- bit 20 hex, extra attributes
+-- of "inline bits 2, 4 and 20 hex clear, else 12" K4 leaves 20 hex: extra attributes
 unfoldable pub hasExtraAttr : Inode → Bool
 hasExtraAttr i = eqb (i .inline / 32 % 2) 1
 
@@ -42,7 +42,7 @@ dentryRoom = 3488
 
 -- ---- which inodes are read
 
--- "The root must be a directory .., else 12"; "2 on a directory .. stay[s] 12"; bit 20 hex does; "A size above the room is 12."; "Depth over
+-- "The root must be a directory .., else 12"; "2 on a directory .. stay[s] 12", and bit 20 hex; "A size above the room is 12."; "Depth over
 -- 63 ..: 12"; "refusal 12 for a level now starts at 31"
 unfoldable pub isDirectory : Inode → Bool
 isDirectory i =
@@ -50,7 +50,7 @@ isDirectory i =
     && (not (hasInlineDentry i) || leb (i .size) dentryRoom)
     && leb (i .depth) 63 && ltb (i .level) 31
 
--- ".. and the file regular .., else 12"; "4 on a regular file stay[s] 12"; bit 20 hex does; "A size above the room is 12."
+-- ".. and the file regular .., else 12"; "4 on a regular file stay[s] 12", and bit 20 hex; "A size above the room is 12."
 unfoldable pub isRegular : Inode → Bool
 isRegular i =
     eqb (i .mode / 4096) 8 && not (hasInlineDentry i) && not (hasExtraAttr i)
@@ -58,11 +58,11 @@ isRegular i =
 
 -- ---- how much of it there is
 
--- "Search levels 0 to depth − 1"; K4: an inline directory's slots are "scanned at any depth up to 63", as one level's
+-- how many hash levels the code searches, and by which directory level: an inline directory as one level of level 0, whatever its own
+-- numbers are
 unfoldable pub levelsIn : Inode → ℕ
 levelsIn i = choose (hasInlineDentry i) 1 (i .depth)
 
--- which has no buckets, whatever the directory level is
 unfoldable pub dirLevelIn : Inode → ℕ
 dirLevelIn i = choose (hasInlineDentry i) 0 (i .level)
 

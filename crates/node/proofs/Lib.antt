@@ -1,3 +1,4 @@
 pub mod Cases
 pub mod Sizes
 pub mod Following
+pub mod Listed

@@ -1,6 +1,6 @@
 -- The trees of a file and of the root by cases: no run and no list is named. Then what the code found as what the walk comes to.
 use Prim.Native.Nat.{ℕ, _≤_}
-use mathlib.Core.Path.{_≡_, refl}
+use mathlib.Core.Path.{_≡_, refl, sym, _∙_}
 use mathlib.Core.Bool.{Bool, true, false}
 use mathlib.Core.List.{List}
 use lib.ListN.{drop}
@@ -12,7 +12,7 @@ use Rattle.walk.proofs.Fits.{fits-at}
 use Rattle.inode.specs.declared.Inode.{Inode}
 use Rattle.inode.specs.Inode.{inodeOf, hasInlineData, hasInlineDentry, inlineStart, isDirectory, isRegular}
 use Rattle.inode.specs.Inode.{levelsIn, dirLevelIn, addressesIn, isPast, countIn}
-use Rattle.inode.proofs.DirectoryLevel.{level-refused}
+use Rattle.inode.proofs.DirectoryLevel.{level-refused, own-levels}
 use Rattle.node.specs.Node.{Bounds}
 use Rattle.node.specs.Block.{Fetched, held, blockWalk}
 use Rattle.node.specs.Found.{dataOf}
@@ -21,6 +21,7 @@ use Rattle.node.specs.declared.Data.the-variants as d
 use Rattle.name_hash.specs.Hash.{hashOf}
 use Rattle.dentry.specs.Slot.{wanted}
 use Rattle.directory.specs.Find.{directory, findWalk}
+use Rattle.directory.proofs.Inline.{any-levels}
 use Rattle.pull.specs.Walk.{rootIno, counted, contentWalk, atFile, atRoot, blockFound}
 
 -- ---- a file, once its inode is read
@@ -68,11 +69,20 @@ module _ (m : Bounds) (name inode : List ℕ) {i : Inode} (read : i ≡ inodeOf 
   unfolding atRoot
   root-empty r z = rw (← read, r, eq-eqb _ _ z)
 
-  pub root-search : (A hash level depth : ℕ) (inline : Bool) → isDirectory i ≡ true → (i .size ≡ 0 → ⊥) → A ≡ addressesIn i → hash ≡ hashOf name
-      → inline ≡ hasInlineDentry i → level ≡ dirLevelIn i → depth ≡ levelsIn i
-      → atRoot m name inode ≡ findWalk (directory m rootIno inode A inline level) (wanted hash name) depth
-  unfolding atRoot
-  root-search A hash level depth inline r z a h l p q = rw (← read, r, ne-eqb _ _ z, a, h, l, p, q)
+  module _ (A hash : ℕ) (inline : Bool) (r : isDirectory i ≡ true) (z : i .size ≡ 0 → ⊥) (a : A ≡ addressesIn i) (h : hash ≡ hashOf name)
+      (l : inline ≡ hasInlineDentry i) where
+    pub root-find : atRoot m name inode ≡ findWalk (directory m rootIno inode A inline (i .level)) (wanted hash name) (i .depth)
+    unfolding atRoot
+    root-find = rw (← read, r, ne-eqb _ _ z, a, h, l)
+
+    -- the same by the numbers that the code goes by
+    pub root-search : (level depth : ℕ) → level ≡ dirLevelIn i → depth ≡ levelsIn i
+        → atRoot m name inode ≡ findWalk (directory m rootIno inode A inline level) (wanted hash name) depth
+    root-search level depth p q =
+        root-find ∙ any-levels m rootIno inode A inline (wanted hash name)
+        (λ e.
+        let own = own-levels i (sym l ∙ e) in
+        (p ∙ own .0, q ∙ own .1))
 
 -- ---- a data block with its count
 pub counted-walked : (card : Card) (found : Data) (count : ℕ) {v : View} {p : Walk (Outcome Fetched)} {s t : Lists}

@@ -3,32 +3,31 @@
 use Prim.Native.Nat.{ℕ, _-_, _*_, _<_, _≤_}
 use native.Mathlib.Omega.{arith}
 use mathlib.Core.Path.{_≡_, refl, sym, ap, _∙_}
-use mathlib.Core.Bool.{Bool, true, false, _&&_, and-false}
+use mathlib.Core.Bool.{Bool, true, false, _&&_}
 use mathlib.Core.Logic.{_⊎_, inl, inr}
 use mathlib.Core.List.{List, _++_}
 use lib.ListN.{take, drop, replicate}
-use lib.Dec.{eqb, leb, ltb}
-use borrow.Author.Tests.{eq-eqb, ne-eqb, eqb-true, eqb-false, lt-ltb, le-ltb, ltb-true, ltb-false, le-leb, lt-leb}
-use Rattle.field.specs.Card.{Card, cardOf}
+use lib.Dec.{eqb, ltb}
+use borrow.Author.Tests.{eq-eqb, eqb-true, eqb-false, lt-ltb, le-ltb, ltb-true, ltb-false, le-leb, lt-leb}
 use Rattle.field.specs.Choice.{choose}
-use Rattle.field.proofs.Choosing.{clash}
 use Rattle.checkpoint.specs.declared.Volume.{Volume}
 use Rattle.checkpoint.specs.declared.Opening.the-variants.{Opened}
 use Rattle.checkpoint.specs.Volume.{openedImage}
 use Rattle.place.specs.Place.{lastIndex}
-use Rattle.walk.specs.Walk.{View, imageView, Seen, empty, Walk, done, Ran, ran, run, Outcome, ok, stop}
+use Rattle.walk.specs.Walk.{View, imageView, Seen, empty, done, Ran, ran, run, Outcome, ok, stop}
 use Rattle.walk.proofs.Runs.{run-then}
 use Rattle.inode.specs.Inode.{inodeOf, hasInlineData, hasInlineDentry, inlineStart, isDirectory, isRegular, addressesIn, isPast}
-use Rattle.inode.proofs.Inline.{room-most, inline-fits, inline-first, one-level, no-level}
+use Rattle.inode.proofs.Inline.{inline-small, inline-first}
 use Rattle.node.specs.Node.{Bounds, boundsOf, inodeWalk}
 use Rattle.node.specs.Block.{held}
+use Rattle.node.proofs.Listed.{Listed, node-listed}
 use Rattle.name_hash.specs.Hash.{hashOf}
 use Rattle.dentry.specs.Slot.{wanted, Sought, absent, found, malformed, inInode}
 use Rattle.directory.specs.Find.{afterSlots}
 use Rattle.directory.proofs.Inline.{inline-search}
 use Rattle.pull.specs.Walk.{Block, atFile, fileWalk, atRoot, rootWalk, pullWalk}
 use Rattle.pull.specs.Pull.{Lent, callInShape, written, pullRun, pulled}
-use Rattle.pull.proofs.Cases.{file-past, file-inline, root-empty, root-search}
+use Rattle.pull.proofs.Cases.{file-past, file-inline, root-empty, root-find}
 use Rattle.pull.proofs.Results.{call-opens}
 
 -- all of an inline file
@@ -55,9 +54,6 @@ module _ (m : Bounds) (index ino : ℕ) (inode : List ℕ) (regular : isRegular 
   pub inline-file : atFile m index ino inode ≡ done (inlineFound inode index)
   inline-file = go (eqb index 0) refl (ltb 0 size) refl
     where
-      few : size ≤ 3688
-      few = let most = room-most (inodeOf inode) in let fits = inline-fits (inodeOf inode) regular own in omega arith
-
       go : (a : Bool) → eqb index 0 ≡ a → (b : Bool) → ltb 0 size ≡ b → atFile m index ino inode ≡ done (choose (a && b) (inlineAll inode) (stop 3))
       go true e true f =
           let begins = inside (eqb-true index 0 e) (ltb-true 0 size f) in
@@ -66,35 +62,38 @@ module _ (m : Bounds) (index ino : ℕ) (inode : List ℕ) (regular : isRegular 
       go true e false f = let none = ltb-false 0 size f in file-past m index ino inode refl regular (past (omega arith))
       go false e b f =
           let later : index ≡ 0 → ⊥ = eqb-false index 0 e in
-          let most = few in
+          let most = inline-small (inodeOf inode) regular own in
           file-past m index ino inode refl regular (past (omega arith))
 
--- an inline root neither: what was seen when its inode is read is what the search leaves
-pub inline-root : (v : View) (m : Bounds) (name inode : List ℕ) (s : Seen) → isDirectory (inodeOf inode) ≡ true → hasInlineDentry (inodeOf inode) ≡ true
-    → run v s (atRoot m name inode) .seen ≡ s
-unfolding run
-inline-root v m name inode s is own = go (eqb (inodeOf inode .size) 0) refl
-  where
-    asks-nothing : (o : Sought) → run v s (afterSlots (done (stop 2)) o) .seen ≡ s
-    asks-nothing absent = refl
-    asks-nothing (found ino) = refl
-    asks-nothing malformed = refl
+-- an inline root neither: its slots are scanned, whatever its depth and its directory level are
+module _ (m : Bounds) (name inode : List ℕ) (is : isDirectory (inodeOf inode) ≡ true) (own : hasInlineDentry (inodeOf inode) ≡ true) where
+  pub inline-root : (inodeOf inode .size ≡ 0 → ⊥) → atRoot m name inode ≡ afterSlots (done (stop 2)) (inInode inode (wanted (hashOf name) name))
+  inline-root some = root-find m name inode refl _ _ true is some refl refl (sym own) ∙ inline-search _ _ _ refl
 
-    search : (inodeOf inode .size ≡ 0 → ⊥) → atRoot m name inode ≡ afterSlots (done (stop 2)) (inInode inode (wanted (hashOf name) name))
-    search some =
-        let i = inodeOf inode in
-        root-search m name inode refl _ _ 0 1 true is some refl refl (sym own) (sym (no-level i own)) (sym (one-level i own)) ∙ inline-search _ _ refl refl
+  -- so what was seen when its inode was read is what the search leaves
+  pub inline-root-seen : (v : View) (s : Seen) → run v s (atRoot m name inode) .seen ≡ s
+  unfolding run
+  inline-root-seen v s = go (eqb (inodeOf inode .size) 0) refl
+    where
+      asks-nothing : (o : Sought) → run v s (afterSlots (done (stop 2)) o) .seen ≡ s
+      asks-nothing absent = refl
+      asks-nothing (found ino) = refl
+      asks-nothing malformed = refl
 
-    go : (b : Bool) → eqb (inodeOf inode .size) 0 ≡ b → run v s (atRoot m name inode) .seen ≡ s
-    go true e = rw (root-empty m name inode refl is (eqb-true _ _ e))
-    go false e = rw (search (eqb-false _ _ e)) (asks-nothing (inInode inode (wanted (hashOf name) name)))
+      go : (b : Bool) → eqb (inodeOf inode .size) 0 ≡ b → run v s (atRoot m name inode) .seen ≡ s
+      go true e = rw (root-empty m name inode refl is (eqb-true _ _ e))
+      go false e = rw (inline-root (eqb-false _ _ e)) (asks-nothing (inInode inode (wanted (hashOf name) name)))
 
 -- ---- every pull of an inline file: the root's walk came to its inode number, and its inode's to the inode
 module _ (image name : List ℕ) (index : ℕ) (lent : Lent) (shape : callInShape image name lent ≡ true) (v : Volume) (opens : openedImage image ≡ Opened v)
     {ino : ℕ} {inode : List ℕ} {s t : Seen} (root : run (imageView image v) empty (rootWalk (boundsOf v) name) ≡ ran (ok ino) s)
     (node : run (imageView image v) s (inodeWalk (boundsOf v) ino) ≡ ran (ok inode) t)
     (regular : isRegular (inodeOf inode) ≡ true) (own : hasInlineData (inodeOf inode) ≡ true) where
-  -- "An inline inode is listed with its block and no data block of its own": the lists are as they were when it was read
+  -- "An inline inode is listed with its block ..": its number, and the block that the table has for it
+  pub inline-listed : Listed (imageView image v) s ino ino inode t
+  inline-listed = node-listed (imageView image v) s (boundsOf v) ino ino 0 node
+
+  -- ".. and no data block of its own": the lists are as they were when it was read
   pub inline-pulled : pulled image name index lent ≡ written (ran (inlineFound inode index) t) lent
   unfolding pullRun pullWalk fileWalk run
   inline-pulled =
@@ -119,3 +118,18 @@ module _ (image name : List ℕ) (index : ℕ) (lent : Lent) (shape : callInShap
           (r .numbers .answer ≡ 3) × (r .numbers .«byte_count» ≡ 0) × (r .memory .block ≡ lent .block)
       go true e = rw (le-ltb 0 (inodeOf inode .size) (let z = h (eqb-true index 0 e) in omega arith)) (refl, refl, refl)
       go false e = (refl, refl, refl)
+
+  -- "0 with its size as count, or 3"
+  pub inline-answers : let r = pulled image name index lent .numbers in
+      ((r .answer ≡ 0) × (r .«byte_count» ≡ inodeOf inode .size)) ⊎ ((r .answer ≡ 3) × (r .«byte_count» ≡ 0))
+  inline-answers = go (eqb index 0) refl (ltb 0 (inodeOf inode .size)) refl
+    where
+      Answers : Type 0
+      Answers =
+          let r = pulled image name index lent .numbers in
+          ((r .answer ≡ 0) × (r .«byte_count» ≡ inodeOf inode .size)) ⊎ ((r .answer ≡ 3) × (r .«byte_count» ≡ 0))
+
+      go : (a : Bool) → eqb index 0 ≡ a → (b : Bool) → ltb 0 (inodeOf inode .size) ≡ b → Answers
+      go true e true f = let all = inline-data (eqb-true index 0 e) (ltb-true 0 _ f) in inl (all .0, all .1)
+      go true e false f = let none = ltb-false 0 (inodeOf inode .size) f in let past = inline-past (λ _. omega arith) in inr (past .0, past .1)
+      go false e b f = let past = inline-past (λ z. absurd (eqb-false index 0 e z)) in inr (past .0, past .1)

@@ -7,7 +7,7 @@ use mathlib.Core.List.{List}
 use lib.Dec.{eqb}
 use Rattle.walk.specs.Walk.{Walk, Outcome, Ended, Within, ends}
 use Rattle.walk.proofs.Sizes.{within-if, within-choose, within-then}
-use Rattle.inode.specs.Inode.{inodeOf, hasInlineData, isDirectory, isRegular, levelsIn, addressesIn, isPast}
+use Rattle.inode.specs.Inode.{inodeOf, hasInlineData, isDirectory, isRegular, addressesIn, isPast}
 use Rattle.inode.proofs.Counting.{count-in-block, few-addresses}
 use Rattle.node.specs.Node.{Bounds, inMain}
 use Rattle.node.proofs.Sizes.{Small, node-within, block-within}
@@ -48,7 +48,7 @@ module _ (m : Bounds) where
   unfolding atRoot
   at-root-within name inode =
       within-choose (isDirectory (inodeOf inode))
-      (within-choose (eqb (inodeOf inode .size) 0) (ends refl) (find-within _ _ (few-addresses (inodeOf inode)) (levelsIn (inodeOf inode))))
+      (within-choose (eqb (inodeOf inode .size) 0) (ends refl) (find-within _ _ (few-addresses (inodeOf inode)) (inodeOf inode .depth)))
       (ends refl)
 
   pub root-within : (name : List ℕ) → Small m 175 233 (rootWalk m name)

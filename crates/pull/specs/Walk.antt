@@ -15,7 +15,7 @@ use Rattle.name_hash.specs.Hash.{hashOf}
 use Rattle.dentry.specs.Slot.{wanted}
 use Rattle.directory.specs.Find.{directory, findWalk}
 use Rattle.inode.specs.Inode.{inodeOf, hasInlineData, hasInlineDentry, inlineStart, isDirectory, isRegular}
-use Rattle.inode.specs.Inode.{levelsIn, dirLevelIn, addressesIn, isPast, countIn}
+use Rattle.inode.specs.Inode.{addressesIn, isPast, countIn}
 
 -- the inode number of the root directory
 abbrev pub rootIno : ℕ
@@ -51,8 +51,8 @@ unfoldable pub atRoot : Bounds → List ℕ → List ℕ → Walk (Outcome ℕ)
 atRoot m name inode =
     choose (isDirectory (inodeOf inode))
     (choose (eqb (inodeOf inode .size) 0) (done (stop 2))
-    (findWalk (directory m rootIno inode (addressesIn (inodeOf inode)) (hasInlineDentry (inodeOf inode)) (dirLevelIn (inodeOf inode)))
-    (wanted (hashOf name) name) (levelsIn (inodeOf inode))))
+    (findWalk (directory m rootIno inode (addressesIn (inodeOf inode)) (hasInlineDentry (inodeOf inode)) (inodeOf inode .level))
+    (wanted (hashOf name) name) (inodeOf inode .depth)))
     (done (stop 12))
 
 -- the inode number of a name in the root directory

@@ -169,7 +169,7 @@ fn find_from_inode(
     };
     let inline = inode::has_inline_dentry(i);
     let dir_level = inode::dir_level_in(i);
-    let depth = inode::levels_in(i);
+    let levels = inode::levels_in(i);
     let hash = name_hash::hash(name);
     directory::find(
         image,
@@ -180,7 +180,7 @@ fn find_from_inode(
         file,
         inline,
         dir_level,
-        depth,
+        levels,
         hash,
         name,
     )

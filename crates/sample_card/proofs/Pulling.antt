@@ -12,7 +12,7 @@ use Rattle.journal.specs.Journal.{searchFrom, journalFind}
 use Rattle.nat.specs.Entry.{inJournal}
 use Rattle.nat.specs.Table.{inRange, tableAddress, entryIn, inTable, tableAnswer}
 use Rattle.inode.specs.Inode.{inodeOf, hasInlineData, hasInlineDentry, hasExtraAttr, inlineStart, dataRoom, isDirectory, isRegular}
-use Rattle.inode.specs.Inode.{levelsIn, dirLevelIn, addressesIn, isPast, countIn}
+use Rattle.inode.specs.Inode.{addressesIn, isPast, countIn}
 use Rattle.list.specs.Lists.{bytesOf, insert}
 use Rattle.walk.specs.Walk.{ran, run, bind, ok, stop, onward, andThen}
 use Rattle.node.specs.Node.{inMain, belongs, atBlock, atEntry, nodeWalk}
@@ -46,7 +46,7 @@ unfolding
     le16 le32 le64 topBit lowBit sameAt
     halfRound round rounds tea pushAll keyOf absorb hashOf
     placeOf searchFrom journalFind inJournal inRange tableAddress entryIn inTable tableAnswer
-    inodeOf hasInlineData hasInlineDentry hasExtraAttr dataRoom isDirectory isRegular levelsIn dirLevelIn addressesIn isPast countIn
+    inodeOf hasInlineData hasInlineDentry hasExtraAttr dataRoom isDirectory isRegular addressesIn isPast countIn
     insert run bind onward andThen
     inMain belongs atBlock atEntry nodeWalk isHole dataWalk wayWalk blockWalk
     firstOf bucketOf wellFormed matches slotAt slotsFrom

@@ -63,7 +63,8 @@ returns c =
     let cleared = c .before .before in
     let copied = cleared .before .before .before .before in
     let s = start-of copied in
-    filled (cut s) (s .args .buffer .now) (s .args .count) (ap length (cut-lent s) ∙ lent-length s) (omega arith) (copied .copy .ensures .1) (cleared .clear .ensures)
+    let size = ap length (cut-lent s) ∙ lent-length s in
+    filled (cut s) (s .args .buffer .now) (s .args .count) size (omega arith) (copied .copy .ensures .1) (cleared .clear .ensures)
     ∙ rw (cut-lent s, s .pre .2)
 
 pub put-block-spec : {M : Type 1} → statement M

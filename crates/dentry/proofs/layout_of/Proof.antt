@@ -1,5 +1,4 @@
 use native.Mathlib.Omega.{arith}
-use mathlib.Core.Path.{refl}
 use Rattle.dentry.proofs.layout_of.Statement.{statement}
 use Rattle.dentry.proofs.layout_of.Tie as tie
 

@@ -1,5 +1,4 @@
 -- `fetch` meets its contract: an inline directory, and an index past the last, ask nothing.
-use mathlib.Core.Path.{subst, sym}
 use Rattle.walk.proofs.Reached.{reached-start, reached-to, reached-all, reached-done}
 use Rattle.walk.proofs.Fits.{fits-at}
 use Rattle.node.proofs.Sizes.{block-past}

@@ -6,7 +6,7 @@ use borrow.Author.Tests.{not-true, not-false}
 use Rattle.field.specs.Card.{cardOf}
 use Rattle.field.proofs.Blocks.{length-of-block}
 use Rattle.inode.specs.Inode.{inodeOf, isDirectory}
-use Rattle.inode.proofs.Inline.{few-levels, has-table}
+use Rattle.inode.proofs.DirectoryLevel.{few-levels, has-table, one-level}
 use Rattle.walk.specs.Walk.{imageView, lists}
 use Rattle.walk.proofs.Reached.{Reached, reached-start, reached-to, reached-all, reached-done}
 use Rattle.walk.proofs.Fits.{fits-at}
@@ -70,8 +70,15 @@ to-search k =
     let e = some-at k in
     let d = directory-at e in
     reached-to (reached-start _ _ _)
-    (root-search _ _ _ (read-of (inode-at d)) _ _ _ _ _ (is-directory d) (e .if2 .left) (held-at k .addresses-in .ensures .0) (k .hash .ensures)
-    (inline-at k .has-inline-dentry .ensures) (level-at k .dir-level-in .ensures) (levels-at k .levels-in .ensures))
+    (root-search _ _ _ (read-of (inode-at d)) _ _ _ (is-directory d) (e .if2 .left) (held-at k .addresses-in .ensures .0) (k .hash .ensures)
+    (inline-at k .has-inline-dentry .ensures) _ _ (level-at k .dir-level-in .ensures) (levels-at k .levels-in .ensures))
+
+-- an inline directory is one level
+inline-one : (k : tie.After-hash) → inline-at k .has-inline-dentry .result ≡ true
+    → (level-at k .dir-level-in .result ≡ 0) × (levels-at k .levels-in .result ≡ 1)
+inline-one k e =
+    let own = one-level _ (sym (inline-at k .has-inline-dentry .ensures) ∙ e) in
+    (level-at k .dir-level-in .ensures ∙ own .0, levels-at k .levels-in .ensures ∙ own .1)
 
 -- ---- the needs
 
@@ -120,7 +127,7 @@ find-requires c κs =
     let table = has-table _ is in
     let told = levels-at k .levels-in .ensures in
     let level = level-at k .dir-level-in .ensures in
-    (fits-at (known .0) (to-search k), (known .1 .0, ((known .1 .1, few), omega arith, omega arith)))
+    (fits-at (known .0) (to-search k), (known .1 .0, (((known .1 .1, few), omega arith, omega arith), inline-one k)))
 
 same-length : tie.Need-same-length
 same-length c = search needs
