@@ -105,7 +105,7 @@ enum harptimber_answer {
      *   - the root directory's depth is over 63;
      *   - its directory level (i_dir_level) is over 30. Up to 30, names are sought where that level puts them. A file's
      *     own level isn't asked for.
-     * Otherwise a file with inline data is read, and a root with inline dentries is searched, slot by slot: within these bounds
+     * Otherwise a file with inline data is read, and a root with inline dentries is searched: within these bounds
      * its depth and level decide nothing. No other inline flag is asked for.
      */
     HARPTIMBER_KIND_NOT_READ = 12,
@@ -219,7 +219,7 @@ struct harptimber_pulled {
  * blocks that were read, each once, rising, and entries behind the counts are untouched.
  *
  * An inline file has its bytes in its inode: they are block 0, which is data and never a hole, and of the
- * file only the inode is listed, its number and its block. So is an inline root directory.
+ * file only the inode is listed, its number and its block. Of an inline root directory, too, only the inode is listed.
  */
 struct harptimber_pulled harptimber_pull(const uint8_t *image, size_t image_len, const uint8_t *name,
                                          size_t name_len, uint32_t index, uint8_t *block,

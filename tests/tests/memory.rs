@@ -538,18 +538,12 @@ fn valgrind_on_program() {
     expect_status(0, &[word("segments"), kept]);
     expect_status(0, &[word("segments"), word("--json"), fresh]);
     for (status, image) in [(0, kept), (2, fresh)] {
-        let options = [word("pull"), word("--lists")];
-        expect_status(
-            status,
-            &[&options[..], &[image, word("long"), word("873")]].concat(),
-        );
+        let [option, name, index] = ["--lists", "long", "873"].map(word);
+        expect_status(status, &[word("pull"), option, image, name, index]);
     }
     for (status, new) in [(0, copy), (1, fresh)] {
-        let names = [word("short"), word("long"), word("inline")];
-        expect_status(
-            status,
-            &[&[word("compare"), kept, new], &names[..]].concat(),
-        );
+        let [short, long, inline] = ["short", "long", "inline"].map(word);
+        expect_status(status, &[word("compare"), kept, new, short, long, inline]);
         for (name, _) in files {
             expect_status(status, &[word("compare"), kept, new, word(name)]);
         }
