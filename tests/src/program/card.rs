@@ -299,17 +299,7 @@ fn unreadable(card: &mut Card) -> (Put, Vec<Refused>) {
     let outside = put(card, OUTSIDE, 5 * BLOCK_SIZE as u64, &[0, 1, 3, 4]);
     let behind_main = card.image.areas.main_end;
     card.set_address(outside.ino, 2, behind_main);
-    let of_a_node = |card: &mut Card, name: &str| {
-        let size = u64::from(ADDRESSES + 2) * BLOCK_SIZE as u64;
-        let ino = put(card, name.as_bytes(), size, &[0, ADDRESSES]).ino;
-        card.node(ino, 1)
-    };
-    let unused = of_a_node(card, "unused node");
-    card.set_entry(unused.nid, 0, 0);
-    let far = of_a_node(card, "far node");
-    card.set_entry(far.nid, 0, behind_main);
-    let foreign = of_a_node(card, "foreign node");
-    card.image.set(foreign.block, footer::NID, 77);
+    put_refused_nodes(card);
     put_inline(card, TOO_LONG, 0, INLINE_ROOM as u64 + 1);
     let size = INLINE_ROOM_WITH_XATTR as u64 + 1;
     put_inline(card, TOO_LONG_BESIDE_XATTR, INLINE_XATTR, size);
@@ -337,6 +327,21 @@ fn unreadable(card: &mut Card) -> (Put, Vec<Refused>) {
     let is_inline = card.inline_slots().is_some();
     let there = refused.len() - usize::from(is_inline);
     (outside, refused[..there].to_vec())
+}
+
+/// Files with a node that isn't in use, one behind the main area, and one that is another's.
+fn put_refused_nodes(card: &mut Card) {
+    let of_a_node = |card: &mut Card, name: &str| {
+        let size = u64::from(ADDRESSES + 2) * BLOCK_SIZE as u64;
+        let ino = put(card, name.as_bytes(), size, &[0, ADDRESSES]).ino;
+        card.node(ino, 1)
+    };
+    let unused = of_a_node(card, "unused node");
+    card.set_entry(unused.nid, 0, 0);
+    let far = of_a_node(card, "far node");
+    card.set_entry(far.nid, 0, card.image.areas.main_end);
+    let foreign = of_a_node(card, "foreign node");
+    card.image.set(foreign.block, footer::NID, 77);
 }
 
 /// Puts a malformed slot into a bucket of the second hash level, the second one if there is no directory level. Returns a

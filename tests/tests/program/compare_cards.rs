@@ -198,6 +198,17 @@ fn friction_table() {
     );
 }
 
+/// A card with this table, this other one and an empty file.
+fn with_tables(table: &[u8], other: &[u8]) -> OnDisk {
+    let files = [
+        ("friction.tbl", table),
+        ("other.tbl", other),
+        ("empty", &[]),
+    ];
+    let files = files.map(|(name, bytes)| (name.as_bytes().to_vec(), bytes.to_vec()));
+    OnDisk::new(filled_on(64, DATE, &files))
+}
+
 /// The same with a table so small that it is in its inode, and with others that are not changed.
 #[test]
 fn small_friction_table() {
@@ -207,16 +218,7 @@ fn small_friction_table() {
     let at = 1291;
     ice[at] = !table[at];
     let other = contents(&mut random, 2000);
-    let card = |table: &[u8]| {
-        let files = [
-            ("friction.tbl", table),
-            ("other.tbl", &other),
-            ("empty", &[]),
-        ];
-        let files = files.map(|(name, bytes)| (name.as_bytes().to_vec(), bytes.to_vec()));
-        OnDisk::new(filled_on(64, DATE, &files))
-    };
-    let [kept, new] = [&table, &ice].map(|table| card(table));
+    let [kept, new] = [&table, &ice].map(|table| with_tables(table, &other));
     let paths = [kept.path(), new.path()];
     let of = |name: &'static str, status: i32| {
         let words: Words = &[&"compare", &paths[0], &paths[1], &name];
@@ -275,44 +277,31 @@ fn each_alone() {
     }
 }
 
+/// Of each name: the verdict, how many blocks differ, and the size on the new card if it is another.
+const VERDICTS: [(&str, u64, Option<usize>); 8] = [
+    ("same bytes", 0, None),
+    ("differs", 1, None),
+    ("differs", 0, Some(SIZE + 5000)),
+    ("differs", 2, Some(SHRUNK_SIZE)),
+    ("gone", 6, None),
+    ("differs", 6, Some(INLINE_SIZE)),
+    // The directory's size.
+    ("no longer readable", 6, Some(BLOCK_SIZE)),
+    ("new", 0, Some(9000)),
+];
+
 #[test]
 fn verdicts() {
     let cards = Cards::shared();
-    let verdicts = [
-        "same bytes",
-        "differs",
-        "differs",
-        "differs",
-        "gone",
-        "differs",
-        "no longer readable",
-        "new",
-    ];
-    let differ = [0, 1, 0, 2, 6, 6, 6, 0];
-    let sizes = [
-        None,
-        None,
-        Some(SIZE + 5000),
-        Some(SHRUNK_SIZE),
-        None,
-        Some(INLINE_SIZE),
-        // The directory's.
-        Some(BLOCK_SIZE),
-        Some(9000),
-    ];
-    for (i, name) in NAMES.iter().enumerate() {
+    for (name, (verdict, differ, new_size)) in NAMES.iter().zip(VERDICTS) {
         let json = cards.run(&[name, &"--json"], 1).json();
         expect_head(&json, "compare", 16);
-        assert_eq!(json["verdict"].text(), verdicts[i], "of {name}");
+        assert_eq!(json["verdict"].text(), verdict, "of {name}");
         let on_kept = if *name == "new" { 0 } else { 6 };
-        assert_eq!(
-            counts(&json),
-            [0, on_kept - differ[i], differ[i]],
-            "of {name}"
-        );
+        assert_eq!(counts(&json), [0, on_kept - differ, differ], "of {name}");
         let sizes = [
             (*name != "new").then_some(SIZE),
-            sizes[i].or((*name != "gone").then_some(SIZE)),
+            new_size.or((*name != "gone").then_some(SIZE)),
         ];
         let told =
             ["kept_size", "new_size"].map(|key| json.get(key).map(|size| size.number() as usize));

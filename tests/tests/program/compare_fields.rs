@@ -237,25 +237,15 @@ fn entries() {
     let told = cards.told(b"4096", directory, |image| {
         image.set(directory, in_slot(dentry::INO, slot), u64::from(ino + 1));
     });
-    assert_eq!(
-        told,
-        format!(
-            "an entry changed (road.bin: inode {ino} before, {} now) {place}",
-            ino + 1
-        )
-    );
+    let inodes = format!("inode {ino} before, {} now", ino + 1);
+    let changed = format!("an entry changed (road.bin: {inodes}) {place}");
+    assert_eq!(told, changed);
+    let at = dentry::FILENAMES + dentry::SLOT_LEN * slot;
     let told = cards.told(b"4096", directory, |image| {
-        image.put(
-            "name",
-            directory,
-            dentry::FILENAMES + dentry::SLOT_LEN * slot,
-            b"rail",
-        );
+        image.put("name", directory, at, b"rail");
     });
-    assert_eq!(
-        told,
-        format!("an entry changed (road.bin before, rail.bin now) {place}")
-    );
+    let names = "road.bin before, rail.bin now";
+    assert_eq!(told, format!("an entry changed ({names}) {place}"));
     // The three bytes between the map and the entries.
     let told = cards.told_of_byte(ROAD, directory, 28);
     assert_eq!(told, format!("bytes of no entry changed {place}"));

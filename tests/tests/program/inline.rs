@@ -225,10 +225,37 @@ fn empty_files() {
     }
 }
 
+fn root_not_read(why: &str) -> String {
+    format!("the root directory isn't read: {why}")
+}
+
+/// An inline root's depth or level, up to its bound and over it.
+fn expect_bound(stage: &mut Stage, field: Field, what: &str, read: [u64; 4], over: [u64; 2]) {
+    let root = stage.root();
+    for value in read {
+        let fields = [(field, value)];
+        stage.with_fields(root, &fields, |stage| stage.expect_read(100));
+        let empty = [(field, value), (I_SIZE, 0)];
+        stage.with_fields(root, &empty, |stage| {
+            assert_eq!(expect_json(&stage.disk, &stage.card.image, NAME, 0), 2);
+            let listed = vec![Expected::new(NAME, 100, 2, "")];
+            expect_listing(&stage.path(), listed, &[]);
+        });
+    }
+    // A size of 0 comes behind them.
+    for (value, size) in over
+        .iter()
+        .flat_map(|&value| [0, 1].map(|size| (value, size)))
+    {
+        let reason = root_not_read(&format!("its {what} is {value}, over {}", read[3]));
+        let fields = [(field, value), (I_SIZE, size)];
+        stage.with_fields(root, &fields, |stage| stage.expect_unread(100, &reason));
+    }
+}
+
 /// An inline root's size, depth and level, on both sides of each bound. It can be listed all the same, whatever they are.
 #[test]
 fn rooms_of_roots() {
-    let not_read = |why: &str| format!("the root directory isn't read: {why}");
     for flags in [0, INLINE_XATTR] {
         let mut stage = Stage::new(114, Some(flags), 0);
         let root = stage.root();
@@ -237,36 +264,18 @@ fn rooms_of_roots() {
             stage.with_fields(root, &fields, |stage| stage.expect_read(100));
         }
         for size in [3489, 3688, 4096, (1 << 32) + 1, u64::MAX] {
-            let reason = not_read(&too_long(size, INLINE_ROOM_WITH_XATTR));
+            let reason = root_not_read(&too_long(size, INLINE_ROOM_WITH_XATTR));
             for (depth, level) in [(1, 0), (64, 0), (1, 31)] {
                 let others = [(I_CURRENT_DEPTH, depth), (I_DIR_LEVEL, level)];
                 let fields = [&others[..], &[(I_SIZE, size)]].concat();
                 stage.with_fields(root, &fields, |stage| stage.expect_unread(100, &reason));
             }
         }
-        for (field, read, over, what) in [
-            (I_CURRENT_DEPTH, [0, 1, 2, 63], [64, 255], "depth"),
-            (I_DIR_LEVEL, [0, 1, 29, 30], [31, 255], "directory level"),
+        for (field, what, read, over) in [
+            (I_CURRENT_DEPTH, "depth", [0, 1, 2, 63], [64, 255]),
+            (I_DIR_LEVEL, "directory level", [0, 1, 29, 30], [31, 255]),
         ] {
-            for value in read {
-                let fields = [(field, value)];
-                stage.with_fields(root, &fields, |stage| stage.expect_read(100));
-                let empty = [(field, value), (I_SIZE, 0)];
-                stage.with_fields(root, &empty, |stage| {
-                    assert_eq!(expect_json(&stage.disk, &stage.card.image, NAME, 0), 2);
-                    let listed = vec![Expected::new(NAME, 100, 2, "")];
-                    expect_listing(&stage.path(), listed, &[]);
-                });
-            }
-            // A size of 0 comes behind them.
-            for (value, size) in over
-                .iter()
-                .flat_map(|&value| [0, 1].map(|size| (value, size)))
-            {
-                let reason = not_read(&format!("its {what} is {value}, over {}", read[3]));
-                let fields = [(field, value), (I_SIZE, size)];
-                stage.with_fields(root, &fields, |stage| stage.expect_unread(100, &reason));
-            }
+            expect_bound(&mut stage, field, what, read, over);
         }
     }
 }
@@ -288,7 +297,7 @@ fn marks() {
         (EXTRA_ATTR | INLINE_DENTRY, extra.to_string()),
         (EXTRA_ATTR | INLINE_DATA, format!("{file}; {extra}")),
     ] {
-        let reason = format!("the root directory isn't read: {why}");
+        let reason = root_not_read(&why);
         stage.with_fields(root, &[(I_INLINE, flags)], |stage| {
             stage.expect_refused(0, 12, &reason);
             expect_listing(&stage.path(), vec![], &[reason.clone()]);

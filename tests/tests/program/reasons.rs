@@ -240,110 +240,114 @@ fn foreign_inode() {
     stage.expect_fields(block, 11, &why, &[at_place(1)]);
 }
 
+const MARKED_FILE: &str = "it is marked as an inline file (inline data)";
+const MARKED_DIRECTORY: &str = "it is marked as an inline directory (inline dentry)";
+const MARKED_BOTH: &str =
+    "it is marked as an inline file (inline data) and as an inline directory (inline dentry)";
+const EXTRA: &str = "its inode has extra attributes";
+
+/// What a file can be else, by its mode.
+const KINDS: [(u64, &str); 7] = [
+    (0x1000, "a FIFO"),
+    (0x2000, "a character device"),
+    (S_IFDIR, "a directory"),
+    (0x6000, "a block device"),
+    (0xA000, "a symbolic link"),
+    (0xC000, "a socket"),
+    (0x9000, "a file of no known kind"),
+];
+
+/// Fields of a file's inode, and each part of the reason.
+const MARKED_FILES: [(&[(Field, u64)], &[&str]); 10] = [
+    (&[(I_INLINE, INLINE_DENTRY)], &[MARKED_DIRECTORY]),
+    (
+        &[(I_INLINE, INLINE_DENTRY | INLINE_XATTR), (I_SIZE, 0)],
+        &[MARKED_DIRECTORY],
+    ),
+    (
+        &[(I_INLINE, INLINE_DENTRY | EXTRA_ATTR)],
+        &[MARKED_DIRECTORY, EXTRA],
+    ),
+    (&[(I_INLINE, INLINE_DATA | INLINE_DENTRY)], &[MARKED_BOTH]),
+    (
+        &[(I_INLINE, INLINE_DATA | INLINE_DENTRY), (I_SIZE, 100)],
+        &[MARKED_BOTH],
+    ),
+    (
+        &[(I_INLINE, INLINE_DATA | INLINE_DENTRY | EXTRA_ATTR)],
+        &[MARKED_BOTH, EXTRA],
+    ),
+    (
+        &[(I_INLINE, INLINE_DATA | EXTRA_ATTR), (I_SIZE, 100)],
+        &[EXTRA],
+    ),
+    (&[(I_INLINE, EXTRA_ATTR)], &[EXTRA]),
+    (
+        &[(I_INLINE, EXTRA_ATTR), (I_ADVISE, ADVISE_ENCRYPT)],
+        &[EXTRA, "it is encrypted"],
+    ),
+    (
+        &[(I_INLINE, EXTRA_ATTR), (I_FLAGS, FLAG_COMPRESSED)],
+        &[EXTRA, "it is compressed"],
+    ),
+];
+
 /// 12 of a file.
 #[test]
 fn kinds_of_files() {
     let mut stage = Stage::new();
     let inode = stage.scene.file_block();
-    let kinds = [
-        (0x1000, "a FIFO"),
-        (0x2000, "a character device"),
-        (S_IFDIR, "a directory"),
-        (0x6000, "a block device"),
-        (0xA000, "a symbolic link"),
-        (0xC000, "a socket"),
-        (0x9000, "a file of no known kind"),
-    ];
-    for (mode, kind) in kinds {
+    for (mode, kind) in KINDS {
         let fields = [(I_MODE, mode | 0o644), (I_INLINE, INLINE_DATA)];
         stage.expect_fields(inode, 12, &format!("it is {kind}"), &fields);
     }
-    let extra = "its inode has extra attributes";
-    let directory = "it is marked as an inline directory (inline dentry)";
-    let both =
-        "it is marked as an inline file (inline data) and as an inline directory (inline dentry)";
-    let cases: [(&[(Field, u64)], String); 10] = [
-        (&[(I_INLINE, INLINE_DENTRY)], directory.to_string()),
-        (
-            &[(I_INLINE, INLINE_DENTRY | INLINE_XATTR), (I_SIZE, 0)],
-            directory.to_string(),
-        ),
-        (
-            &[(I_INLINE, INLINE_DENTRY | EXTRA_ATTR)],
-            format!("{directory}; {extra}"),
-        ),
-        (&[(I_INLINE, INLINE_DATA | INLINE_DENTRY)], both.to_string()),
-        (
-            &[(I_INLINE, INLINE_DATA | INLINE_DENTRY), (I_SIZE, 100)],
-            both.to_string(),
-        ),
-        (
-            &[(I_INLINE, INLINE_DATA | INLINE_DENTRY | EXTRA_ATTR)],
-            format!("{both}; {extra}"),
-        ),
-        (
-            &[(I_INLINE, INLINE_DATA | EXTRA_ATTR), (I_SIZE, 100)],
-            extra.to_string(),
-        ),
-        (&[(I_INLINE, EXTRA_ATTR)], extra.to_string()),
-        (
-            &[(I_INLINE, EXTRA_ATTR), (I_ADVISE, ADVISE_ENCRYPT)],
-            format!("{extra}; it is encrypted"),
-        ),
-        (
-            &[(I_INLINE, EXTRA_ATTR), (I_FLAGS, FLAG_COMPRESSED)],
-            format!("{extra}; it is compressed"),
-        ),
-    ];
-    for (fields, why) in cases {
-        stage.expect_fields(inode, 12, &why, fields);
+    for (fields, why) in MARKED_FILES {
+        stage.expect_fields(inode, 12, &why.join("; "), fields);
     }
 }
+
+/// Fields of the root directory's inode, and why it isn't read.
+const UNREAD_ROOTS: [(&[(Field, u64)], &str); 13] = [
+    (&[(I_MODE, S_IFREG | 0o644)], "it is a regular file"),
+    (
+        &[(I_MODE, S_IFREG | 0o644), (I_INLINE, INLINE_DENTRY)],
+        "it is a regular file",
+    ),
+    (&[(I_INLINE, INLINE_DATA)], MARKED_FILE),
+    (&[(I_INLINE, INLINE_DATA), (I_SIZE, 0)], MARKED_FILE),
+    (
+        &[(I_INLINE, INLINE_DATA | INLINE_DENTRY), (I_SIZE, 100)],
+        MARKED_BOTH,
+    ),
+    (&[(I_INLINE, EXTRA_ATTR)], EXTRA),
+    (
+        &[(I_INLINE, EXTRA_ATTR | INLINE_DENTRY), (I_SIZE, 100)],
+        EXTRA,
+    ),
+    (&[(I_CURRENT_DEPTH, 64)], "its depth is 64, over 63"),
+    (
+        &[(I_CURRENT_DEPTH, u32::MAX as u64)],
+        "its depth is 4294967295, over 63",
+    ),
+    (&[(I_DIR_LEVEL, 31)], "its directory level is 31, over 30"),
+    (&[(I_DIR_LEVEL, 255)], "its directory level is 255, over 30"),
+    // Without it, a size or a depth of 0 is answered with 2.
+    (
+        &[(I_DIR_LEVEL, 32), (I_SIZE, 0)],
+        "its directory level is 32, over 30",
+    ),
+    (
+        &[(I_DIR_LEVEL, 64), (I_CURRENT_DEPTH, 0)],
+        "its directory level is 64, over 30",
+    ),
+];
 
 /// 12 of the root directory, whatever name is sought.
 #[test]
 fn kinds_of_roots() {
     let mut stage = Stage::new();
     let root = stage.scene.root_block();
-    let extra = "its inode has extra attributes";
-    let file = "it is marked as an inline file (inline data)";
-    let both =
-        "it is marked as an inline file (inline data) and as an inline directory (inline dentry)";
-    let cases: [(&[(Field, u64)], &str); 13] = [
-        (&[(I_MODE, S_IFREG | 0o644)], "it is a regular file"),
-        (
-            &[(I_MODE, S_IFREG | 0o644), (I_INLINE, INLINE_DENTRY)],
-            "it is a regular file",
-        ),
-        (&[(I_INLINE, INLINE_DATA)], file),
-        (&[(I_INLINE, INLINE_DATA), (I_SIZE, 0)], file),
-        (
-            &[(I_INLINE, INLINE_DATA | INLINE_DENTRY), (I_SIZE, 100)],
-            both,
-        ),
-        (&[(I_INLINE, EXTRA_ATTR)], extra),
-        (
-            &[(I_INLINE, EXTRA_ATTR | INLINE_DENTRY), (I_SIZE, 100)],
-            extra,
-        ),
-        (&[(I_CURRENT_DEPTH, 64)], "its depth is 64, over 63"),
-        (
-            &[(I_CURRENT_DEPTH, u32::MAX as u64)],
-            "its depth is 4294967295, over 63",
-        ),
-        (&[(I_DIR_LEVEL, 31)], "its directory level is 31, over 30"),
-        (&[(I_DIR_LEVEL, 255)], "its directory level is 255, over 30"),
-        // Without it, a size or a depth of 0 is answered with 2.
-        (
-            &[(I_DIR_LEVEL, 32), (I_SIZE, 0)],
-            "its directory level is 32, over 30",
-        ),
-        (
-            &[(I_DIR_LEVEL, 64), (I_CURRENT_DEPTH, 0)],
-            "its directory level is 64, over 30",
-        ),
-    ];
-    for (fields, why) in cases {
+    for (fields, why) in UNREAD_ROOTS {
         let reason = format!("the root directory isn't read: {why}");
         stage.expect_fields(root, 12, &reason, fields);
     }
