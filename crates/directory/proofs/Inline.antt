@@ -30,9 +30,10 @@ module _ {inline : Bool} (m : Bounds) (ino : ℕ) (inode : List ℕ) (A index : 
 -- ---- its search
 
 -- one level of it is the scan of its slots
-inline-level : (d : Directory) (w : Wanted) → d .inline ≡ true → d .dirLevel ≡ 0 → levelsWalk d w 1 0 ≡ afterSlots (done (stop 2)) (inInode (d .inode) w)
+inline-level : (m : Bounds) (ino : ℕ) (inode : List ℕ) (A : ℕ) (w : Wanted)
+    → levelsWalk (directory m ino inode A true 0) w 1 0 ≡ afterSlots (done (stop 2)) (inInode inode w)
 unfolding levelsWalk bucketWalk bucketOf firstOf fetchFrom andThen bind onward afterBlock
-inline-level d w e l = let z : w .hash % 1 ≡ 0 = omega arith in rw (e, l, z)
+inline-level m ino inode A w = let z : w .hash % 1 ≡ 0 = omega arith in rw z
 
 module _ (d : Directory) (w : Wanted) (depth : ℕ) where
   -- so the levels are what any directory's search goes over
@@ -43,7 +44,8 @@ module _ (d : Directory) (w : Wanted) (depth : ℕ) where
       go : (b : Bool) → d .inline ≡ b → choose b (afterSlots (done (stop 2)) (inInode (d .inode) w)) (levelsWalk d w depth 0) ≡ levelsWalk d w depth 0
       go true e =
           let h = one e in
-          sym (ap (λ (n : ℕ). levelsWalk d w n 0) (h .1) ∙ inline-level d w e (h .0))
+          let inline = ap₂ (λ (b : Bool) (l : ℕ). levelsWalk (directory (d .bounds) (d .ino) (d .inode) (d .addresses) b l) w 1 0) e (h .0) in
+          sym (ap (λ (n : ℕ). levelsWalk d w n 0) (h .1) ∙ inline ∙ inline-level (d .bounds) (d .ino) (d .inode) (d .addresses) w)
       go false e = refl
 
   -- and an inline directory's search is the scan of its slots, whatever its depth and its directory level are
