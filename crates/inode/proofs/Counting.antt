@@ -33,14 +33,15 @@ count-in-block i index h = go (leb 4096 (i .size - index * 4096)) refl
         let m = inside in
         (omega arith, omega arith)
 
+-- whichever of two numbers is chosen
+pub chosen-le : {x y most : ℕ} (b : Bool) → x ≤ most → y ≤ most → choose b x y ≤ most
+chosen-le true p q = p
+chosen-le false p q = q
+
 -- the inode holds at most 923 addresses
 pub few-addresses : (i : Inode) → addressesIn i ≤ 923
 unfolding addressesIn
-few-addresses i = go (eqb (i .inline % 2) 1)
-  where
-    go : (b : Bool) → choose b 873 923 ≤ 923
-    go true = omega arith
-    go false = omega arith
+few-addresses i = chosen-le (eqb (i .inline % 2) 1) (omega arith) (omega arith)
 
 -- a directory that is read has at most 63 levels
 pub shallow : (i : Inode) → isDirectory i ≡ true → i .depth ≤ 63

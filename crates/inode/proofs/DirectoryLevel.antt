@@ -6,10 +6,9 @@ use mathlib.Core.Bool.{Bool, true, false, not, _&&_, _||_, and-false}
 use mathlib.Core.Logic.{⊎-elim}
 use lib.Dec.{ltb, leb, eqb}
 use borrow.Author.Tests.{lt-ltb, le-ltb, ltb-true, ltb-false}
-use Rattle.field.specs.Choice.{choose}
 use Rattle.field.proofs.Choosing.{either, clash}
 use Rattle.inode.specs.declared.Inode.{Inode}
-use Rattle.inode.proofs.Counting.{shallow}
+use Rattle.inode.proofs.Counting.{shallow, chosen-le}
 use Rattle.inode.specs.Inode.{hasInlineData, hasInlineDentry, hasExtraAttr, dataRoom, dentryRoom, isDirectory, isRegular}
 use Rattle.inode.specs.Inode.{levelsIn, dirLevelIn, addressesIn, isPast, countIn}
 
@@ -53,19 +52,14 @@ low-level i h =
 module _ (i : Inode) (is : isDirectory i ≡ true) where
   pub few-levels : levelsIn i ≤ 63
   unfolding levelsIn
-  few-levels = go (hasInlineDentry i) (shallow i is)
-    where
-      go : (b : Bool) → i .depth ≤ 63 → choose b 1 (i .depth) ≤ 63
-      go true h = omega arith
-      go false h = h
+  few-levels = chosen-le (hasInlineDentry i) (omega arith) (shallow i is)
 
   pub has-table : dirLevelIn i < 31
   unfolding dirLevelIn
-  has-table = go (hasInlineDentry i) (low-level i is)
-    where
-      go : (b : Bool) → i .level < 31 → choose b 0 (i .level) < 31
-      go true h = omega arith
-      go false h = h
+  has-table =
+      let low = low-level i is in
+      let most = chosen-le {x = 0} {y = i .level} {most = 30} (hasInlineDentry i) (omega arith) (omega arith) in
+      omega arith
 
 -- an inline directory is one level; another has its own numbers
 module _ (i : Inode) where

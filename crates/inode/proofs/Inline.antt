@@ -2,23 +2,18 @@
 use Prim.Native.Nat.{ℕ, _+_, _-_, _*_, _%_, _≤_}
 use native.Mathlib.Omega.{arith}
 use mathlib.Core.Path.{_≡_}
-use mathlib.Core.Bool.{Bool, true, false, and-false}
+use mathlib.Core.Bool.{true, false, and-false}
 use lib.Dec.{eqb}
 use borrow.Author.Tests.{lt-leb}
-use Rattle.field.specs.Choice.{choose}
 use Rattle.field.proofs.Choosing.{needed-le}
 use Rattle.inode.specs.declared.Inode.{Inode}
 use Rattle.inode.specs.Inode.{hasInlineData, inlineStart, dataRoom, isRegular, isPast, countIn}
-use Rattle.inode.proofs.Counting.{begins-inside}
+use Rattle.inode.proofs.Counting.{begins-inside, chosen-le}
 
 -- "3,488 bytes, without them 3,688"
 pub room-most : (i : Inode) → dataRoom i ≤ 3688
 unfolding dataRoom
-room-most i = go (eqb (i .inline % 2) 1)
-  where
-    go : (b : Bool) → choose b 3488 3688 ≤ 3688
-    go true = omega arith
-    go false = omega arith
+room-most i = chosen-le (eqb (i .inline % 2) 1) (omega arith) (omega arith)
 
 module _ (i : Inode) (regular : isRegular i ≡ true) (own : hasInlineData i ≡ true) where
   -- "A size above the room is 12"

@@ -25,6 +25,7 @@ use Rattle.name_hash.specs.Hash.{hashOf}
 use Rattle.dentry.specs.Slot.{wanted, Sought, absent, found, malformed, inInode}
 use Rattle.directory.specs.Find.{afterSlots}
 use Rattle.directory.proofs.Inline.{inline-search}
+use Rattle.pull.specs.declared.Pulled.{Pulled}
 use Rattle.pull.specs.Walk.{Block, atFile, fileWalk, atRoot, rootWalk, pullWalk}
 use Rattle.pull.specs.Pull.{Lent, callInShape, written, pullRun, pulled}
 use Rattle.pull.proofs.Cases.{file-past, file-inline, root-empty, root-find}
@@ -37,6 +38,10 @@ inlineAll inode = ok (record { count = inodeOf inode .size; content = held (drop
 -- that is its block 0, unless it is empty; any other index is past its end
 abbrev pub inlineFound : List ℕ → ℕ → Outcome Block
 inlineFound inode index = choose (eqb index 0 && ltb 0 (inodeOf inode .size)) (inlineAll inode) (stop 3)
+
+-- its answer: "0 with its size as count, or 3"
+abbrev pub AllOrPast : Pulled → ℕ → Type 0
+AllOrPast r size = ((r .answer ≡ 0) × (r .«byte_count» ≡ size)) ⊎ ((r .answer ≡ 3) × (r .«byte_count» ≡ 0))
 
 module _ (m : Bounds) (index ino : ℕ) (inode : List ℕ) (regular : isRegular (inodeOf inode) ≡ true) (own : hasInlineData (inodeOf inode) ≡ true) where
   abbrev size : ℕ
@@ -119,17 +124,11 @@ module _ (image name : List ℕ) (index : ℕ) (lent : Lent) (shape : callInShap
       go true e = rw (le-ltb 0 (inodeOf inode .size) (let z = h (eqb-true index 0 e) in omega arith)) (refl, refl, refl)
       go false e = (refl, refl, refl)
 
-  -- "0 with its size as count, or 3"
-  pub inline-answers : let r = pulled image name index lent .numbers in
-      ((r .answer ≡ 0) × (r .«byte_count» ≡ inodeOf inode .size)) ⊎ ((r .answer ≡ 3) × (r .«byte_count» ≡ 0))
+  pub inline-answers : AllOrPast (pulled image name index lent .numbers) (inodeOf inode .size)
   inline-answers = go (eqb index 0) refl (ltb 0 (inodeOf inode .size)) refl
     where
-      Answers : Type 0
-      Answers =
-          let r = pulled image name index lent .numbers in
-          ((r .answer ≡ 0) × (r .«byte_count» ≡ inodeOf inode .size)) ⊎ ((r .answer ≡ 3) × (r .«byte_count» ≡ 0))
-
-      go : (a : Bool) → eqb index 0 ≡ a → (b : Bool) → ltb 0 (inodeOf inode .size) ≡ b → Answers
+      go : (a : Bool) → eqb index 0 ≡ a → (b : Bool) → ltb 0 (inodeOf inode .size) ≡ b
+          → AllOrPast (pulled image name index lent .numbers) (inodeOf inode .size)
       go true e true f = let all = inline-data (eqb-true index 0 e) (ltb-true 0 _ f) in inl (all .0, all .1)
       go true e false f = let none = ltb-false 0 (inodeOf inode .size) f in let past = inline-past (λ _. omega arith) in inr (past .0, past .1)
       go false e b f = let past = inline-past (λ z. absurd (eqb-false index 0 e z)) in inr (past .0, past .1)

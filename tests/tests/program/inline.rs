@@ -23,7 +23,7 @@ use harptimber_tests::trial::Random;
 use crate::compare::{self, Cards};
 use crate::ls::{expect_listing, Expected};
 use crate::pull::expect_json;
-use crate::reasons::{expect_reason, write_places};
+use crate::reasons::{expect_answers, expect_reason, expect_stops, write_places};
 use crate::{cat, ls, pull, words};
 
 /// All that the commands say of a card whose root directory is inline.
@@ -524,20 +524,14 @@ fn damage(seed: u64, cards: u64, damages: u32, run: impl Fn(Words) -> Ran) -> [u
 
 #[test]
 fn damaged() {
-    let answers = damage(122, 20, 40, run);
-    let missing = [0, 2, 3, 9, 11, 12, 13, 14]
-        .into_iter()
-        .find(|&answer| answers[answer] == 0);
-    assert_eq!(missing, None, "an answer that didn't come, in {answers:?}");
+    expect_answers(&damage(122, 20, 40, run), [0, 2, 3, 9, 11, 12, 13, 14]);
 }
 
 /// It keeps to the image's bytes.
 #[test]
 fn damaged_under_sanitizers() {
     let build = SpecialBuild::sanitized();
-    let answers = damage(123, 8, 12, |words| build.run(words));
-    let stopped: u32 = answers[9..].iter().sum();
-    assert!(stopped >= 20, "walks that stopped, in {answers:?}");
+    expect_stops(&damage(123, 8, 12, |words| build.run(words)));
 }
 
 /// An inode at the very end of an image, whose contents and slots reach as far as they can.

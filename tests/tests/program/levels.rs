@@ -26,7 +26,7 @@ use harptimber_tests::trial::Random;
 use crate::compare::{self, Cards};
 use crate::ls::{expect_listing, published_file, Expected};
 use crate::pull::expect_json;
-use crate::reasons::{expect_reason, write_places};
+use crate::reasons::{expect_answers, expect_reason, expect_stops, write_places};
 use crate::{cat, ls, pull, words};
 
 /// The last index cuts the last hash level in reach at each of them. At 29 and 30 that is the first one, and 23 has as many
@@ -400,20 +400,14 @@ fn damage(seed: u64, cards: u32, damages: u32, run: impl Fn(Words) -> Ran) -> [u
 
 #[test]
 fn damaged() {
-    let answers = damage(97, 40, 40, run);
-    let missing = [0, 2, 3, 9, 11, 12, 13, 14]
-        .into_iter()
-        .find(|&answer| answers[answer] == 0);
-    assert_eq!(missing, None, "an answer that didn't come, in {answers:?}");
+    expect_answers(&damage(97, 40, 40, run), [0, 2, 3, 9, 11, 12, 13, 14]);
 }
 
 /// No sum or shift leaves its type, and no byte outside the image is read.
 #[test]
 fn damaged_under_sanitizers() {
     let build = SpecialBuild::sanitized();
-    let answers = damage(98, 10, 12, |words| build.run(words));
-    let stopped: u32 = answers[9..].iter().sum();
-    assert!(stopped >= 20, "walks that stopped, in {answers:?}");
+    expect_stops(&damage(98, 10, 12, |words| build.run(words)));
 }
 
 /// At each level, a stop in the last hash level in reach.

@@ -520,18 +520,26 @@ fn damage_cards(seed: u64, cards: u32, damages: u32, run: impl Fn(Words) -> Ran)
     answers
 }
 
+/// Each of these answers came.
+pub(crate) fn expect_answers(answers: &[u32; 15], expected: impl IntoIterator<Item = usize>) {
+    let missing = expected.into_iter().find(|&answer| answers[answer] == 0);
+    assert_eq!(missing, None, "an answer that didn't come, in {answers:?}");
+}
+
+/// Walks were stopped often enough.
+pub(crate) fn expect_stops(answers: &[u32; 15]) {
+    let stopped: u32 = answers[9..].iter().sum();
+    assert!(stopped >= 20, "walks that stopped, in {answers:?}");
+}
+
 #[test]
 fn damaged() {
-    let answers = damage_cards(22, 10, 100, run);
-    let missing = (0..15).find(|&answer| answers[answer] == 0);
-    assert_eq!(missing, None, "an answer that didn't come, in {answers:?}");
+    expect_answers(&damage_cards(22, 10, 100, run), 0..15);
 }
 
 /// It keeps to the image's bytes.
 #[test]
 fn damaged_under_sanitizers() {
     let build = SpecialBuild::sanitized();
-    let answers = damage_cards(23, 3, 30, |words| build.run(words));
-    let stopped: u32 = answers[9..].iter().sum();
-    assert!(stopped >= 20, "walks that stopped, in {answers:?}");
+    expect_stops(&damage_cards(23, 3, 30, |words| build.run(words)));
 }

@@ -132,38 +132,43 @@ const MORE_SIZES: [u64; 10] = [
     u64::MAX,
 ];
 
-#[test]
-fn bytes_of_a_file() {
-    let mut pulls = Pulls::new("pull by the file's inline byte");
+/// Each inline byte with some sizes, and each mix of bits with more.
+fn by_bytes_and_sizes(
+    what: &'static str,
+    answers: &[u32],
+    expect: fn(&mut TwoWays, &mut Pulls, u64, u64),
+) {
+    let mut pulls = Pulls::new(what);
     let mut ways = TwoWays::new(&mut pulls);
     for inline in 0..=0xFF {
         for size in SIZES {
-            ways.expect_file(&mut pulls, inline, size);
+            expect(&mut ways, &mut pulls, inline, size);
         }
     }
     for inline in mixes() {
         for size in MORE_SIZES {
-            ways.expect_file(&mut pulls, inline, size);
+            expect(&mut ways, &mut pulls, inline, size);
         }
     }
-    pulls.finish(256 * 5 + 32 * 10, &[0, 3, 12]);
+    pulls.finish(256 * 5 + 32 * 10, answers);
+}
+
+#[test]
+fn bytes_of_a_file() {
+    by_bytes_and_sizes(
+        "pull by the file's inline byte",
+        &[0, 3, 12],
+        TwoWays::expect_file,
+    );
 }
 
 #[test]
 fn bytes_of_the_root() {
-    let mut pulls = Pulls::new("pull by the root's inline byte");
-    let mut ways = TwoWays::new(&mut pulls);
-    for inline in 0..=0xFF {
-        for size in SIZES {
-            ways.expect_root(&mut pulls, inline, size);
-        }
-    }
-    for inline in mixes() {
-        for size in MORE_SIZES {
-            ways.expect_root(&mut pulls, inline, size);
-        }
-    }
-    pulls.finish(256 * 5 + 32 * 10, &[0, 2, 12]);
+    by_bytes_and_sizes(
+        "pull by the root's inline byte",
+        &[0, 2, 12],
+        TwoWays::expect_root,
+    );
 }
 
 /// Each mix on both at once, and what isn't read of the root comes first.
