@@ -55,51 +55,9 @@ module _ (m : Bounds) (index ino : ℕ) (inode : List ℕ) {i : Inode} (read : i
         → atFile m index ino inode ≡ andThen (blockWalk m ino inode A index) (counted count)
     file-block A d a = by-content (content-block A d a)
 
--- ---- the root, once its inode is read
-module _ (m : Bounds) (name inode : List ℕ) {i : Inode} (read : i ≡ inodeOf inode) where
-  pub root-other : isDirectory i ≡ false → atRoot m name inode ≡ done (stop 12)
-  unfolding atRoot
-  root-other r = rw (← read, r)
-
-  -- whatever its size: 12 comes before 2
-  pub root-level : 31 ≤ i .level → atRoot m name inode ≡ done (stop 12)
-  root-level h = root-other (level-refused i (i .level) h)
-
-  pub root-empty : isDirectory i ≡ true → i .size ≡ 0 → atRoot m name inode ≡ done (stop 2)
-  unfolding atRoot
-  root-empty r z = rw (← read, r, eq-eqb _ _ z)
-
-  module _ (A hash : ℕ) (inline : Bool) (r : isDirectory i ≡ true) (z : i .size ≡ 0 → ⊥) (a : A ≡ addressesIn i) (h : hash ≡ hashOf name)
-      (l : inline ≡ hasInlineDentry i) where
-    pub root-find : atRoot m name inode ≡ findWalk (directory m rootIno inode A inline (i .level)) (wanted hash name) (i .depth)
-    unfolding atRoot
-    root-find = rw (← read, r, ne-eqb _ _ z, a, h, l)
-
-    -- the same by the numbers that the code goes by
-    pub root-search : (level depth : ℕ) → level ≡ dirLevelIn i → depth ≡ levelsIn i
-        → atRoot m name inode ≡ findWalk (directory m rootIno inode A inline level) (wanted hash name) depth
-    root-search level depth p q =
-        root-find ∙ any-levels m rootIno inode A inline (wanted hash name)
-        (λ e.
-        let own = own-levels i (sym l ∙ e) in
-        (p ∙ own .0, q ∙ own .1))
-
 -- ---- a data block with its count
 pub counted-walked : (card : Card) (found : Data) (count : ℕ) {v : View} {p : Walk (Outcome Fetched)} {s t : Lists}
     → Walked v p s (dataOf card found) t → Walked v (andThen p (counted count)) s (blockFound card found 0 count) t
 counted-walked card d.Hole count left = reached-done (reached-then (counted count) (reached-start _ _ _) left refl)
 counted-walked card (d.At address) count left = reached-done (reached-then (counted count) (reached-start _ _ _) left refl)
 counted-walked card (d.Stop answer) count left = reached-stop (counted count) (reached-start _ _ _) left refl
-
--- ---- one walk and then another, each done by a function
-module _ {A B : Type 0} {v : View} {p : Walk (Outcome A)} {s t : Lists} {x : Outcome A} (f : A → Walk (Outcome B)) (first : Walked v p s x t) where
-  -- the first stopped, and so do both
-  pub both-stop : {answer : ℕ} → x ≡ stop answer → Walked v (andThen p f) s (stop answer) t
-  both-stop e = reached-stop f (reached-start _ _ _) first e
-
-  -- the first came to a value, so the second goes on
-  pub second-fits : {a : A} → x ≡ ok a → Fits v (andThen p f) s → Fits v (f a) t
-  second-fits e fits = fits-at fits (reached-then f (reached-start _ _ _) first e)
-
-  pub both-walked : {a : A} {y : Outcome B} {u : Lists} → x ≡ ok a → Walked v (f a) t y u → Walked v (andThen p f) s y u
-  both-walked e second = reached-all (reached-then f (reached-start _ _ _) first e) second

@@ -1,4 +1,4 @@
--- `find_from_inode` meets its contract: each return is a case of `atRoot`.
+-- `find_from_inode` meets its contract: each return is a case of `atDirectory`.
 use native.Mathlib.Omega.{arith}
 use mathlib.Core.Path.{_≡_, sym, _∙_}
 use mathlib.Core.Bool.{true}
@@ -13,11 +13,11 @@ use Rattle.walk.proofs.Fits.{fits-at}
 use Rattle.node.specs.Node.{boundsOf}
 use Rattle.dentry.specs.Slot.{wanted}
 use Rattle.directory.specs.Find.{directory, findWalk}
-use Rattle.pull.specs.Walk.{rootIno, atRoot}
-use Rattle.pull.proofs.Cases.{root-other, root-empty, root-search}
+use Rattle.path_lookup.specs.Lookup.{atDirectory}
+use Rattle.path_lookup.proofs.Cases.{directory-other, directory-empty, directory-search}
 use borrow.Author.Needs.{needs}
-use Rattle.pull.proofs.find_from_inode.Statement.{statement}
-use Rattle.pull.proofs.find_from_inode.Tie as tie
+use Rattle.path_lookup.proofs.find_from_inode.Statement.{statement}
+use Rattle.path_lookup.proofs.find_from_inode.Tie as tie
 
 -- ---- the places on the way
 abbrev start-of : tie.After-inode-of → tie.Start
@@ -61,16 +61,16 @@ is-directory k = sym (k .before .is-directory .ensures) ∙ not-false _ (k .if1 
 to-search : (k : tie.After-hash) → let a = begun k .args in
     let t = lists (a .nodes .now) (a .blocks .now) (a .counts) in
     let inode = cardOf (a .image .now) .block (a .at) in
-    Reached (imageView (a .image .now) (a .v)) (atRoot (boundsOf (a .v)) (a .name .now) inode) t
+    Reached (imageView (a .image .now) (a .v)) (atDirectory (boundsOf (a .v)) (a .name .now) (a .ino) inode) t
     (let level = level-at k .dir-level-in .result in
     findWalk
-    (directory (boundsOf (a .v)) rootIno inode (held-at k .addresses-in .result) (inline-at k .has-inline-dentry .result) level)
+    (directory (boundsOf (a .v)) (a .ino) inode (held-at k .addresses-in .result) (inline-at k .has-inline-dentry .result) level)
     (wanted (k .hash .result) (a .name .now)) (levels-at k .levels-in .result)) t
 to-search k =
     let e = some-at k in
     let d = directory-at e in
     reached-to (reached-start _ _ _)
-    (root-search _ _ _ (read-of (inode-at d)) _ _ _ (is-directory d) (e .if2 .left) (held-at k .addresses-in .ensures .0) (k .hash .ensures)
+    (directory-search _ _ _ _ (read-of (inode-at d)) _ _ _ (is-directory d) (e .if2 .left) (held-at k .addresses-in .ensures .0) (k .hash .ensures)
     (inline-at k .has-inline-dentry .ensures) _ _ (level-at k .dir-level-in .ensures) (levels-at k .levels-in .ensures))
 
 -- an inline directory is one level
@@ -95,12 +95,12 @@ is-directory-requires c κs = search needs
 returns : tie.Need-returns
 returns c =
     let other = sym (c .before .is-directory .ensures) ∙ not-true _ (c .if1 .taken) in
-    reached-done (reached-to (reached-start _ _ _) (root-other _ _ _ (read-of (c .before .before)) other))
+    reached-done (reached-to (reached-start _ _ _) (directory-other _ _ _ _ (read-of (c .before .before)) other))
 
 returns-2 : tie.Need-returns-2
 returns-2 c =
     let d = c .before .before in
-    reached-done (reached-to (reached-start _ _ _) (root-empty _ _ _ (read-of (inode-at d)) (is-directory d) (c .if2 .taken)))
+    reached-done (reached-to (reached-start _ _ _) (directory-empty _ _ _ _ (read-of (inode-at d)) (is-directory d) (c .if2 .taken)))
 
 addresses-in-requires : tie.Need-addresses-in-requires
 addresses-in-requires c κs = search needs

@@ -1,15 +1,15 @@
--- `find_in_root` meets its contract: the root's node, then the name from its inode.
+-- `find_in` meets its contract: the directory's inode, then the name from its inode.
 use Prim.Native.Nat.{_<_}
 use mathlib.Core.Path.{_≡_, ap, subst}
 use Rattle.field.specs.Card.{Card, cardOf}
 use Rattle.walk.specs.Walk.{ok}
 use Rattle.walk.proofs.Fits.{fits-first}
 use Rattle.node.specs.Found.{foundOf, FoundIn}
-use Rattle.pull.specs.Walk.{atRoot, rootWalk}
-use Rattle.pull.proofs.Cases.{both-stop, second-fits, both-walked}
+use Rattle.path_lookup.specs.Lookup.{atDirectory, directoryWalk}
+use Rattle.walk.proofs.Both.{both-stop, second-fits, both-walked}
 use borrow.Author.Needs.{needs}
-use Rattle.pull.proofs.find_in_root.Statement.{statement}
-use Rattle.pull.proofs.find_in_root.Tie as tie
+use Rattle.path_lookup.proofs.find_in.Statement.{statement}
+use Rattle.path_lookup.proofs.find_in.Tie as tie
 
 -- ---- the places on the way
 abbrev step-of : tie.After-listed → tie.After-node-step
@@ -35,7 +35,7 @@ on-card k = let l = found-of k in subst (FoundIn (card-of l)) (k .found2 .given 
 -- ---- the needs
 
 node-step-requires : tie.Need-node-step-requires
-unfolding rootWalk
+unfolding directoryWalk
 node-step-requires c κs =
     let s = c .before .before .before .before .before .before in
     (fits-first _ (s .pre .0), s .pre .1)
@@ -47,12 +47,12 @@ enum-known-found-2 : tie.Need-enum-known-found-2
 enum-known-found-2 c = search needs
 
 find-from-inode-requires : tie.Need-find-from-inode-requires
-unfolding rootWalk
+unfolding directoryWalk
 find-from-inode-requires c κs =
     let k = c .before .before .before in
     let l = found-of k in
     let known = start-of l .pre in
-    (second-fits (atRoot _ _) (step-of l .node-step .ensures .0) (value k) (known .0), (known .1, on-card k))
+    (second-fits (atDirectory _ _ _) (step-of l .node-step .ensures .0) (value k) (known .0), (known .1, on-card k))
 
 same-length : tie.Need-same-length
 same-length c = search needs
@@ -61,12 +61,12 @@ same-length-2 : tie.Need-same-length-2
 same-length-2 c = search needs
 
 returns : tie.Need-returns
-unfolding rootWalk
+unfolding directoryWalk
 returns c =
     let k = c .before in
     let l = k .before .before in
     let stopped = ap (foundOf (card-of l)) (k .found .given .1) in
-    both-stop (atRoot _ _) (step-of l .node-step .ensures .0) stopped
+    both-stop (atDirectory _ _ _) (step-of l .node-step .ensures .0) stopped
 
 same-length-3 : tie.Need-same-length-3
 same-length-3 c = search needs
@@ -75,15 +75,15 @@ same-length-4 : tie.Need-same-length-4
 same-length-4 c = search needs
 
 returns-2 : tie.Need-returns-2
-unfolding rootWalk
+unfolding directoryWalk
 returns-2 c =
     let end = c .before .before .before .before in
     let k = end .before .before .before .before in
     let l = found-of k in
-    both-walked (atRoot _ _) (step-of l .node-step .ensures .0) (value k) (end .find-from-inode .ensures)
+    both-walked (atDirectory _ _ _) (step-of l .node-step .ensures .0) (value k) (end .find-from-inode .ensures)
 
-pub find-in-root-spec : {M : Type 1} → statement M
-find-in-root-spec =
+pub find-in-spec : {M : Type 1} → statement M
+find-in-spec =
     tie.close
     (tie.spec
     node-step-requires
