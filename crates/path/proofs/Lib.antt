@@ -1,2 +1,3 @@
 pub mod Parts
 pub mod Counting
+pub mod Laws

@@ -70,25 +70,6 @@ module _ (m : Bounds) (index ino : ℕ) (inode : List ℕ) (regular : isRegular 
           let most = inline-small (inodeOf inode) regular own in
           file-past m index ino inode refl regular (past (omega arith))
 
--- an inline root neither: its slots are scanned, whatever its depth and its directory level are
-module _ (m : Bounds) (name inode : List ℕ) (is : isDirectory (inodeOf inode) ≡ true) (own : hasInlineDentry (inodeOf inode) ≡ true) where
-  pub inline-root : (inodeOf inode .size ≡ 0 → ⊥) → atRoot m name inode ≡ afterSlots (done (stop 2)) (inInode inode (wanted (hashOf name) name))
-  inline-root some = root-find m name inode refl _ _ true is some refl refl (sym own) ∙ inline-search _ _ _ refl
-
-  -- so what was seen when its inode was read is what the search leaves
-  pub inline-root-seen : (v : View) (s : Seen) → run v s (atRoot m name inode) .seen ≡ s
-  unfolding run
-  inline-root-seen v s = go (eqb (inodeOf inode .size) 0) refl
-    where
-      asks-nothing : (o : Sought) → run v s (afterSlots (done (stop 2)) o) .seen ≡ s
-      asks-nothing absent = refl
-      asks-nothing (found ino) = refl
-      asks-nothing malformed = refl
-
-      go : (b : Bool) → eqb (inodeOf inode .size) 0 ≡ b → run v s (atRoot m name inode) .seen ≡ s
-      go true e = rw (root-empty m name inode refl is (eqb-true _ _ e))
-      go false e = rw (inline-root (eqb-false _ _ e)) (asks-nothing (inInode inode (wanted (hashOf name) name)))
-
 -- ---- every pull of an inline file: the root's walk came to its inode number, and its inode's to the inode
 module _ (image name : List ℕ) (index : ℕ) (lent : Lent) (shape : callInShape image name lent ≡ true) (v : Volume) (opens : openedImage image ≡ Opened v)
     {ino : ℕ} {inode : List ℕ} {s t : Seen} (root : run (imageView image v) empty (rootWalk (boundsOf v) name) ≡ ran (ok ino) s)
