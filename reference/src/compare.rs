@@ -100,7 +100,9 @@ fn first_difference(
 #[cfg(test)]
 mod tests {
     use super::*;
-    use crate::sample::{Sample, DAMAGE, FIRST_PACK};
+    use crate::path::{Rooms, MOST_ROOMS};
+    use crate::pull::{pull, Pulled};
+    use crate::sample::{path, Sample, DAMAGE, FIRST_PACK};
 
     fn list(numbers: &[u32]) -> Vec<u8> {
         numbers.iter().flat_map(|number| number.to_le_bytes()).collect()
@@ -186,5 +188,53 @@ mod tests {
         assert_eq!(with(2), OUT_OF_SHAPE);
         assert_eq!(with(0), OUT_OF_SHAPE);
         assert_eq!(with(u32::MAX), OUT_OF_SHAPE);
+    }
+    /// A pull of block 0 with what was lent to it.
+    fn pulled(sample: &Sample, path: &[u8]) -> (Pulled, [Vec<u8>; 3]) {
+        let Rooms { nodes, blocks } = MOST_ROOMS;
+        let mut lent = [4096, 4 * nodes, 4 * blocks].map(|length| vec![0; length]);
+        let [block, nodes, blocks] = &mut lent;
+        (pull(&sample.bytes, path, 0, block, nodes, blocks), lent)
+    }
+
+    /// Demand 3 over paths: a change to what is listed is "changed". A change to any other block of
+    /// the main area or any other number is "same", and the pull on it gives the same.
+    #[test]
+    fn what_a_path_stood_on() {
+        for k in [1, 2, 3, 8] {
+            let kept = Sample::with_path(k, 4097);
+            let mut fresh = Sample::with_path(k, 4097);
+            let path = path(k);
+            let (first, lent) = pulled(&kept, &path);
+            let [_, nodes, blocks] = &lent;
+            let (node_count, block_count) = (first.node_count, first.block_count);
+            assert_eq!((first.answer, node_count), (1, k as u32 + 1));
+            let compared = |fresh: &Sample| {
+                compare(&kept.bytes, &fresh.bytes, nodes, node_count, blocks, block_count)
+            };
+            let is_listed = |list, count, number| {
+                numbers(entries(list, count).unwrap()).any(|listed| listed == number)
+            };
+            for block in 4096..4608 {
+                fresh.bytes[block as usize * 4096 + 4095] ^= 1;
+                if is_listed(blocks, block_count, block) {
+                    assert_eq!(compared(&fresh), changed(3, block));
+                } else {
+                    assert_eq!(compared(&fresh), SAME, "block {block}");
+                    assert_eq!(pulled(&fresh, &path), (first, lent.clone()));
+                }
+                fresh.bytes[block as usize * 4096 + 4095] ^= 1;
+            }
+            for number in 1..455 {
+                fresh.bytes[2560 * 4096 + number as usize * 9 + 1] ^= 1;
+                if is_listed(nodes, node_count, number) {
+                    assert_eq!(compared(&fresh), changed(2, number));
+                } else {
+                    assert_eq!(compared(&fresh), SAME, "number {number}");
+                    assert_eq!(pulled(&fresh, &path), (first, lent.clone()));
+                }
+                fresh.bytes[2560 * 4096 + number as usize * 9 + 1] ^= 1;
+            }
+        }
     }
 }

@@ -90,10 +90,11 @@ impl<'a> Inode<'a> {
         Ok(DirectorySlots::Inline)
     }
 
-    /// "The root must be a directory and the file regular, [...] else 12." Of the inline bits 20
-    /// hex stays with that 12. K4: "Bits 2 and 4 leave 12 in document 01 otherwise; both together,
-    /// 2 on a directory, and 4 on a regular file stay 12." So each kind has one bit that is
-    /// foreign to it, and both together are foreign to both.
+    /// "The root must be a directory and the file regular, [...] else 12." K7: "Each name but the
+    /// last must be a directory, else 12." Of the inline bits 20 hex stays with that 12. K4: "Bits 2
+    /// and 4 leave 12 in document 01 otherwise; both together, 2 on a directory, and 4 on a regular
+    /// file stay 12." So each kind has one bit that is foreign to it, and both together are foreign
+    /// to both.
     fn expect_kind(&self, kind: u16, foreign: u8) -> Result<(), u32> {
         let mode = le16(self.block, 0);
         if mode >> 12 != kind || self.has(foreign | NEVER_READ) {

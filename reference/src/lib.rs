@@ -6,6 +6,7 @@
 #![forbid(unsafe_code)]
 
 pub mod hash;
+pub mod path;
 pub mod checksum;
 pub mod place;
 pub mod levels;
@@ -14,6 +15,7 @@ pub mod open;
 pub mod lookup;
 mod inode;
 pub mod slots;
+mod walk;
 pub mod pull;
 pub mod compare;
 pub mod segments;

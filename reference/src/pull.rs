@@ -1,21 +1,15 @@
-//! Pull: one block of a file in the root directory, with the nodes and blocks it stood on.
+//! Pull: one block of a file under its path, with the nodes and blocks it stood on.
 
 use std::collections::BTreeSet;
 
-use crate::bytes::{le32, BLOCK_SIZE};
-use crate::hash::{is_name, raw_hash};
-use crate::inode::{DirectorySlots, FileBytes, Inode};
-use crate::levels::HashLevel;
-use crate::lookup::lookup_in;
-use crate::open::{is_image_length, open, Volume};
-use crate::place::{directory_place, file_place, Place, Way};
-use crate::slots::{search_block, search_inline};
-
-const ROOT: u32 = 3;
+use crate::bytes::BLOCK_SIZE;
+use crate::hash::is_name;
+use crate::open::{is_image_length, open};
+use crate::path::{names, rooms, Rooms};
+use crate::walk::{Found, Walk};
 
 /// "a node list of at least 179 and a block list of at least 238 32-bit numbers"
-const NODES_LENT: usize = 179;
-const BLOCKS_LENT: usize = 238;
+const ROOMS_OF_ONE_NAME: Rooms = Rooms { nodes: 179, blocks: 238 };
 
 /// The result numbers of a pull; those that the answer doesn't name are 0.
 #[derive(Debug, Clone, Copy, PartialEq, Eq, Default)]
@@ -26,8 +20,27 @@ pub struct Pulled {
     pub block_count: u32,
 }
 
-/// Reads block `index` of the file `name`. The lists are lent as bytes, four to a number.
+/// Reads block `index` of the file under `path`, from the root on. The lists are lent as bytes,
+/// four to a number.
 pub fn pull(
+    image: &[u8],
+    path: &[u8],
+    index: u32,
+    block: &mut [u8],
+    nodes: &mut [u8],
+    blocks: &mut [u8],
+) -> Pulled {
+    // "an empty part or a ninth is 4"
+    let Some(names) = names(path) else {
+        return refused(4);
+    };
+    let memory = Memory { block, nodes, blocks };
+    memory.pulled(image, rooms(names.len()), |walk| walk.path_then_file(&names, index))
+}
+
+/// Document 01's pull of one name: "The name is sought in the root directory." K7: "a one-name path
+/// answers as before".
+pub fn pull_in_root(
     image: &[u8],
     name: &[u8],
     index: u32,
@@ -35,32 +48,74 @@ pub fn pull(
     nodes: &mut [u8],
     blocks: &mut [u8],
 ) -> Pulled {
-    let in_shape = is_image_length(image.len())
-        && is_name(name)
-        && block.len() == BLOCK_SIZE
-        && nodes.len() / 4 >= NODES_LENT
-        && blocks.len() / 4 >= BLOCKS_LENT;
-    if !in_shape {
-        return Pulled { answer: 4, ..Pulled::default() };
+    if !is_name(name) {
+        return refused(4);
     }
-    // 5 to 8, like 4: buffer and lists untouched, counts 0.
-    let volume = match open(image) {
-        Ok(volume) => volume,
-        Err(answer) => return Pulled { answer, ..Pulled::default() },
-    };
-    let mut walk = Walk::new(volume);
-    let (answer, byte_count) = match walk.root_then_file(name, index) {
-        Ok(found) => found.hand_out(block),
-        Err(answer) => (answer, 0),
-    };
-    write_list(nodes, &walk.nodes);
-    write_list(blocks, &walk.blocks);
-    Pulled {
-        answer,
-        byte_count,
-        node_count: walk.nodes.len() as u32,
-        block_count: walk.blocks.len() as u32,
+    let memory = Memory { block, nodes, blocks };
+    memory.pulled(image, ROOMS_OF_ONE_NAME, |walk| walk.root_then_file(name, index))
+}
+
+/// 4 to 8: counts 0, and whoever gives this leaves buffer and lists untouched.
+fn refused(answer: u32) -> Pulled {
+    Pulled { answer, ..Pulled::default() }
+}
+
+/// What is lent to a pull.
+struct Memory<'m> {
+    block: &'m mut [u8],
+    nodes: &'m mut [u8],
+    blocks: &'m mut [u8],
+}
+
+impl Memory<'_> {
+    /// "a block buffer of exactly 4,096 bytes", and of the lists "a remainder isn't used".
+    fn in_shape(&self, rooms: Rooms) -> bool {
+        self.block.len() == BLOCK_SIZE
+            && self.nodes.len() / 4 >= rooms.nodes
+            && self.blocks.len() / 4 >= rooms.blocks
     }
+
+    /// "Pull checks 4, 5, 6, 7, 8 in that order", then goes on the walk.
+    fn pulled<'a>(
+        self,
+        image: &'a [u8],
+        rooms: Rooms,
+        go: impl FnOnce(&mut Walk<'a>) -> Result<Found<'a>, u32>,
+    ) -> Pulled {
+        if !is_image_length(image.len()) || !self.in_shape(rooms) {
+            return refused(4);
+        }
+        let volume = match open(image) {
+            Ok(volume) => volume,
+            Err(answer) => return refused(answer),
+        };
+        let mut walk = Walk::new(volume);
+        let (answer, byte_count) = match go(&mut walk) {
+            Ok(found) => hand_out(&found, self.block),
+            Err(answer) => (answer, 0),
+        };
+        write_list(self.nodes, &walk.nodes);
+        write_list(self.blocks, &walk.blocks);
+        Pulled {
+            answer,
+            byte_count,
+            node_count: walk.nodes.len() as u32,
+            block_count: walk.blocks.len() as u32,
+        }
+    }
+}
+
+/// Fills the lent buffer and gives answer and byte count: 0 with data, 1 for a hole.
+fn hand_out(found: &Found, block: &mut [u8]) -> (u32, u32) {
+    block.fill(0);
+    let Some(data) = found.data else {
+        return (1, found.count);
+    };
+    // "file bytes up to the count, then zeros"
+    for (byte, &stored) in block.iter_mut().zip(data).take(found.count as usize) {
+        *byte = stored;
+    }
+    (0, found.count)
 }
 
 /// "Written": "the first entries, as many as the count, rising, each once; later entries
@@ -71,227 +126,21 @@ fn write_list(list: &mut [u8], numbers: &BTreeSet<u32>) {
     }
 }
 
-/// The file's block that was asked for: 0 with data, 1 for a hole.
-struct Found<'a> {
-    /// 1 to 4,096.
-    count: u32,
-    data: Option<&'a [u8]>,
-}
-
-impl Found<'_> {
-    /// Fills the lent buffer and gives answer and byte count.
-    fn hand_out(&self, block: &mut [u8]) -> (u32, u32) {
-        block.fill(0);
-        let Some(data) = self.data else {
-            return (1, self.count);
-        };
-        // "file bytes up to the count, then zeros"
-        for (byte, &stored) in block.iter_mut().zip(data).take(self.count as usize) {
-            *byte = stored;
-        }
-        (0, self.count)
-    }
-}
-
-/// The walk through an opened volume, with the node numbers asked of the table and the blocks of
-/// the main area read so far. Errors are answer numbers.
-struct Walk<'a> {
-    volume: Volume<'a>,
-    nodes: BTreeSet<u32>,
-    blocks: BTreeSet<u32>,
-}
-
-impl<'a> Walk<'a> {
-    fn new(volume: Volume<'a>) -> Walk<'a> {
-        Walk { volume, nodes: BTreeSet::new(), blocks: BTreeSet::new() }
-    }
-
-    /// "then walks the root, then the file, and stops at the first of 2, 3, 9 to 14 that it
-    /// meets"
-    fn root_then_file(&mut self, name: &[u8], index: u32) -> Result<Found<'a>, u32> {
-        let number = self.search_root(name)?;
-        self.read_file(number, index)
-    }
-
-    /// Block `index` of the regular file with this inode number.
-    fn read_file(&mut self, number: u32, index: u32) -> Result<Found<'a>, u32> {
-        let inode = self.read_inode(number)?;
-        let bytes = inode.file_bytes()?;
-        // "Answer 3 if index × 4,096 ≥ size or the index is larger."
-        let start = u64::from(index) * BLOCK_SIZE as u64;
-        if start >= inode.size() {
-            return Err(3);
-        }
-        // "Count: the smaller of 4,096 and size − 4,096 × index."
-        let count = (inode.size() - start).min(BLOCK_SIZE as u64) as u32;
-        let data = match bytes {
-            // No inline file has 4,096 bytes, so the index is 0 and the block is all of them.
-            FileBytes::Inline(bytes) => Some(bytes),
-            FileBytes::Blocks => self.read_file_block(&inode, index)?,
-        };
-        Ok(Found { count, data })
-    }
-
-    /// A file's block by its addresses and node numbers; `None` is a hole.
-    fn read_file_block(
-        &mut self,
-        inode: &Inode<'a>,
-        index: u32,
-    ) -> Result<Option<&'a [u8]>, u32> {
-        match file_place(inode.addresses(), index) {
-            Place::Way(way) => self.read_data(inode, &way),
-            Place::BadAddresses | Place::Past => Err(3),
-        }
-    }
-
-    fn read_inode(&mut self, number: u32) -> Result<Inode<'a>, u32> {
-        // "for an inode, the number itself"; "Place numbers: inode 0"
-        let block = self.read_node(number, number, 0)?;
-        Ok(Inode { number, block })
-    }
-
-    /// "At a node: 9, 10, then the block is read and listed, then 11"
-    fn read_node(&mut self, number: u32, inode: u32, place: u32) -> Result<&'a [u8], u32> {
-        // A number asked of the table is listed, also if the answer is 9.
-        self.nodes.insert(number);
-        let (table_inode, address) = lookup_in(&self.volume, number)?;
-        // "node number out of range, or its address is 0"
-        if address == 0 {
-            return Err(9);
-        }
-        // "node address outside the main area"
-        if !self.volume.in_main_area(address) {
-            return Err(10);
-        }
-        let node = self.read_block(address);
-        // "A node block ends with 24 bytes: number, inode, flag, version, next. The block's
-        // number must be the one asked, its inode and the table's inode the file's inode number
-        // [...], and flag / 8 its place number; else 11."
-        let belongs = le32(node, 4072) == number
-            && le32(node, 4076) == inode
-            && table_inode == inode
-            && le32(node, 4080) / 8 == place;
-        if belongs {
-            Ok(node)
-        } else {
-            Err(11)
-        }
-    }
-
-    /// Follows the way from the inode; `None` is a hole.
-    fn read_data(&mut self, inode: &Inode<'a>, way: &Way) -> Result<Option<&'a [u8]>, u32> {
-        let mut node = inode.block;
-        let mut first_number = 4052;
-        let mut first_address = 360;
-        let mut steps = way.steps().iter().peekable();
-        while let Some(step) = steps.next() {
-            let slot = step.slot as usize;
-            let Some(next) = steps.peek() else {
-                return self.read_address(le32(node, first_address + 4 * slot));
-            };
-            let number = le32(node, first_number + 4 * slot);
-            // "Inside a node, number 0 [...] [is a hole]"
-            if number == 0 {
-                return Ok(None);
-            }
-            node = self.read_node(number, inode.number, next.place)?;
-            // Nodes below the inode hold their numbers from their first byte.
-            first_number = 0;
-            first_address = 0;
-        }
-        Ok(None)
-    }
-
-    /// "address 0 and address FFFFFFFF are holes"
-    fn read_address(&mut self, address: u32) -> Result<Option<&'a [u8]>, u32> {
-        if address == 0 || address == u32::MAX {
-            return Ok(None);
-        }
-        // "data address outside the main area"
-        if !self.volume.in_main_area(address) {
-            return Err(13);
-        }
-        Ok(Some(self.read_block(address)))
-    }
-
-    /// Reads and lists a block of the main area.
-    fn read_block(&mut self, address: u32) -> &'a [u8] {
-        self.blocks.insert(address);
-        self.volume.block(address)
-    }
-
-    /// The inode number under this name: "The name is sought in the root directory."
-    fn search_root(&mut self, name: &[u8]) -> Result<u32, u32> {
-        let root = self.read_inode(ROOT)?;
-        let slots = root.directory_slots()?;
-        // "Then size 0: 2; size isn't consulted otherwise."
-        if root.size() == 0 {
-            return Err(2);
-        }
-        let hash = raw_hash(name);
-        match slots {
-            // "An inline inode is listed with its block and no data block of its own."
-            DirectorySlots::Inline => search_inline(root.block, name, hash)?.ok_or(2),
-            DirectorySlots::Blocks(levels) => self.search(&root, &levels, name, hash),
-        }
-    }
-
-    /// The name in these hash levels: "in each the bucket hash mod buckets, its blocks in order,
-    /// slots rising, stopping at the first match".
-    fn search(
-        &mut self,
-        directory: &Inode<'a>,
-        levels: &[HashLevel],
-        name: &[u8],
-        hash: u32,
-    ) -> Result<u32, u32> {
-        for index in levels.iter().flat_map(|level| level.searched(hash)) {
-            let Some(block) = self.directory_block(directory, index)? else {
-                continue;
-            };
-            if let Some(inode) = search_block(block, name, hash)? {
-                return Ok(inode);
-            }
-        }
-        Err(2)
-    }
-
-    /// "A hole is an empty block, with only the nodes on the way to it looked up and read; so is
-    /// an index past the last place, for which nothing is looked up or read." A hash level may lie
-    /// partly before the last place and partly past it, and so may a bucket.
-    fn directory_block(
-        &mut self,
-        directory: &Inode<'a>,
-        index: u64,
-    ) -> Result<Option<&'a [u8]>, u32> {
-        match directory_place(directory.addresses(), index) {
-            Place::Way(way) => self.read_data(directory, &way),
-            Place::BadAddresses | Place::Past => Ok(None),
-        }
-    }
-}
-
 #[cfg(test)]
 mod tests {
     use super::*;
-    use crate::place::ADDRESSES;
-    use crate::sample::{Sample, DAMAGE, FIRST_PACK};
+    use crate::bytes::le32;
+    use crate::hash::raw_hash;
+    use crate::path::MOST_ROOMS;
+    use crate::place::{directory_place, Place, ADDRESSES};
+    use crate::sample::{directory, path, Sample, DAMAGE, FIRST_PACK, NAME};
     use crate::slots::{scan, scan_inline};
 
-    const NAME: &[u8] = b"file";
     const DATA: usize = 4200;
 
     /// Root at 4096 with a dentry block at 4097; the file, number 7, at 4098.
     fn sample(size: u64) -> Sample {
-        let mut sample = Sample::new();
-        sample.put_inode(3, 0x41ED, 4096, 4096);
-        sample.put32(4096, 72, 1);
-        sample.put32(4096, 360, 4097);
-        sample.put_dentry(4097, 0, 0, 3, b".");
-        sample.put_dentry(4097, 1, 0, 3, b"..");
-        sample.put_dentry(4097, 2, raw_hash(NAME), 7, NAME);
-        sample.put_inode(7, 0x81A4, size, 4098);
-        sample
+        Sample::with_path(1, size)
     }
 
     struct Lent {
@@ -302,12 +151,29 @@ mod tests {
 
     impl Lent {
         fn new() -> Lent {
-            Lent { block: vec![0xAA; 4096], nodes: vec![0xAA; 716], blocks: vec![0xAA; 952] }
+            Lent::with(ROOMS_OF_ONE_NAME)
         }
 
-        fn pull(&mut self, sample: &Sample, name: &[u8], index: u32) -> Pulled {
+        fn with(rooms: Rooms) -> Lent {
+            Lent {
+                block: vec![0xAA; 4096],
+                nodes: vec![0xAA; 4 * rooms.nodes],
+                blocks: vec![0xAA; 4 * rooms.blocks],
+            }
+        }
+
+        fn pull(&mut self, sample: &Sample, path: &[u8], index: u32) -> Pulled {
             let Lent { block, nodes, blocks } = self;
-            pull(&sample.bytes, name, index, block, nodes, blocks)
+            pull(&sample.bytes, path, index, block, nodes, blocks)
+        }
+
+        fn pull_in_root(&mut self, sample: &Sample, name: &[u8], index: u32) -> Pulled {
+            let Lent { block, nodes, blocks } = self;
+            pull_in_root(&sample.bytes, name, index, block, nodes, blocks)
+        }
+
+        fn is_untouched(&self) -> bool {
+            self.block.iter().chain(&self.nodes).chain(&self.blocks).all(|&byte| byte == 0xAA)
         }
     }
 
@@ -534,31 +400,8 @@ mod tests {
     /// The sample with this directory level and depth, and no blocks in the root.
     fn leveled(level: u8, depth: u32) -> Sample {
         let mut sample = sample(4097);
-        sample.put(4096, 347, &[level]);
-        sample.put32(4096, 72, depth);
-        sample.put32(4096, 360, 0);
+        sample.put_levels(4096, level, depth);
         sample
-    }
-
-    /// Puts one block of the root at `address`; the nodes on the way are 20 to 22, at 4300 to 4302.
-    fn put_root_block(sample: &mut Sample, way: &Way, address: u32) {
-        let (mut node, mut numbers, mut addresses) = (4096, 4052, 360);
-        for (number, steps) in (20..).zip(way.steps().windows(2)) {
-            sample.put32(node, numbers + 4 * steps[0].slot as usize, number);
-            sample.put_node(number, 3, steps[1].place, 4280 + number);
-            (node, numbers, addresses) = (4280 + number as usize, 0, 0);
-        }
-        let slot = way.steps().last().unwrap().slot as usize;
-        sample.put32(node, addresses + 4 * slot, address);
-    }
-
-    /// The outcome of a search in the root for the name under any hash, with nodes and blocks.
-    fn searched(sample: &Sample, hash: u32) -> (Result<u32, u32>, Vec<u32>, Vec<u32>) {
-        let mut walk = Walk::new(open(&sample.bytes).unwrap());
-        let root = walk.read_inode(ROOT).unwrap();
-        let levels = root.hash_levels().unwrap();
-        let found = walk.search(&root, &levels, NAME, hash);
-        (found, walk.nodes.into_iter().collect(), walk.blocks.into_iter().collect())
     }
 
     #[test]
@@ -657,7 +500,7 @@ mod tests {
                 assert_eq!(answer(&sample, name, 0), missing);
                 continue;
             };
-            put_root_block(&mut sample, &way, 4097);
+            sample.put_block_of(directory(0), &way, 4097);
             sample.put(4097, 0, &[0; 4096]);
             sample.put_dentry(4097, 0, hash, 7, name);
             let pulled = answer(&sample, name, 0);
@@ -672,63 +515,6 @@ mod tests {
             }
         }
         assert!(past > 0);
-    }
-
-    /// The buckets around the last index, 1,057,053,438 with 923 addresses and 1,057,053,388 with
-    /// 873, at depth 63. Both indexes are the last slot of the last leaf.
-    #[test]
-    fn part_of_a_hash_level_before_the_last_index() {
-        // In hash level 0 of levels 29 and 30 half the last index: 528,526,719 and 528,526,694.
-        // With level 23, hash level 6 starts at 2^24 × 63 = 1,056,964,608; half of what is left is
-        // 44,415 and 44,390. Hash levels 1 to 5 lead to holes below the double node there.
-        for (level, inline, bucket, on_the_way) in [
-            (29, 0, 528_526_719, 1),
-            (30, 0, 528_526_719, 1),
-            (29, 1, 528_526_694, 1),
-            (30, 1, 528_526_694, 1),
-            (23, 0, 44_415, 2),
-            (23, 1, 44_390, 2),
-        ] {
-            let mut sample = leveled(level, 63);
-            sample.put(4096, 3, &[inline]);
-            // Double node 2041, its child 2042 + 1019 × 1017, the leaf 2043 + 1019 × 1017 + 1017.
-            sample.put32(4096, 4052 + 4 * 4, 20);
-            sample.put_node(20, 3, 2041, 4300);
-            sample.put32(4300, 4 * 1017, 21);
-            sample.put_node(21, 3, 1_038_365, 4301);
-            sample.put32(4301, 4 * 1017, 22);
-            sample.put_node(22, 3, 1_039_383, 4302);
-            sample.put32(4302, 4 * 1017, 4303);
-            sample.put_dentry(4303, 0, bucket, 7, NAME);
-            let (nodes, blocks) = ([3, 20, 21, 22], [4096, 4300, 4301, 4302, 4303]);
-            let full = |found| (found, nodes.to_vec(), blocks.to_vec());
-            assert_eq!(searched(&sample, bucket), full(Ok(7)), "level {level}");
-            // One bucket earlier: holes below the same leaf.
-            let holes = (Err(2), nodes.to_vec(), blocks[..4].to_vec());
-            assert_eq!(searched(&sample, bucket - 1), holes, "level {level}");
-            // One bucket later: past the last index, so nothing more than on the way to the holes.
-            let (some_nodes, some_blocks) = (&nodes[..on_the_way], &blocks[..on_the_way]);
-            let past = (Err(2), some_nodes.to_vec(), some_blocks.to_vec());
-            assert_eq!(searched(&sample, bucket + 1), past, "level {level}");
-            // Without the name there the rest of the bucket and of the levels is past.
-            sample.put32(4303, 30, bucket + 1);
-            assert_eq!(searched(&sample, bucket), full(Err(2)), "level {level}");
-        }
-    }
-
-    /// Level 2, hash 5: hash level 31 starts at 2^33 − 8, so its bucket 5 has the blocks 2^33 + 12
-    /// to 2^33 + 15. Cut to 32 bits these would be 12 to 15, which no hash level searches for 5:
-    /// hash level 0 takes 2 and 3, hash level 1 takes 18 and 19, the others later ones.
-    #[test]
-    fn indexes_are_not_cut_to_32_bits() {
-        let mut sample = leveled(2, 63);
-        for index in 12..16 {
-            sample.put32(4096, 360 + 4 * index, 4300 + index as u32);
-            sample.put_dentry(4300 + index, 0, 5, 7, NAME);
-        }
-        assert_eq!(searched(&sample, 5), (Err(2), vec![3], vec![4096]));
-        sample.put32(4096, 360 + 4 * 19, 4312);
-        assert_eq!(searched(&sample, 5), (Ok(7), vec![3], vec![4096, 4312]));
     }
 
     #[test]
@@ -859,14 +645,175 @@ mod tests {
     fn out_of_shape_leaves_everything_untouched() {
         let sample = sample(4097);
         let mut lent = Lent::new();
-        let refused = Pulled { answer: 4, ..Pulled::default() };
-        assert_eq!(lent.pull(&sample, b"a/b", 0), refused);
+        // Two names with the lists of one.
+        assert_eq!(lent.pull(&sample, b"a/b", 0), refused(4));
+        assert_eq!(lent.pull_in_root(&sample, b"a/b", 0), refused(4));
         lent.nodes.truncate(715);
-        assert_eq!(lent.pull(&sample, NAME, 0), refused);
+        assert_eq!(lent.pull(&sample, NAME, 0), refused(4));
         let mut lent = Lent::new();
         lent.block.push(0xAA);
-        assert_eq!(lent.pull(&sample, NAME, 0), refused);
-        assert!(lent.block.iter().chain(&lent.nodes).chain(&lent.blocks).all(|&b| b == 0xAA));
+        assert_eq!(lent.pull(&sample, NAME, 0), refused(4));
+        lent.block.truncate(4095);
+        assert_eq!(lent.pull(&sample, NAME, 0), refused(4));
+        assert!(lent.is_untouched());
+    }
+
+    /// Paths that are out of shape, whatever is lent.
+    fn bad_paths() -> Vec<Vec<u8>> {
+        let mut paths: Vec<Vec<u8>> = [
+            &b""[..], b"/", b"/file", b"file/", b"/file/", b"d1//file", b"/d1/file", b"d1/file/",
+            b"d1///file", b"d1\0/file", b"d1/fi\0le", b"\0", b"file\0", b"1/2/3/4/5/6/7/8/9",
+            b"././././././././file", b"d1/d2/d3/d4/d5/d6/d7/file/",
+        ]
+        .map(|path| path.to_vec())
+        .to_vec();
+        for at in 0..8 {
+            let mut parts = vec![vec![b'n'; 255]; 8];
+            parts[at].push(b'n');
+            paths.push(parts.join(&b'/'));
+        }
+        paths
+    }
+
+    /// "an empty part or a ninth is 4", and a part that is no name. "Pull checks 4, 5, 6, 7, 8 in
+    /// that order".
+    #[test]
+    fn paths_out_of_shape() {
+        let (good, mut unformatted, mut damaged) = (Sample::with_path(8, 1), sample(1), sample(1));
+        unformatted.put32(0, 1024, 0);
+        DAMAGE[0](&mut damaged, FIRST_PACK);
+        let mut lent = Lent::with(MOST_ROOMS);
+        for (sample, path) in [&good, &unformatted, &damaged]
+            .into_iter()
+            .flat_map(|sample| bad_paths().into_iter().map(move |path| (sample, path)))
+        {
+            assert_eq!(lent.pull(sample, &path, 0), refused(4), "{path:?}");
+        }
+        assert_eq!(lent.pull(&unformatted, &path(8), 0), refused(5));
+        assert_eq!(lent.pull(&damaged, &path(8), 0), refused(8));
+        assert!(lent.is_untouched());
+        for length in [0, 4096, 8191, 8193] {
+            let sample = Sample { bytes: vec![0; length] };
+            assert_eq!(lent.pull(&sample, &path(8), 0), refused(4), "length {length}");
+        }
+        assert_eq!(lent.pull(&Sample { bytes: vec![0; 8192] }, &path(8), 0), refused(5));
+        assert!(lent.is_untouched());
+        assert_eq!(lent.pull(&good, &path(8), 0).answer, 1);
+    }
+
+    /// "and the lists lent must have that room": exactly enough, and one number or one byte short.
+    #[test]
+    fn rooms_of_the_lists() {
+        for k in 1..=8 {
+            let (sample, rooms) = (Sample::with_path(k, 4097), rooms(k));
+            let found = Pulled {
+                answer: 1,
+                byte_count: 4096,
+                node_count: k as u32 + 1,
+                block_count: 2 * k as u32 + 1,
+            };
+            for more in [0, 1, 3, 4, 4000] {
+                let mut lent = Lent::with(rooms);
+                lent.nodes.resize(4 * rooms.nodes + more, 0xAA);
+                assert_eq!(lent.pull(&sample, &path(k), 0), found, "{k} names");
+                lent.blocks.resize(4 * rooms.blocks + more, 0xAA);
+                assert_eq!(lent.pull(&sample, &path(k), 0), found, "{k} names");
+            }
+            for less in [1, 2, 3, 4, 5, 4 * rooms.nodes] {
+                let mut lent = Lent::with(rooms);
+                lent.nodes.truncate(4 * rooms.nodes - less);
+                assert_eq!(lent.pull(&sample, &path(k), 0), refused(4), "{k} names");
+                assert!(lent.is_untouched());
+                let mut lent = Lent::with(rooms);
+                lent.blocks.truncate(4 * rooms.blocks - less);
+                assert_eq!(lent.pull(&sample, &path(k), 0), refused(4), "{k} names");
+                assert!(lent.is_untouched());
+            }
+            // They go by the names of the path, not by how far the walk gets.
+            let mut lent = Lent::with(rooms);
+            let mut longer = path(k);
+            longer[0] = b'x';
+            assert_eq!(lent.pull(&sample, &longer, 0).answer, 2);
+            longer.extend(b"/x");
+            let mut lent = Lent::with(rooms);
+            assert_eq!(lent.pull(&sample, &longer, 0), refused(4), "{k} names and one");
+            assert!(lent.is_untouched());
+        }
+    }
+
+    /// One to eight names: the file's bytes, and lists that rise over all directories.
+    #[test]
+    fn files_in_folders() {
+        for k in 1..=8 {
+            let mut sample = Sample::with_path(k, 4097);
+            sample.put32(4098, 364, DATA as u32);
+            sample.put(DATA, 0, &[9; 4096]);
+            let mut lent = Lent::with(rooms(k));
+            let pulled = lent.pull(&sample, &path(k), 1);
+            assert_eq!((pulled.answer, pulled.byte_count), (0, 1), "{k} names");
+            assert_eq!(lent.block[0], 9);
+            assert!(lent.block[1..].iter().all(|&byte| byte == 0));
+            let mut nodes = vec![7];
+            let mut blocks = vec![4098, DATA as u32];
+            for (number, block) in (0..k).map(directory) {
+                nodes.push(number);
+                blocks.extend([block as u32, block as u32 + 1]);
+            }
+            nodes.sort();
+            blocks.sort();
+            assert_eq!(numbers(&lent.nodes, pulled.node_count), nodes);
+            assert_eq!(numbers(&lent.blocks, pulled.block_count), blocks);
+            let mut lent = Lent::with(rooms(k));
+            let past = lent.pull(&sample, &path(k), 2);
+            assert_eq!((past.answer, past.byte_count, past.node_count), (3, 0, k as u32 + 1));
+            assert!(lent.block.iter().all(|&byte| byte == 0xAA));
+        }
+    }
+
+    /// "A name has 1 to 255 bytes": eight of 255 bytes, each in 32 slots.
+    #[test]
+    fn eight_names_of_255_bytes() {
+        let mut sample = Sample::with_path(8, 100);
+        let names: Vec<Vec<u8>> = (b'a'..=b'h').map(|byte| vec![byte; 255]).collect();
+        for (depth, name) in names.iter().enumerate() {
+            let next = if depth < 7 { directory(depth + 1).0 } else { 7 };
+            sample.put_dentry(directory(depth).1 + 1, 2, raw_hash(name), next, name);
+        }
+        let found = Pulled { answer: 1, byte_count: 100, node_count: 9, block_count: 17 };
+        let path = names.join(&b'/');
+        assert_eq!(Lent::with(MOST_ROOMS).pull(&sample, &path, 0), found);
+        // One byte less at the end is another name, one byte more none.
+        let shorter = &path[..path.len() - 1];
+        assert_eq!(Lent::with(MOST_ROOMS).pull(&sample, shorter, 0).answer, 2);
+        let longer = [&path[..], b"h"].concat();
+        assert_eq!(Lent::with(MOST_ROOMS).pull(&sample, &longer, 0), refused(4));
+    }
+
+    /// "a one-name path answers as before"
+    #[test]
+    fn one_name_answers_as_before() {
+        let mut found = sample(4097);
+        found.put32(4098, 364, DATA as u32);
+        found.put(DATA, 0, &[9; 4096]);
+        let mut damaged = sample(4097);
+        DAMAGE[1](&mut damaged, FIRST_PACK);
+        let mut malformed = sample(4097);
+        malformed.put16(4097, 30 + 8, 0);
+        let long = [b'n'; 256];
+        let roots = [inline_root(4, 1), leveled(31, 1), leveled(2, 63)];
+        for sample in [found, damaged, malformed].into_iter().chain(roots) {
+            for name in [NAME, b"other", b".", b"..", b"", b"\0", b"/", &long[..255], &long] {
+                for (index, less) in [0, 1, 2, u32::MAX].iter().flat_map(|i| [(*i, 0), (*i, 1)]) {
+                    let [mut before, mut now] = [Lent::new(), Lent::new()];
+                    before.nodes.truncate(716 - less);
+                    now.nodes.truncate(716 - less);
+                    let pulled = before.pull_in_root(&sample, name, index);
+                    assert_eq!(now.pull(&sample, name, index), pulled, "{name:?}");
+                    assert_eq!(now.block, before.block);
+                    assert_eq!((now.nodes, now.blocks), (before.nodes, before.blocks));
+                }
+            }
+        }
     }
 
     #[test]
@@ -876,11 +823,10 @@ mod tests {
             assert_eq!(answer(&sample, NAME, 0).answer, 1);
             damage(&mut sample, FIRST_PACK);
             let mut lent = Lent::new();
-            let refused = |answer| Pulled { answer, ..Pulled::default() };
             assert_eq!(lent.pull(&sample, NAME, 0), refused(8));
             assert_eq!(lent.pull(&sample, b"other", 0), refused(8));
             assert_eq!(lent.pull(&sample, b"a/b", 0), refused(4));
-            assert!(lent.block.iter().chain(&lent.nodes).chain(&lent.blocks).all(|&b| b == 0xAA));
+            assert!(lent.is_untouched());
         }
     }
 

@@ -2,10 +2,30 @@
 //! 1536, NAT at 2560, SSA at 3584, main at 4096, but with one main segment.
 
 use crate::checksum::checksum;
+use crate::hash::raw_hash;
+use crate::place::Way;
 
 pub const FIRST_PACK: usize = 512;
 pub const SECOND_PACK: usize = 1024;
 const NAT: usize = 2560;
+
+/// The file's name, and those of the folders on the way to it.
+pub const NAME: &[u8] = b"file";
+const FOLDERS: [&[u8]; 7] = [b"d1", b"d2", b"d3", b"d4", b"d5", b"d6", b"d7"];
+
+/// Inode number and block of the directory at a depth, the root at 0. Neither rises with it.
+pub fn directory(depth: usize) -> (u32, usize) {
+    if depth == 0 {
+        (3, 4096)
+    } else {
+        (40 - depth as u32, 4300 - 2 * depth)
+    }
+}
+
+/// `k` names: folders, then the file.
+pub fn path(k: usize) -> Vec<u8> {
+    [&FOLDERS[..k - 1], &[NAME]].concat().join(&b'/')
+}
 
 pub struct Sample {
     pub bytes: Vec<u8>,
@@ -25,6 +45,25 @@ impl Sample {
             sample.put32(0, 1024 + at, value);
         }
         sample.put_pack(FIRST_PACK, 5, 8);
+        sample
+    }
+
+    /// The file `path(k)`, number 7, at 4098 with this size. Each directory on the way has one
+    /// block, right behind its inode, with the next name in slot 2.
+    pub fn with_path(k: usize, size: u64) -> Sample {
+        let mut sample = Sample::new();
+        for (depth, name) in path(k).split(|&byte| byte == b'/').enumerate() {
+            let (parent, _) = directory(depth.saturating_sub(1));
+            let (number, address) = directory(depth);
+            let next = if depth + 1 < k { directory(depth + 1).0 } else { 7 };
+            sample.put_inode(number, 0x41ED, 4096, address as u32);
+            sample.put32(address, 72, 1);
+            sample.put32(address, 360, address as u32 + 1);
+            sample.put_dentry(address + 1, 0, 0, number, b".");
+            sample.put_dentry(address + 1, 1, 0, parent, b"..");
+            sample.put_dentry(address + 1, 2, raw_hash(name), next, name);
+        }
+        sample.put_inode(7, 0x81A4, size, 4098);
         sample
     }
 
@@ -132,6 +171,26 @@ impl Sample {
         self.put_node(number, number, 0, address);
         self.put16(address as usize, 0, mode);
         self.put64(address as usize, 16, size);
+    }
+
+    /// Puts one block below the inode of a directory; the nodes on the way are 20 to 22, at 4300 to
+    /// 4302.
+    pub fn put_block_of(&mut self, (inode, at): (u32, usize), way: &Way, address: u32) {
+        let (mut node, mut numbers, mut addresses) = (at, 4052, 360);
+        for (number, steps) in (20..).zip(way.steps().windows(2)) {
+            self.put32(node, numbers + 4 * steps[0].slot as usize, number);
+            self.put_node(number, inode, steps[1].place, 4280 + number);
+            (node, numbers, addresses) = (4280 + number as usize, 0, 0);
+        }
+        let slot = way.steps().last().unwrap().slot as usize;
+        self.put32(node, addresses + 4 * slot, address);
+    }
+
+    /// The directory with this level and depth, and without its first block.
+    pub fn put_levels(&mut self, directory: usize, level: u8, depth: u32) {
+        self.put(directory, 347, &[level]);
+        self.put32(directory, 72, depth);
+        self.put32(directory, 360, 0);
     }
 
     /// A dentry at a slot: its map bit, hash, inode, length and name.
