@@ -2,14 +2,16 @@
 use Prim.Native.Nat.{ℕ, _+_, _<_, _≤_}
 use native.Mathlib.Omega.{arith}
 use mathlib.Core.Path.{_≡_, refl, sym, ap, _∙_}
-use mathlib.Core.Bool.{true, false, _&&_, and-false}
+use mathlib.Core.Bool.{Bool, true, false, not, _&&_, and-false}
 use mathlib.Core.List.{List, [], _∷_}
 use lib.ListN.{length}
-use lib.Dec.{leb}
-use borrow.Author.Tests.{le-leb, lt-leb}
+use lib.Dec.{eqb, leb}
+use borrow.Author.Tests.{ne-eqb, le-leb, lt-leb}
 use Rattle.field.specs.Choice.{choose}
+use Rattle.field.proofs.Choosing.{needed-le}
 use Rattle.name_hash.specs.Name.{isName}
 use Rattle.path.specs.Path.{namesMost, partsOf, partCount, areNames, isPath, nameCount}
+use Rattle.path.proofs.Parts.{some-part}
 
 abbrev pub countOn : ℕ → List (List ℕ) → ℕ
 countOn count parts = choose (leb (count + length parts) namesMost && areNames parts) (count + length parts) 0
@@ -39,3 +41,30 @@ count-all count h =
 -- and one is left too many
 pub count-ninth : (parts : List (List ℕ)) (count : ℕ) → 1 ≤ length parts → namesMost ≤ count → countOn count parts ≡ 0
 count-ninth parts count some h = rw (lt-leb (count + length parts) namesMost (omega arith))
+
+-- ---- of the whole path
+module _ (path : List ℕ) where
+  pub count-parts : isPath path ≡ true → nameCount path ≡ partCount path
+  unfolding nameCount
+  count-parts e = rw e
+
+  pub parts-few : isPath path ≡ true → partCount path ≤ namesMost
+  unfolding isPath
+  parts-few = needed-le (λ e. rw e refl)
+
+  -- 0 is of what is no path
+  pub count-some : not (eqb (nameCount path) 0) ≡ isPath path
+  unfolding nameCount partCount
+  count-some = go (isPath path)
+    where
+      go : (t : Bool) → not (eqb (choose t (length (partsOf path)) 0) 0) ≡ t
+      go true = let some = some-part path in rw (ne-eqb (length (partsOf path)) 0 (λ e. omega arith)) refl
+      go false = refl
+
+  pub count-few : nameCount path ≤ namesMost
+  unfolding nameCount
+  count-few = go (isPath path) refl
+    where
+      go : (t : Bool) → isPath path ≡ t → choose t (partCount path) 0 ≤ namesMost
+      go true e = parts-few e
+      go false e = omega arith

@@ -1,28 +1,20 @@
--- The trees of a file and of the root by cases: no run and no list is named. Then what the code found as what the walk comes to.
-use Prim.Native.Nat.{ℕ, _≤_}
-use mathlib.Core.Path.{_≡_, refl, sym, _∙_}
-use mathlib.Core.Bool.{Bool, true, false}
+-- The tree of a file by cases: no run and no list is named. Then what the code found as what the walk comes to.
+use Prim.Native.Nat.{ℕ}
+use mathlib.Core.Path.{_≡_, refl}
+use mathlib.Core.Bool.{true, false}
 use mathlib.Core.List.{List}
 use lib.ListN.{drop}
-use borrow.Author.Tests.{eq-eqb, ne-eqb}
 use Rattle.field.specs.Card.{Card}
-use Rattle.walk.specs.Walk.{View, Walk, done, Outcome, ok, stop, bind, onward, andThen, Lists, Walked, Fits}
-use Rattle.walk.proofs.Reached.{reached-start, reached-then, reached-stop, reached-done, reached-all}
-use Rattle.walk.proofs.Fits.{fits-at}
+use Rattle.walk.specs.Walk.{View, Walk, done, Outcome, ok, stop, bind, onward, andThen, Lists, Walked}
+use Rattle.walk.proofs.Reached.{reached-start, reached-then, reached-stop, reached-done}
 use Rattle.inode.specs.declared.Inode.{Inode}
-use Rattle.inode.specs.Inode.{inodeOf, hasInlineData, hasInlineDentry, inlineStart, isDirectory, isRegular}
-use Rattle.inode.specs.Inode.{levelsIn, dirLevelIn, addressesIn, isPast, countIn}
-use Rattle.inode.proofs.DirectoryLevel.{level-refused, own-levels}
+use Rattle.inode.specs.Inode.{inodeOf, hasInlineData, inlineStart, isRegular, addressesIn, isPast, countIn}
 use Rattle.node.specs.Node.{Bounds}
 use Rattle.node.specs.Block.{Fetched, held, blockWalk}
 use Rattle.node.specs.Found.{dataOf}
 use Rattle.node.specs.declared.Data.{Data}
 use Rattle.node.specs.declared.Data.the-variants as d
-use Rattle.name_hash.specs.Hash.{hashOf}
-use Rattle.dentry.specs.Slot.{wanted}
-use Rattle.directory.specs.Find.{directory, findWalk}
-use Rattle.directory.proofs.Inline.{any-levels}
-use Rattle.pull.specs.Walk.{rootIno, counted, contentWalk, atFile, atRoot, blockFound}
+use Rattle.pull.specs.Walk.{counted, contentWalk, atFile, blockFound}
 
 -- ---- a file, once its inode is read
 module _ (m : Bounds) (index ino : ℕ) (inode : List ℕ) {i : Inode} (read : i ≡ inodeOf inode) where

@@ -1,5 +1,5 @@
--- K4, of every pull: an inline file answers 0 with its size as byte count, or 3; its bytes are the inode's; and neither it nor an inline
--- root asks anything beyond its own inode.
+-- K4, of every pull: an inline file answers 0 with its size as byte count, or 3; its bytes are the inode's; and it asks nothing beyond its
+-- own inode.
 use Prim.Native.Nat.{ℕ, _-_, _*_, _<_, _≤_}
 use native.Mathlib.Omega.{arith}
 use mathlib.Core.Path.{_≡_, refl, sym, ap, _∙_}
@@ -14,21 +14,18 @@ use Rattle.checkpoint.specs.declared.Volume.{Volume}
 use Rattle.checkpoint.specs.declared.Opening.the-variants.{Opened}
 use Rattle.checkpoint.specs.Volume.{openedImage}
 use Rattle.place.specs.Place.{lastIndex}
-use Rattle.walk.specs.Walk.{View, imageView, Seen, empty, done, Ran, ran, run, Outcome, ok, stop}
+use Rattle.walk.specs.Walk.{imageView, Seen, empty, done, Ran, ran, run, Outcome, ok, stop}
 use Rattle.walk.proofs.Runs.{run-then}
-use Rattle.inode.specs.Inode.{inodeOf, hasInlineData, hasInlineDentry, inlineStart, isDirectory, isRegular, addressesIn, isPast}
+use Rattle.inode.specs.Inode.{inodeOf, hasInlineData, inlineStart, isRegular, addressesIn, isPast}
 use Rattle.inode.proofs.Inline.{inline-small, inline-first}
 use Rattle.node.specs.Node.{Bounds, boundsOf, inodeWalk}
 use Rattle.node.specs.Block.{held}
 use Rattle.node.proofs.Listed.{Listed, node-listed}
-use Rattle.name_hash.specs.Hash.{hashOf}
-use Rattle.dentry.specs.Slot.{wanted, Sought, absent, found, malformed, inInode}
-use Rattle.directory.specs.Find.{afterSlots}
-use Rattle.directory.proofs.Inline.{inline-search}
+use Rattle.path_lookup.specs.Lookup.{pathWalk}
 use Rattle.pull.specs.declared.Pulled.{Pulled}
-use Rattle.pull.specs.Walk.{Block, atFile, fileWalk, atRoot, rootWalk, pullWalk}
+use Rattle.pull.specs.Walk.{Block, atFile, fileWalk, fromWalk, pullWalk}
 use Rattle.pull.specs.Pull.{Lent, callInShape, written, pullRun, pulled}
-use Rattle.pull.proofs.Cases.{file-past, file-inline, root-empty, root-find}
+use Rattle.pull.proofs.Cases.{file-past, file-inline}
 use Rattle.pull.proofs.Results.{call-opens}
 
 -- all of an inline file
@@ -70,9 +67,9 @@ module _ (m : Bounds) (index ino : ℕ) (inode : List ℕ) (regular : isRegular 
           let most = inline-small (inodeOf inode) regular own in
           file-past m index ino inode refl regular (past (omega arith))
 
--- ---- every pull of an inline file: the root's walk came to its inode number, and its inode's to the inode
-module _ (image name : List ℕ) (index : ℕ) (lent : Lent) (shape : callInShape image name lent ≡ true) (v : Volume) (opens : openedImage image ≡ Opened v)
-    {ino : ℕ} {inode : List ℕ} {s t : Seen} (root : run (imageView image v) empty (rootWalk (boundsOf v) name) ≡ ran (ok ino) s)
+-- ---- every pull of an inline file: the path led to its inode number, and its inode's to the inode
+module _ (image path : List ℕ) (index : ℕ) (lent : Lent) (shape : callInShape image path lent ≡ true) (v : Volume) (opens : openedImage image ≡ Opened v)
+    {ino : ℕ} {inode : List ℕ} {s t : Seen} (led : run (imageView image v) empty (pathWalk (boundsOf v) path) ≡ ran (ok ino) s)
     (node : run (imageView image v) s (inodeWalk (boundsOf v) ino) ≡ ran (ok inode) t)
     (regular : isRegular (inodeOf inode) ≡ true) (own : hasInlineData (inodeOf inode) ≡ true) where
   -- "An inline inode is listed with its block ..": its number, and the block that the table has for it
@@ -80,23 +77,23 @@ module _ (image name : List ℕ) (index : ℕ) (lent : Lent) (shape : callInShap
   inline-listed = node-listed (imageView image v) s (boundsOf v) ino ino 0 node
 
   -- ".. and no data block of its own": the lists are as they were when it was read
-  pub inline-pulled : pulled image name index lent ≡ written (ran (inlineFound inode index) t) lent
-  unfolding pullRun pullWalk fileWalk run
+  pub inline-pulled : pulled image path index lent ≡ written (ran (inlineFound inode index) t) lent
+  unfolding pullRun pullWalk fromWalk pathWalk fileWalk run
   inline-pulled =
-      call-opens image name index lent (Opened v) shape opens
+      call-opens image path index lent (Opened v) shape opens
       ∙ ap (λ (r : Ran (Outcome Block)). written r lent)
-      (run-then (imageView image v) empty (rootWalk (boundsOf v) name) (fileWalk (boundsOf v) index) root
+      (run-then (imageView image v) empty (pathWalk (boundsOf v) path) (fileWalk (boundsOf v) index) led
       ∙ run-then (imageView image v) s (inodeWalk (boundsOf v) ino) (atFile (boundsOf v) index ino) node
       ∙ ap (run (imageView image v) t) (inline-file (boundsOf v) index ino inode regular own))
 
   -- the whole file is its block 0
-  pub inline-data : index ≡ 0 → 0 < inodeOf inode .size → let r = pulled image name index lent in let size = inodeOf inode .size in
+  pub inline-data : index ≡ 0 → 0 < inodeOf inode .size → let r = pulled image path index lent in let size = inodeOf inode .size in
       (r .numbers .answer ≡ 0) × (r .numbers .«byte_count» ≡ size)
       × (r .memory .block ≡ take size (drop inlineStart inode) ++ replicate (4096 - size) 0)
   inline-data e h = rw (inline-pulled, eq-eqb index 0 e, lt-ltb 0 (inodeOf inode .size) h) (refl, refl, refl)
 
   -- and there is no other
-  pub inline-past : (index ≡ 0 → inodeOf inode .size ≡ 0) → let r = pulled image name index lent in
+  pub inline-past : (index ≡ 0 → inodeOf inode .size ≡ 0) → let r = pulled image path index lent in
       (r .numbers .answer ≡ 3) × (r .numbers .«byte_count» ≡ 0) × (r .memory .block ≡ lent .block)
   inline-past h = rw inline-pulled (go (eqb index 0) refl)
     where
@@ -105,11 +102,11 @@ module _ (image name : List ℕ) (index : ℕ) (lent : Lent) (shape : callInShap
       go true e = rw (le-ltb 0 (inodeOf inode .size) (let z = h (eqb-true index 0 e) in omega arith)) (refl, refl, refl)
       go false e = (refl, refl, refl)
 
-  pub inline-answers : AllOrPast (pulled image name index lent .numbers) (inodeOf inode .size)
+  pub inline-answers : AllOrPast (pulled image path index lent .numbers) (inodeOf inode .size)
   inline-answers = go (eqb index 0) refl (ltb 0 (inodeOf inode .size)) refl
     where
       go : (a : Bool) → eqb index 0 ≡ a → (b : Bool) → ltb 0 (inodeOf inode .size) ≡ b
-          → AllOrPast (pulled image name index lent .numbers) (inodeOf inode .size)
+          → AllOrPast (pulled image path index lent .numbers) (inodeOf inode .size)
       go true e true f = let all = inline-data (eqb-true index 0 e) (ltb-true 0 _ f) in inl (all .0, all .1)
       go true e false f = let none = ltb-false 0 (inodeOf inode .size) f in let past = inline-past (λ _. omega arith) in inr (past .0, past .1)
       go false e b f = let past = inline-past (λ z. absurd (eqb-false index 0 e z)) in inr (past .0, past .1)

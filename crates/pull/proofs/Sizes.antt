@@ -1,19 +1,21 @@
--- A pull looks up at most 179 numbers and reads at most 238 blocks, all in the main area; it ends with one of 2, 3, 9 to 14, or
--- with a block that holds 1 to 4,096 of the file's bytes. One pass over the walk shows all of that.
-use Prim.Native.Nat.{ℕ, _≤_}
+-- A pull of k names looks up at most 175k + 4 numbers and reads at most 233k + 5 blocks, all in the main area; it ends with one of
+-- 2, 3, 9 to 14, or with a block that holds 1 to 4,096 of the file's bytes. One pass over the walk shows all of that.
+use Prim.Native.Nat.{ℕ, _+_, _*_, _≤_}
+use native.Mathlib.Omega.{arith}
 use mathlib.Core.Path.{_≡_, refl}
 use mathlib.Core.Bool.{true}
 use mathlib.Core.List.{List}
-use lib.Dec.{eqb}
 use Rattle.walk.specs.Walk.{Walk, Outcome, Ended, Within, ends}
 use Rattle.walk.proofs.Sizes.{within-if, within-choose, within-then}
-use Rattle.inode.specs.Inode.{inodeOf, hasInlineData, isDirectory, isRegular, addressesIn, isPast}
-use Rattle.inode.proofs.Counting.{count-in-block, few-addresses}
+use Rattle.inode.specs.Inode.{inodeOf, hasInlineData, isRegular, addressesIn, isPast}
+use Rattle.inode.proofs.Counting.{count-in-block}
 use Rattle.node.specs.Node.{Bounds, inMain}
 use Rattle.node.proofs.Sizes.{Small, node-within, block-within}
-use Rattle.directory.proofs.Sizes.{find-within}
+use Rattle.path.specs.Path.{partCount}
+use Rattle.path_lookup.specs.Lookup.{pathWalk}
+use Rattle.path_lookup.proofs.Sizes.{path-within}
 use Rattle.pull.specs.Pull.{nodesMost, blocksMost}
-use Rattle.pull.specs.Walk.{rootIno, Block, contentWalk, atFile, fileWalk, atRoot, rootWalk, pullWalk}
+use Rattle.pull.specs.Walk.{Block, contentWalk, atFile, fileWalk, fromWalk, pullWalk}
 
 -- "a byte count 1 to 4,096"
 abbrev pub Counted : Block → Type 0
@@ -44,17 +46,9 @@ module _ (m : Bounds) where
   unfolding fileWalk
   file-within index ino = within-then _ (node-within m ino ino 0) (λ inode _. at-file-within index ino inode)
 
-  at-root-within : (name inode : List ℕ) → Small m 174 232 (atRoot m name inode)
-  unfolding atRoot
-  at-root-within name inode =
-      within-choose (isDirectory (inodeOf inode))
-      (within-choose (eqb (inodeOf inode .size) 0) (ends refl) (find-within _ _ (few-addresses (inodeOf inode)) (inodeOf inode .depth)))
-      (ends refl)
-
-  pub root-within : (name : List ℕ) → Small m 175 233 (rootWalk m name)
-  unfolding rootWalk
-  root-within name = within-then _ (node-within m rootIno rootIno 0) (λ inode _. at-root-within name inode)
-
-  pub pull-within : (name : List ℕ) (index : ℕ) → ToBlock m nodesMost blocksMost (pullWalk m name index)
-  unfolding pullWalk
-  pull-within name index = within-then _ (root-within name) (λ ino _. file-within index ino)
+  pub pull-within : (path : List ℕ) (index : ℕ) → ToBlock m (nodesMost (partCount path)) (blocksMost (partCount path)) (pullWalk m path index)
+  unfolding pullWalk fromWalk pathWalk
+  pull-within path index =
+      let ns : 4 + 175 * partCount path ≡ nodesMost (partCount path) = omega arith in
+      let bs : 5 + 233 * partCount path ≡ blocksMost (partCount path) = omega arith in
+      rw (ns, bs) at (within-then (fileWalk m index) (path-within m path) (λ ino _. file-within index ino))

@@ -1,5 +1,5 @@
 -- What a pull answers, and every byte that it was lent as it leaves them.
-use Prim.Native.Nat.{ℕ, _-_, _/_}
+use Prim.Native.Nat.{ℕ, _+_, _-_, _*_, _/_}
 use mathlib.Core.Bool.{Bool, _&&_}
 use mathlib.Core.List.{List, _++_}
 use lib.ListN.{length, take, replicate}
@@ -11,7 +11,7 @@ use Rattle.checkpoint.specs.declared.Volume.{Volume}
 use Rattle.checkpoint.specs.declared.Opening.{Opening}
 use Rattle.checkpoint.specs.declared.Opening.the-variants.{Opened, Refused}
 use Rattle.checkpoint.specs.Volume.{openedImage}
-use Rattle.name_hash.specs.Name.{isName}
+use Rattle.path.specs.Path.{partCount, isPath}
 use Rattle.list.specs.Lists.{Listed, listing, over}
 use Rattle.walk.specs.Walk.{viewOf, empty, Ran, run, Outcome, ok, stop}
 use Rattle.node.specs.Node.{boundsOf}
@@ -19,12 +19,12 @@ use Rattle.node.specs.Block.{Fetched, hole, held}
 use Rattle.pull.specs.declared.Pulled.{Pulled}
 use Rattle.pull.specs.Walk.{Block, pullWalk}
 
--- "at most 179 and 238": the most nodes and blocks that a pull lists
-abbrev pub nodesMost : ℕ
-nodesMost = 179
+-- K7: "With k names at most 175k + 4 node numbers and 233k + 5 blocks are listed"
+abbrev pub nodesMost : ℕ → ℕ
+nodesMost k = 175 * k + 4
 
-abbrev pub blocksMost : ℕ
-blocksMost = 238
+abbrev pub blocksMost : ℕ → ℕ
+blocksMost k = 233 * k + 5
 
 -- the memory that a pull is lent: the block buffer, the node list and the block list
 pub record Lent : Type 0 where
@@ -50,14 +50,14 @@ nodesLeft r = listing (r .memory .nodes) (r .numbers .«node_count»)
 abbrev pub blocksLeft : Result → Listed
 blocksLeft r = listing (r .memory .blocks) (r .numbers .«block_count»)
 
--- "a block buffer of exactly 4,096 bytes, a node list of at least 179 and a block list of at least 238 32-bit numbers"
-unfoldable pub lentInShape : Lent → Bool
-lentInShape lent =
-    eqb (length (lent .block)) 4096 && leb nodesMost (length (lent .nodes) / 4) && leb blocksMost (length (lent .blocks) / 4)
+-- "a block buffer of exactly 4,096 bytes", and K7: "the lists lent must have that room", for k names
+unfoldable pub lentInShape : ℕ → Lent → Bool
+lentInShape k lent =
+    eqb (length (lent .block)) 4096 && leb (nodesMost k) (length (lent .nodes) / 4) && leb (blocksMost k) (length (lent .blocks) / 4)
 
--- 4, "call out of shape": the image, the name and the lent memory
+-- 4, "call out of shape": the image, the path and the lent memory
 unfoldable pub callInShape : List ℕ → List ℕ → Lent → Bool
-callInShape image name lent = inShape (length image) && isName name && lentInShape lent
+callInShape image path lent = inShape (length image) && isPath path && lentInShape (partCount path) lent
 
 -- 0 is "data", 1 "hole"; the others are the answer that ended the walk
 abbrev pub contentAnswer : Fetched → ℕ
@@ -100,13 +100,13 @@ written r lent =
 
 -- the walk of a pull on an opened card
 unfoldable pub pullRun : Card → Volume → List ℕ → ℕ → Ran (Outcome Block)
-pullRun card v name index = run (viewOf card v) empty (pullWalk (boundsOf v) name index)
+pullRun card v path index = run (viewOf card v) empty (pullWalk (boundsOf v) path index)
 
 abbrev pub pulledFrom : Card → Opening → List ℕ → ℕ → Lent → Result
-pulledFrom card (Opened v) name index lent = written (pullRun card v name index) lent
-pulledFrom card (Refused answer) name index lent = refusedPull answer lent
+pulledFrom card (Opened v) path index lent = written (pullRun card v path index) lent
+pulledFrom card (Refused answer) path index lent = refusedPull answer lent
 
--- "Pull checks 4, 5, 6, 7, 8 in that order, then walks the root, then the file"
+-- "Pull checks 4, 5, 6, 7, 8 in that order, then walks the root, then the file": the path's names from the root on
 unfoldable pub pulled : List ℕ → List ℕ → ℕ → Lent → Result
-pulled image name index lent =
-    choose (callInShape image name lent) (pulledFrom (cardOf image) (openedImage image) name index lent) (refusedPull 4 lent)
+pulled image path index lent =
+    choose (callInShape image path lent) (pulledFrom (cardOf image) (openedImage image) path index lent) (refusedPull 4 lent)

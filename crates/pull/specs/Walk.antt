@@ -1,9 +1,8 @@
--- The walk of a pull: the root, the name in it, the file, the block of the index. "walks the root, then the file, and stops at the
--- first of 2, 3, 9 to 14 that it meets. At a node: 9, 10, then the block is read and listed, then 11, then 12, then 2 or 3."
+-- The walk of a pull: the path's names from the root on, the file, the block of the index. "walks the root, then the file, and stops at
+-- the first of 2, 3, 9 to 14 that it meets. At a node: 9, 10, then the block is read and listed, then 11, then 12, then 2 or 3."
 use Prim.Native.Nat.{ℕ}
 use mathlib.Core.List.{List}
 use lib.ListN.{drop}
-use lib.Dec.{eqb}
 use Rattle.field.specs.Choice.{choose}
 use Rattle.walk.specs.Walk.{Walk, done, Outcome, ok, stop, andThen}
 use Rattle.node.specs.Node.{Bounds, inodeWalk}
@@ -11,15 +10,9 @@ use Rattle.node.specs.Block.{Fetched, hole, held, blockWalk}
 use Rattle.node.specs.declared.Data.{Data}
 use Rattle.node.specs.declared.Data.the-variants as d
 use Rattle.field.specs.Card.{Card}
-use Rattle.name_hash.specs.Hash.{hashOf}
-use Rattle.dentry.specs.Slot.{wanted}
-use Rattle.directory.specs.Find.{directory, findWalk}
-use Rattle.inode.specs.Inode.{inodeOf, hasInlineData, hasInlineDentry, inlineStart, isDirectory, isRegular}
-use Rattle.inode.specs.Inode.{addressesIn, isPast, countIn}
-
--- the inode number of the root directory
-abbrev pub rootIno : ℕ
-rootIno = 3
+use Rattle.inode.specs.Inode.{inodeOf, hasInlineData, inlineStart, isRegular, addressesIn, isPast, countIn}
+use Rattle.path.specs.Path.{partsOf}
+use Rattle.path_lookup.specs.Lookup.{rootIno, namesWalk}
 
 -- a block of a file: how many of its bytes are the file's, and what it holds
 pub record Block : Type 0 where
@@ -46,21 +39,13 @@ atFile m index ino inode =
 unfoldable pub fileWalk : Bounds → ℕ → ℕ → Walk (Outcome Block)
 fileWalk m index ino = andThen (inodeWalk m ino) (atFile m index ino)
 
--- "Then size 0: 2"
-unfoldable pub atRoot : Bounds → List ℕ → List ℕ → Walk (Outcome ℕ)
-atRoot m name inode =
-    choose (isDirectory (inodeOf inode))
-    (choose (eqb (inodeOf inode .size) 0) (done (stop 2))
-    (findWalk (directory m rootIno inode (addressesIn (inodeOf inode)) (hasInlineDentry (inodeOf inode)) (inodeOf inode .level))
-    (wanted (hashOf name) name) (inodeOf inode .depth)))
-    (done (stop 12))
+-- block `index` of the file that some names lead to, from the directory of an inode number
+unfoldable pub fromWalk : Bounds → List (List ℕ) → ℕ → ℕ → Walk (Outcome Block)
+fromWalk m names index ino = andThen (namesWalk m names ino) (fileWalk m index)
 
--- the inode number of a name in the root directory
-unfoldable pub rootWalk : Bounds → List ℕ → Walk (Outcome ℕ)
-rootWalk m name = andThen (inodeWalk m rootIno) (atRoot m name)
-
+-- block `index` of the file that a path leads to, from the root
 unfoldable pub pullWalk : Bounds → List ℕ → ℕ → Walk (Outcome Block)
-pullWalk m name index = andThen (rootWalk m name) (fileWalk m index)
+pullWalk m path index = fromWalk m (partsOf path) index rootIno
 
 -- what the code found as a block of the file: an address stands for the bytes of its block, from a start on
 abbrev pub blockFound : Card → Data → ℕ → ℕ → Outcome Block

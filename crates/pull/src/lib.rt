@@ -1,4 +1,4 @@
-// Pull: one block of a named file in the root directory, with the lists of what the answer rested on.
+// Pull: one block of the file that a path leads to, with the lists of what the answer rested on.
 // What each means is in specs/: Walk, Pull.
 ghost use mathlib.Core.Path.{_≡_};
 ghost use mathlib.Core.Bool.{true, _&&_};
@@ -10,15 +10,10 @@ ghost use Rattle.checkpoint.specs.Volume.{VolumeIn};
 ghost use Rattle.walk.specs.Walk.{imageView, lists, none, Walked, Fits};
 ghost use Rattle.node.specs.Node.{boundsOf};
 ghost use Rattle.node.specs.Found.{DataIn};
-ghost use Rattle.directory.specs.Find.{entryOf};
-ghost use Rattle.pull.specs.Walk.{atFile, fileWalk, blockFound, atRoot, rootWalk, pullWalk};
+ghost use Rattle.path.specs.Path.{partCount, isPath};
+ghost use Rattle.pull.specs.Walk.{atFile, fileWalk, blockFound, pullWalk};
 ghost use Rattle.pull.specs.Pull.{nodesMost, blocksMost, lending, result, lentInShape};
 ghost use Rattle.pull.specs.Pull.{answerOf, countOf, bufferAfter, written, pullRun, pulled};
-
-// The most nodes and blocks that a pull lists.
-const NODES_MOST: usize = 179;
-
-const BLOCKS_MOST: usize = 238;
 
 // A pull's numbers, as they cross to C.
 #[repr(C)]
@@ -130,101 +125,18 @@ fn block_of_file(
     }
 }
 
-// The inode number of a name in the directory whose inode is the block `at`.
-fn find_from_inode(
-    image: &[u8],
-    v: checkpoint::Volume,
-    nodes: &mut [u8],
-    blocks: &mut [u8],
-    counts: walk::Counts,
-    at: u32,
-    name: &[u8],
-) -> directory::EntryStep
-    requires { ⌜ Fits (imageView (now image) v) (atRoot (boundsOf v) (now name) (cardOf (now image) .block at))
-        (lists (now nodes) (now blocks) counts) ⌝ }
-    requires { ⌜ VolumeIn (cardOf (now image)) v ⌝ }
-    requires { ⌜ at < cardOf (now image) .blocks ⌝ }
-    ensures { λ r. ⌜ Walked (imageView (now (image .entry)) v)
-        (atRoot (boundsOf v) (now (name .entry)) (cardOf (now (image .entry)) .block at))
-        (lists (now (nodes .entry)) (now (blocks .entry)) counts) (entryOf (r .entry))
-        (lists (now (nodes .exit)) (now (blocks .exit)) (r .counts)) ⌝ }
-{
-    let i = inode::inode_of(field::block_at(image, at));
-    if !inode::is_directory(i) {
-        return directory::EntryStep {
-            entry: directory::Entry::Stop(answer::KIND_NOT_READ),
-            counts,
-        };
-    }
-    if i.size == 0 {
-        return directory::EntryStep {
-            entry: directory::Entry::Stop(answer::NO_NAME),
-            counts,
-        };
-    }
-    let file = node::File {
-        ino: 3,
-        inode: at,
-        addresses: inode::addresses_in(i),
-    };
-    let inline = inode::has_inline_dentry(i);
-    let dir_level = inode::dir_level_in(i);
-    let levels = inode::levels_in(i);
-    let hash = name_hash::hash(name);
-    directory::find(
-        image,
-        v,
-        nodes,
-        blocks,
-        counts,
-        file,
-        inline,
-        dir_level,
-        levels,
-        hash,
-        name,
-    )
-}
-
-// The inode number of a name in the root directory.
-fn find_in_root(
-    image: &[u8],
-    v: checkpoint::Volume,
-    nodes: &mut [u8],
-    blocks: &mut [u8],
-    counts: walk::Counts,
-    name: &[u8],
-) -> directory::EntryStep
-    requires { ⌜ Fits (imageView (now image) v) (rootWalk (boundsOf v) (now name)) (lists (now nodes) (now blocks) counts) ⌝ }
-    requires { ⌜ VolumeIn (cardOf (now image)) v ⌝ }
-    ensures { λ r. ⌜ Walked (imageView (now (image .entry)) v) (rootWalk (boundsOf v) (now (name .entry)))
-        (lists (now (nodes .entry)) (now (blocks .entry)) counts) (entryOf (r .entry))
-        (lists (now (nodes .exit)) (now (blocks .exit)) (r .counts)) ⌝ }
-{
-    let step = node::node_step(image, v, nodes, blocks, counts, 3, 3, 0);
-    let found = step.found;
-    let listed = step.counts;
-    match found {
-        node::Found::Stop(answer) => directory::EntryStep {
-            entry: directory::Entry::Stop(answer),
-            counts: listed,
-        },
-        node::Found::At(at) => find_from_inode(image, v, nodes, blocks, listed, at, name),
-    }
-}
-
 // The walk of a pull, over lists that are empty yet.
 fn walk_to(
     image: &[u8],
     v: checkpoint::Volume,
     nodes: &mut [u8],
     blocks: &mut [u8],
-    name: &[u8],
+    path: &[u8],
     index: u32,
 ) -> BlockStep
-    requires { ⌜ Fits (imageView (now image) v) (pullWalk (boundsOf v) (now name) index) (lists (now nodes) (now blocks) none) ⌝ }
+    requires { ⌜ Fits (imageView (now image) v) (pullWalk (boundsOf v) (now path) index) (lists (now nodes) (now blocks) none) ⌝ }
     requires { ⌜ VolumeIn (cardOf (now image)) v ⌝ }
-    ensures { λ r. ⌜ Walked (imageView (now (image .entry)) v) (pullWalk (boundsOf v) (now (name .entry)) index)
+    ensures { λ r. ⌜ Walked (imageView (now (image .entry)) v) (pullWalk (boundsOf v) (now (path .entry)) index)
         (lists (now (nodes .entry)) (now (blocks .entry)) none) (blockFound (cardOf (now (image .entry))) (r .data) (r .start) (r .bytes))
         (lists (now (nodes .exit)) (now (blocks .exit)) (r .counts)) ⌝ }
     ensures { λ r. ⌜ DataIn (cardOf (now (image .entry))) (r .data) × (r .start + r .bytes ≤ 4096) ⌝ }
@@ -233,7 +145,7 @@ fn walk_to(
         nodes: 0,
         blocks: 0,
     };
-    let step = find_in_root(image, v, nodes, blocks, empty, name);
+    let step = path_lookup::find_path(image, v, nodes, blocks, empty, path);
     let entry = step.entry;
     let listed = step.counts;
     match entry {
@@ -301,30 +213,32 @@ fn refused_pull(answer: u32) -> Pulled
     }
 }
 
-// Whether the lent memory is of the lengths that a pull takes.
-fn lent_in_shape(block: usize, nodes: usize, blocks: usize) -> bool
-    ensures { λ r. ⌜ r ≡ (eqb block 4096 && leb nodesMost (nodes / 4) && leb blocksMost (blocks / 4)) ⌝ }
+// Whether the lent memory is of the lengths that a pull of k names takes.
+fn lent_in_shape(k: usize, block: usize, nodes: usize, blocks: usize) -> bool
+    requires { ⌜ k ≤ 8 ⌝ }
+    ensures { λ r. ⌜ r ≡ (eqb block 4096 && leb (nodesMost k) (nodes / 4) && leb (blocksMost k) (blocks / 4)) ⌝ }
 {
-    (block == 4096) & (NODES_MOST <= nodes / 4) & (BLOCKS_MOST <= blocks / 4)
+    (block == 4096) & (175 * k + 4 <= nodes / 4) & (233 * k + 5 <= blocks / 4)
 }
 
 // A pull from an opened card.
 fn pull_opened(
     image: &[u8],
     v: checkpoint::Volume,
-    name: &[u8],
+    path: &[u8],
     index: u32,
     block: &mut [u8],
     nodes: &mut [u8],
     blocks: &mut [u8],
 ) -> Pulled
     requires { ⌜ VolumeIn (cardOf (now image)) v ⌝ }
-    requires { ⌜ lentInShape (lending (now block) (now nodes) (now blocks)) ≡ true ⌝ }
+    requires { ⌜ isPath (now path) ≡ true ⌝ }
+    requires { ⌜ lentInShape (partCount (now path)) (lending (now block) (now nodes) (now blocks)) ≡ true ⌝ }
     ensures { λ r. ⌜ result r (lending (now (block .exit)) (now (nodes .exit)) (now (blocks .exit)))
-        ≡ written (pullRun (cardOf (now (image .entry))) v (now (name .entry)) index)
+        ≡ written (pullRun (cardOf (now (image .entry))) v (now (path .entry)) index)
         (lending (now (block .entry)) (now (nodes .entry)) (now (blocks .entry))) ⌝ }
 {
-    let step = walk_to(image, v, nodes, blocks, name, index);
+    let step = walk_to(image, v, nodes, blocks, path, index);
     let data = step.data;
     let listed = step.counts;
     let done = deliver(image, data, step.start, step.bytes, block);
@@ -336,26 +250,27 @@ fn pull_opened(
     }
 }
 
-// One block of a named file. The call's shape is tested first, then the image is opened, then walked.
+// One block of the file that a path leads to. The call's shape is tested first, then the image is opened, then walked.
 pub fn pull(
     image: &[u8],
-    name: &[u8],
+    path: &[u8],
     index: u32,
     block: &mut [u8],
     nodes: &mut [u8],
     blocks: &mut [u8],
 ) -> Pulled
     ensures { λ r. ⌜ result r (lending (now (block .exit)) (now (nodes .exit)) (now (blocks .exit)))
-        ≡ pulled (now (image .entry)) (now (name .entry)) index
+        ≡ pulled (now (image .entry)) (now (path .entry)) index
         (lending (now (block .entry)) (now (nodes .entry)) (now (blocks .entry))) ⌝ }
 {
+    let k = path::name_count(path);
     if !(superblock::in_shape(image.len())
-        & name_hash::is_name(name)
-        & lent_in_shape(block.len(), nodes.len(), blocks.len())) {
+        & (k != 0)
+        & lent_in_shape(k, block.len(), nodes.len(), blocks.len())) {
         return refused_pull(answer::OUT_OF_SHAPE);
     }
     match checkpoint::open(image) {
         checkpoint::Opening::Refused(number) => refused_pull(number),
-        checkpoint::Opening::Opened(v) => pull_opened(image, v, name, index, block, nodes, blocks),
+        checkpoint::Opening::Opened(v) => pull_opened(image, v, path, index, block, nodes, blocks),
     }
 }

@@ -93,7 +93,7 @@ add-count : tie.Need-add-count Inv-loop μ-loop
 add-count c = search needs
 
 returns-2 : tie.Need-returns-2 Inv-loop μ-loop
-returns-2 c = 
+returns-2 c =
     let k = c .before in
     sym (rw (eq-eqb _ _ (c .if2 .taken)) at (counted-on k) ∙ count-all _ (omega arith))
 

@@ -7,7 +7,7 @@ use Rattle.walk.specs.Walk.{ok}
 use Rattle.walk.proofs.Fits.{fits-first}
 use Rattle.node.specs.Found.{foundOf, FoundIn}
 use Rattle.pull.specs.Walk.{atFile, fileWalk}
-use Rattle.pull.proofs.Cases.{both-stop, second-fits, both-walked}
+use Rattle.walk.proofs.Both.{both-stop, second-fits, both-walked}
 use borrow.Author.Needs.{needs}
 use Rattle.pull.proofs.block_of_file.Statement.{statement}
 use Rattle.pull.proofs.block_of_file.Tie as tie

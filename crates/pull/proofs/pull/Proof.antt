@@ -1,18 +1,24 @@
 -- `pull` meets its contract: out of shape, refused by the opening, or walked.
-use mathlib.Core.Path.{_≡_, sym, ap, _∙_}
-use mathlib.Core.Bool.{true, _&&_}
+use Prim.Native.Nat.{ℕ, _≤_}
+use mathlib.Core.Path.{_≡_, sym, ap, subst, _∙_}
+use mathlib.Core.Bool.{true, not, _&&_}
+use lib.Dec.{eqb}
 use borrow.Author.Tests.{not-true, not-false}
 use Rattle.checkpoint.proofs.Inside.{image-volume}
+use Rattle.path.proofs.Counting.{count-few}
 use Rattle.pull.specs.declared.Pulled.{Pulled}
 use Rattle.pull.specs.Pull.{Lent, lending, result, lentInShape, callInShape}
-use Rattle.pull.proofs.Results.{call-refused, call-opens, lent-shape}
+use Rattle.pull.proofs.Results.{call-refused, call-opens, path-in-shape, lent-shape, counted-shape}
 use borrow.Author.Needs.{needs}
 use Rattle.pull.proofs.pull.Statement.{statement}
 use Rattle.pull.proofs.pull.Tie as tie
 
 -- ---- the places on the way
+abbrev counted-of : tie.After-lent-in-shape → tie.After-name-count
+counted-of k = k .before .before
+
 abbrev start-of : tie.After-lent-in-shape → tie.Start
-start-of k = k .before .before .before .before .before .before .before .before
+start-of k = counted-of k .before .before .before .before .before .before
 
 abbrev lent-of : tie.Start → Lent
 lent-of s = lending (s .args .block .now) (s .args .nodes .now) (s .args .blocks .now)
@@ -26,12 +32,15 @@ opened-of k = k .before .before
 
 -- ---- what is known there
 tested : (k : tie.After-lent-in-shape) → let s = start-of k in
-    callInShape (s .args .image .now) (s .args .name .now) (lent-of s)
-    ≡ (k .before .before .in-shape .result && k .before .is-name .result && k .lent-in-shape .result)
-unfolding callInShape lentInShape
-tested k = rw (← k .before .before .in-shape .ensures, ← k .before .is-name .ensures, ← k .lent-in-shape .ensures)
+    callInShape (s .args .image .now) (s .args .path .now) (lent-of s)
+    ≡ (k .before .in-shape .result && not (eqb (counted-of k .name-count .result) 0) && k .lent-in-shape .result)
+unfolding lentInShape
+tested k =
+    let s = start-of k in
+    counted-shape (s .args .image .now) (s .args .path .now) (s .args .index) (lent-of s) (counted-of k .name-count .ensures)
+    (k .before .in-shape .ensures) (k .lent-in-shape .ensures)
 
-in-shape : (k : tie.After-open) → let s = begun k in callInShape (s .args .image .now) (s .args .name .now) (lent-of s) ≡ true
+in-shape : (k : tie.After-open) → let s = begun k in callInShape (s .args .image .now) (s .args .path .now) (lent-of s) ≡ true
 in-shape k = tested (k .before .before) ∙ not-false _ (k .before .if1 .left)
 
 -- ---- the needs
@@ -39,11 +48,13 @@ in-shape k = tested (k .before .before) ∙ not-false _ (k .before .if1 .left)
 in-shape-requires : tie.Need-in-shape-requires
 in-shape-requires c κs = search needs
 
-is-name-requires : tie.Need-is-name-requires
-is-name-requires c κs = search needs
+name-count-requires : tie.Need-name-count-requires
+name-count-requires c κs = search needs
 
 lent-in-shape-requires : tie.Need-lent-in-shape-requires
-lent-in-shape-requires c κs = search needs
+lent-in-shape-requires c κs =
+    let n = c .before in
+    subst (λ (k : ℕ). k ≤ 8) (sym (n .name-count .ensures)) (count-few _)
 
 refused-pull-requires : tie.Need-refused-pull-requires
 refused-pull-requires c κs = search needs
@@ -54,7 +65,7 @@ returns c =
     let s = start-of k in
     let out = tested k ∙ not-true _ (c .before .if1 .taken) in
     ap (λ (p : Pulled). result p (lent-of s)) (c .refused-pull .ensures)
-    ∙ sym (call-refused (s .args .image .now) (s .args .name .now) (s .args .index) (lent-of s) out)
+    ∙ sym (call-refused (s .args .image .now) (s .args .path .now) (s .args .index) (lent-of s) out)
 
 open-requires : tie.Need-open-requires
 open-requires c κs = search needs
@@ -74,7 +85,13 @@ pull-opened-requires c κs =
     let o = opened-of k in
     let s = begun o in
     let opens = sym (o .«open» .ensures) ∙ k .v .given .1 in
-    (image-volume _ _ opens, lent-shape (s .args .image .now) (s .args .name .now) (s .args .index) (lent-of s) (in-shape o))
+    let shape = in-shape o in (
+      image-volume _ _ opens,
+      (
+        path-in-shape (s .args .image .now) (s .args .path .now) (s .args .index) (lent-of s) shape,
+        lent-shape (s .args .image .now) (s .args .path .now) (s .args .index) (lent-of s) shape,
+      ),
+    )
 
 returns-2 : tie.Need-returns-2
 returns-2 c =
@@ -83,7 +100,7 @@ returns-2 c =
     let s = begun o in
     let opens = sym (o .«open» .ensures) ∙ k .number .given .1 in
     ap (λ (p : Pulled). result p (lent-of s)) (c .refused-pull2 .ensures)
-    ∙ sym (call-opens (s .args .image .now) (s .args .name .now) (s .args .index) (lent-of s) _ (in-shape o) opens)
+    ∙ sym (call-opens (s .args .image .now) (s .args .path .now) (s .args .index) (lent-of s) _ (in-shape o) opens)
 
 same-length : tie.Need-same-length
 same-length c = search needs
@@ -101,14 +118,14 @@ returns-3 c =
     let o = opened-of k in
     let s = begun o in
     let opens = sym (o .«open» .ensures) ∙ k .v .given .1 in
-    end .pull-opened .ensures ∙ sym (call-opens (s .args .image .now) (s .args .name .now) (s .args .index) (lent-of s) _ (in-shape o) opens)
+    end .pull-opened .ensures ∙ sym (call-opens (s .args .image .now) (s .args .path .now) (s .args .index) (lent-of s) _ (in-shape o) opens)
 
 pub pull-spec : {M : Type 1} → statement M
 pull-spec =
     tie.close
     (tie.spec
+    name-count-requires
     in-shape-requires
-    is-name-requires
     lent-in-shape-requires
     refused-pull-requires
     returns
