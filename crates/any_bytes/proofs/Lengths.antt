@@ -21,9 +21,9 @@ module _ (image : List ℕ) (out : inShape (length image) ≡ false) where
   pub lookup-out-of-shape : (number : ℕ) → lookupOf image number ≡ record { answer = 4; inode = 0; address = 0 }
   lookup-out-of-shape = lookup-refused image 4 (shape-refuses image out)
 
-  pub pull-out-of-shape : (name : List ℕ) (index : ℕ) (lent : Lent) → pulled image name index lent ≡ refusedPull 4 lent
+  pub pull-out-of-shape : (path : List ℕ) (index : ℕ) (lent : Lent) → pulled image path index lent ≡ refusedPull 4 lent
   unfolding callInShape
-  pull-out-of-shape name index lent = call-refused image name index lent (rw out)
+  pull-out-of-shape path index lent = call-refused image path index lent (rw out)
 
   pub kept-out-of-shape : (fresh : List ℕ) (nodes blocks : Listed) → compared image fresh nodes blocks ≡ refused 4 0
   kept-out-of-shape fresh nodes blocks = shape-refused image fresh nodes blocks (rw out)

@@ -24,8 +24,8 @@ module _ (image : List ℕ) (n : ℕ) (refuses : openedImage image ≡ Refused n
   unfolding lookupOf
   lookup-refused number = rw refuses
 
-  pub pull-refused : (name : List ℕ) (index : ℕ) (lent : Lent) → callInShape image name lent ≡ true → pulled image name index lent ≡ refusedPull n lent
-  pull-refused name index lent shaped = call-opens image name index lent (Refused n) shaped refuses
+  pub pull-refused : (path : List ℕ) (index : ℕ) (lent : Lent) → callInShape image path lent ≡ true → pulled image path index lent ≡ refusedPull n lent
+  pull-refused path index lent shaped = call-opens image path index lent (Refused n) shaped refuses
 
   pub report-refused : (list : List ℕ) → segmentReport image list ≡ refusedReport n list
   report-refused list = refused-by-opening image list n (still-refused image n refuses)

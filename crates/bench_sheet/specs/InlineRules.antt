@@ -20,7 +20,8 @@ use Rattle.dentry.specs.Slot.{inlineLayout, entryAt, wanted, wellFormed, matche
 use Rattle.dentry.specs.Scan.{tallyFrom}
 use Rattle.name_hash.specs.Hash.{hashOf}
 use Rattle.directory.specs.Find.{findWalk}
-use Rattle.pull.specs.Walk.{Block, contentWalk, atFile, fileWalk, atRoot, rootWalk}
+use Rattle.path_lookup.specs.Lookup.{rootIno, atDirectory, directoryWalk}
+use Rattle.pull.specs.Walk.{Block, contentWalk, atFile, fileWalk}
 use Rattle.pull.specs.Pull.{contentAnswer, contentBytes}
 use Rattle.bench_sheet.specs.Line.{Line, _is_, Holds, yes}
 use Rattle.bench_sheet.specs.WalkRules.{main, lists, footed, inode, inodeBlock, scannedIn}
@@ -80,7 +81,7 @@ rootBlock inline size depth level =
 -- the inode number that a pull finds for "." there, or its answer, and what is listed then
 abbrev root : ℕ → ℕ → ℕ → ℕ → List ℕ
 root inline size depth level =
-    lists (λ ino. ino) (λ n. Entry n 4096) (λ b. rootBlock inline size depth level) (rootWalk main (46 ∷ []))
+    lists (λ ino. ino) (λ n. Entry n 4096) (λ b. rootBlock inline size depth level) (directoryWalk main (46 ∷ []) rootIno)
 
 abbrev inlineRules : List Line
 inlineRules =
@@ -122,5 +123,5 @@ pub inline-rules : Holds inlineRules
 unfolding le16 le32 le64 bytesOf lowBit zerosFrom sameAt insert run bind onward andThen inMain belongs atBlock atEntry nodeWalk
     inodeOf hasInlineData hasInlineDentry hasExtraAttr dataRoom isDirectory isRegular addressesIn isPast countIn
     wellFormed matches slotAt slotsFrom tallyFrom findWalk hashOf
-    contentWalk atFile fileWalk atRoot rootWalk
+    contentWalk atFile fileWalk atDirectory directoryWalk
 inline-rules = refl

@@ -31,7 +31,8 @@ use Rattle.dentry.specs.Scan.{tallyFrom, entriesIn, turnsIn, turnsMost}
 use Rattle.directory.specs.Find.{Directory, afterSlots, fetchFrom, afterBlock, bucketWalk, levelsWalk, findWalk}
 use Rattle.hash_level.specs.Level.{firstOf, bucketOf}
 use Rattle.name_hash.specs.Hash.{hashOf}
-use Rattle.pull.specs.Walk.{Block, contentWalk, atFile, fileWalk, atRoot, rootWalk}
+use Rattle.path_lookup.specs.Lookup.{rootIno, atDirectory, directoryWalk}
+use Rattle.pull.specs.Walk.{Block, contentWalk, atFile, fileWalk}
 use Rattle.pull.specs.Pull.{lending, lentInShape, contentAnswer}
 use Rattle.bench_sheet.specs.Line.{Line, _is_, Holds, yes}
 
@@ -315,7 +316,7 @@ scanRules =
 -- the root's inode at place 0, as its block says; the name is sought only if there is something to search
 abbrev root : ℕ → ℕ → ℕ → ℕ → ℕ → List ℕ
 root mode size depth level flag =
-    lists (λ ino. 0) (λ n. Entry n 4096) (λ b. footed (inodeBlock mode 0 size depth level) 3 3 flag) (rootWalk main (97 ∷ []))
+    lists (λ ino. 0) (λ n. Entry n 4096) (λ b. footed (inodeBlock mode 0 size depth level) 3 3 flag) (directoryWalk main (97 ∷ []) rootIno)
 
 -- n numbers from i on
 abbrev counting : ℕ → ℕ → List ℕ
@@ -330,7 +331,7 @@ bigRoot level depth =
 
 -- what a pull reads of it for ".", whose hash is 0
 abbrev searched : ℕ → ℕ → List ℕ
-searched level depth = lists (λ ino. 0) (λ n. Entry n 4096) (λ b. choose (eqb b 4096) (bigRoot level depth) []) (rootWalk main (46 ∷ []))
+searched level depth = lists (λ ino. 0) (λ n. Entry n 4096) (λ b. choose (eqb b 4096) (bigRoot level depth) []) (directoryWalk main (46 ∷ []) rootIno)
 
 -- and what the search reads for a hash
 abbrev searchedFor : ℕ → ℕ → ℕ → List ℕ
@@ -344,11 +345,11 @@ file table mode ino index =
     lists (λ (b : Block). contentAnswer (b .content)) table (λ b. footed (inodeBlock mode 0 4097 0 0) ino ino 0) (fileWalk main index ino)
 
 abbrev lent : ℕ → ℕ → ℕ → ℕ
-lent block nodes blocks = yes (lentInShape (lending (replicate block 0) (replicate nodes 0) (replicate blocks 0)))
+lent block nodes blocks = yes (lentInShape 1 (lending (replicate block 0) (replicate nodes 0) (replicate blocks 0)))
 
 abbrev pullRules : List Line
 pullRules =
-    -- "a block buffer of exactly 4,096 bytes, a node list of at least 179 and a block list of at least 238 32-bit numbers"
+    -- "a block buffer of exactly 4,096 bytes", and for one name "a node list of at least 179 and a block list of at least 238 32-bit numbers"
     (List.map (λ block. lent block 716 952) (4095 ∷ 4096 ∷ 4097 ∷ []) is (0 ∷ 1 ∷ 0 ∷ []))
     ∷ (List.map (λ nodes. lent 4096 nodes 952) (715 ∷ 716 ∷ 720 ∷ []) is (0 ∷ 1 ∷ 1 ∷ []))
     ∷ (List.map (lent 4096 716) (951 ∷ 952 ∷ 956 ∷ []) is (0 ∷ 1 ∷ 1 ∷ []))
@@ -400,6 +401,6 @@ scan-rules = refl
 pub pull-rules : Holds pullRules
 unfolding le16 le32 le64 bytesOf placeOf insert run bind onward andThen inMain belongs atBlock atEntry nodeWalk isHole dataWalk followWalk
     wayWalk blockWalk inodeOf hasInlineData hasInlineDentry hasExtraAttr dataRoom isDirectory isRegular addressesIn isPast countIn
-    contentWalk atFile fileWalk fetchFrom levelsWalk findWalk atRoot rootWalk lentInShape firstOf bucketOf bucketWalk afterBlock lowBit slotAt
+    contentWalk atFile fileWalk fetchFrom levelsWalk findWalk atDirectory directoryWalk lentInShape firstOf bucketOf bucketWalk afterBlock lowBit slotAt
     slotsFrom hashOf sameAt
 pull-rules = refl

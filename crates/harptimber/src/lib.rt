@@ -121,16 +121,16 @@ pub extern "C" fn harptimber_node_lookup(image: &[u8], number: u32) -> nat::Look
 #[no_mangle]
 pub extern "C" fn harptimber_pull(
     image: &[u8],
-    name: &[u8],
+    path: &[u8],
     index: u32,
     block: &mut [u8],
     nodes: &mut [u8],
     blocks: &mut [u8],
 ) -> pull::Pulled
     ensures { λ r. ⌜ result r (lending (now (block .exit)) (now (nodes .exit)) (now (blocks .exit)))
-        ≡ pulled (now (image .entry)) (now (name .entry)) index (lending (now (block .entry)) (now (nodes .entry)) (now (blocks .entry))) ⌝ }
+        ≡ pulled (now (image .entry)) (now (path .entry)) index (lending (now (block .entry)) (now (nodes .entry)) (now (blocks .entry))) ⌝ }
 {
-    pull::pull(image, name, index, block, nodes, blocks)
+    pull::pull(image, path, index, block, nodes, blocks)
 }
 
 #[no_mangle]

@@ -33,19 +33,19 @@ use Rattle.node.specs.Block.{Fetched, hole, held}
 use Rattle.pull_again.specs.Demand.{PastOpening, SameOn, SamePull}
 
 -- what a pull that got past opening left: its card opened, and its walk's result was written
-pub record Came (image name : List ℕ) (index : ℕ) (lent : Lent) : Type 0 where
+pub record Came (image path : List ℕ) (index : ℕ) (lent : Lent) : Type 0 where
   pub v : Volume
   pub opens : openedImage image ≡ Opened v
-  pub shape : callInShape image name lent ≡ true
-  pub wrote : pulled image name index lent ≡ written (pullRun (cardOf image) v name index) lent
+  pub shape : callInShape image path lent ≡ true
+  pub wrote : pulled image path index lent ≡ written (pullRun (cardOf image) v path index) lent
 
 -- it is no refusal, by its answer
-pub past-came : (image name : List ℕ) (index : ℕ) (lent : Lent) → PastOpening (pulled image name index lent) → Came image name index lent
-past-came image name index lent past = go refl (ends image name index lent)
+pub past-came : (image path : List ℕ) (index : ℕ) (lent : Lent) → PastOpening (pulled image path index lent) → Came image path index lent
+past-came image path index lent past = go refl (ends image path index lent)
   where
-    go : {r : Result} → pulled image name index lent ≡ r → PullEnds image name index lent r → Came image name index lent
+    go : {r : Result} → pulled image path index lent ≡ r → PullEnds image path index lent r → Came image path index lent
     go e (refusal answer p q f) =
-        let g : pulled image name index lent .numbers .answer ≡ answer = ap (λ (x : Result). x .numbers .answer) (e ∙ f) in
+        let g : pulled image path index lent .numbers .answer ≡ answer = ap (λ (x : Result). x .numbers .answer) (e ∙ f) in
         absurd (⊎-elim (λ l. omega arith) (λ l. omega arith) past)
     go e (walked v s o f) = record { v = v; opens = o; shape = s; wrote = e ∙ f }
 
@@ -58,39 +58,39 @@ module _ (r : Ran (Outcome Block)) (lent : Lent) where
   blocks-left = numbers-over (r .seen .blocks) (lent .blocks)
 
 -- they are the run's
-module _ {image name : List ℕ} {index : ℕ} {lent : Lent} (came : Came image name index lent) where
-  pub nodes-of-run : entries (nodesLeft (pulled image name index lent)) ≡ pullRun (cardOf image) (came .v) name index .seen .nodes
-  nodes-of-run = ap (λ (r : Result). entries (nodesLeft r)) (came .wrote) ∙ nodes-left (pullRun (cardOf image) (came .v) name index) lent
+module _ {image path : List ℕ} {index : ℕ} {lent : Lent} (came : Came image path index lent) where
+  pub nodes-of-run : entries (nodesLeft (pulled image path index lent)) ≡ pullRun (cardOf image) (came .v) path index .seen .nodes
+  nodes-of-run = ap (λ (r : Result). entries (nodesLeft r)) (came .wrote) ∙ nodes-left (pullRun (cardOf image) (came .v) path index) lent
 
-  pub blocks-of-run : entries (blocksLeft (pulled image name index lent)) ≡ pullRun (cardOf image) (came .v) name index .seen .blocks
-  blocks-of-run = ap (λ (r : Result). entries (blocksLeft r)) (came .wrote) ∙ blocks-left (pullRun (cardOf image) (came .v) name index) lent
+  pub blocks-of-run : entries (blocksLeft (pulled image path index lent)) ≡ pullRun (cardOf image) (came .v) path index .seen .blocks
+  blocks-of-run = ap (λ (r : Result). entries (blocksLeft r)) (came .wrote) ∙ blocks-left (pullRun (cardOf image) (came .v) path index) lent
 
 -- Compare takes them
-pub lists-fit : (image name : List ℕ) (index : ℕ) (lent : Lent) (came : Came image name index lent)
-    → listsInShape (boundsOf (came .v)) (nodesLeft (pulled image name index lent)) (blocksLeft (pulled image name index lent)) ≡ true
-lists-fit image name index lent came = rw (came .wrote) (lists-in-shape _ _ _ (fit (came .v)))
+pub lists-fit : (image path : List ℕ) (index : ℕ) (lent : Lent) (came : Came image path index lent)
+    → listsInShape (boundsOf (came .v)) (nodesLeft (pulled image path index lent)) (blocksLeft (pulled image path index lent)) ≡ true
+lists-fit image path index lent came = rw (came .wrote) (lists-in-shape _ _ _ (fit (came .v)))
   where
-    fit : (v : Volume) → ListsFit (boundsOf v) (nodesLeft (written (pullRun (cardOf image) v name index) lent))
-        (blocksLeft (written (pullRun (cardOf image) v name index) lent))
+    fit : (v : Volume) → ListsFit (boundsOf v) (nodesLeft (written (pullRun (cardOf image) v path index) lent))
+        (blocksLeft (written (pullRun (cardOf image) v path index) lent))
     fit v =
-        let runs : Ran (Outcome Block) = pullRun (cardOf image) v name index in
+        let runs : Ran (Outcome Block) = pullRun (cardOf image) v path index in
         record {
-          some = run-some (cardOf image) v name index;
+          some = run-some (cardOf image) v path index;
           nodesHeld = over-inside (runs .seen .nodes) (lent .nodes);
           blocksHeld = over-inside (runs .seen .blocks) (lent .blocks);
-          nodesRise = subst Rising (sym (nodes-left runs lent)) (run-rises (cardOf image) v name index .0);
-          blocksRise = subst Rising (sym (blocks-left runs lent)) (run-rises (cardOf image) v name index .1);
-          inside = subst (AllOf (λ b. inMain (boundsOf v) b ≡ true)) (sym (blocks-left runs lent)) (run-inside (cardOf image) v name index);
+          nodesRise = subst Rising (sym (nodes-left runs lent)) (run-rises (cardOf image) v path index .0);
+          blocksRise = subst Rising (sym (blocks-left runs lent)) (run-rises (cardOf image) v path index .1);
+          inside = subst (AllOf (λ b. inMain (boundsOf v) b ≡ true)) (sym (blocks-left runs lent)) (run-inside (cardOf image) v path index);
         }
 
 -- ---- the tree's law, applied once: cards that agree on what a run listed give the same run
-pub same-run : (kept : List ℕ) (v : Volume) (fresh : List ℕ) (u : Volume) (name : List ℕ) (index : ℕ)
-    → SameOn kept v fresh u (pullRun (cardOf kept) v name index .seen .nodes) (pullRun (cardOf kept) v name index .seen .blocks)
-    → pullRun (cardOf fresh) u name index ≡ pullRun (cardOf kept) v name index
+pub same-run : (kept : List ℕ) (v : Volume) (fresh : List ℕ) (u : Volume) (path : List ℕ) (index : ℕ)
+    → SameOn kept v fresh u (pullRun (cardOf kept) v path index .seen .nodes) (pullRun (cardOf kept) v path index .seen .blocks)
+    → pullRun (cardOf fresh) u path index ≡ pullRun (cardOf kept) v path index
 unfolding pullRun
-same-run kept v fresh u name index same =
-    let w = pullWalk (boundsOf v) name index in
-    ap (λ (m : Bounds). run (viewOf (cardOf fresh) u) empty (pullWalk m name index)) (sym (same .bounds))
+same-run kept v fresh u path index same =
+    let w = pullWalk (boundsOf v) path index in
+    ap (λ (m : Bounds). run (viewOf (cardOf fresh) u) empty (pullWalk m path index)) (sym (same .bounds))
     ∙ agree (viewOf (cardOf kept) v) (viewOf (cardOf fresh) u) empty w (same .tables) (same .bytes)
 
 -- the same run, written into any lent memory, is the same pull
@@ -123,19 +123,19 @@ same-opens kept fresh nodes blocks e = go (compare.ends kept fresh nodes blocks)
     go (told v u p q h f) a = record { u = u; freshOpens = q; some = in-shape-lists _ _ _ h .some }
 
 -- a pull with a node listed got past opening
-pub some-past : (image name : List ℕ) (index : ℕ) (lent : Lent) → 1 ≤ nodesLeft (pulled image name index lent) .count
-    → PastOpening (pulled image name index lent)
-some-past image name index lent some = go (ends image name index lent) some
+pub some-past : (image path : List ℕ) (index : ℕ) (lent : Lent) → 1 ≤ nodesLeft (pulled image path index lent) .count
+    → PastOpening (pulled image path index lent)
+some-past image path index lent some = go (ends image path index lent) some
   where
     outcome : (o : Outcome Block) → Ended Counted o → (answerOf o < 4) ⊎ (8 < answerOf o)
     outcome (ok b) q = let few = content-few (b .content) in inl (omega arith)
     outcome (stop answer) q = ending-inside answer q .2
 
-    go : {r : Result} → PullEnds image name index lent r → 1 ≤ nodesLeft r .count → PastOpening r
+    go : {r : Result} → PullEnds image path index lent r → 1 ≤ nodesLeft r .count → PastOpening r
     go {r} (refusal answer p q e) l =
         let none : nodesLeft r .count ≡ 0 = ap (λ (r : Result). nodesLeft r .count) e in
         absurd (omega arith)
-    go (walked v p q e) l = rw e (outcome (pullRun (cardOf image) v name index .value) (run-ended (cardOf image) v name index))
+    go (walked v p q e) l = rw e (outcome (pullRun (cardOf image) v path index .value) (run-ended (cardOf image) v path index))
 
 -- the same, of results that are known by an equation
 pub same-pulls : {r r' q q' : Result} → r ≡ r' → q ≡ q' → SamePull r' q' → SamePull r q

@@ -9,6 +9,7 @@ use Rattle.checkpoint.specs.declared.Volume.{Volume}
 use Rattle.nat.specs.Table.{tableAnswer}
 use Rattle.list.specs.Lists.{AllOf, entries}
 use Rattle.node.specs.Node.{boundsOf}
+use Rattle.path.specs.Path.{partCount}
 use Rattle.pull.specs.Pull.{Lent, Result, result, lentInShape, nodesLeft, blocksLeft, pulled}
 use Rattle.compare.specs.declared.Compared.{Compared}
 use Rattle.compare.specs.Compare.{compared}
@@ -39,8 +40,8 @@ pub record SamePull (r q : Result) : Type 0 where
 
 -- What a host that pulls, compares and pulls again has in hand, over the memory that it lent to the first pull and to the second:
 -- both pulls are the definition's, Compare says what it says of the first one's lists, and where that is "same" the pulls are the same.
-pub record PulledAgain (kept fresh name : List ℕ) (index : ℕ) (lent lent' left left' : Lent) (r : Again) : Type 0 where
-  pub first : result (r .first) left ≡ pulled kept name index lent
-  pub compared : r .compared ≡ said kept fresh (pulled kept name index lent)
-  pub second : result (r .second) left' ≡ pulled fresh name index lent'
-  pub same : lentInShape lent' ≡ true → r .compared .answer ≡ 15 → SamePull (result (r .first) left) (result (r .second) left')
+pub record PulledAgain (kept fresh path : List ℕ) (index : ℕ) (lent lent' left left' : Lent) (r : Again) : Type 0 where
+  pub first : result (r .first) left ≡ pulled kept path index lent
+  pub compared : r .compared ≡ said kept fresh (pulled kept path index lent)
+  pub second : result (r .second) left' ≡ pulled fresh path index lent'
+  pub same : lentInShape (partCount path) lent' ≡ true → r .compared .answer ≡ 15 → SamePull (result (r .first) left) (result (r .second) left')

@@ -13,7 +13,7 @@ pub struct Again {
 pub fn pull_again(
     kept: &[u8],
     fresh: &[u8],
-    name: &[u8],
+    path: &[u8],
     index: u32,
     block: &mut [u8],
     nodes: &mut [u8],
@@ -22,13 +22,13 @@ pub fn pull_again(
     fresh_nodes: &mut [u8],
     fresh_blocks: &mut [u8],
 ) -> Again
-    ensures { λ r. ⌜ PulledAgain (now (kept .entry)) (now (fresh .entry)) (now (name .entry)) index
+    ensures { λ r. ⌜ PulledAgain (now (kept .entry)) (now (fresh .entry)) (now (path .entry)) index
         (lending (now (block .entry)) (now (nodes .entry)) (now (blocks .entry)))
         (lending (now («fresh_block» .entry)) (now («fresh_nodes» .entry)) (now («fresh_blocks» .entry)))
         (lending (now (block .exit)) (now (nodes .exit)) (now (blocks .exit)))
         (lending (now («fresh_block» .exit)) (now («fresh_nodes» .exit)) (now («fresh_blocks» .exit))) r ⌝ }
 {
-    let first = pull::pull(kept, name, index, block, nodes, blocks);
+    let first = pull::pull(kept, path, index, block, nodes, blocks);
     let compared = compare::compare(
         kept,
         fresh,
@@ -37,7 +37,7 @@ pub fn pull_again(
         blocks,
         first.block_count,
     );
-    let second = pull::pull(fresh, name, index, fresh_block, fresh_nodes, fresh_blocks);
+    let second = pull::pull(fresh, path, index, fresh_block, fresh_nodes, fresh_blocks);
     Again {
         first,
         compared,

@@ -29,7 +29,7 @@ start-of k = k .before .before .before .before .before .before .before
 says : (k : tie.After-compare) → let a = start-of (known-at (pulled-at k)) .args in
     k .compare .result
     ≡ said (now (a .kept)) (now (a .fresh))
-    (pulled (now (a .kept)) (now (a .name)) (a .index) (lending (now (a .block)) (now (a .nodes)) (now (a .blocks))))
+    (pulled (now (a .kept)) (now (a .path)) (a .index) (lending (now (a .block)) (now (a .nodes)) (now (a .blocks))))
 says k =
     let a = start-of (known-at (pulled-at k)) .args in
     k .compare .ensures ∙ ap (said (now (a .kept)) (now (a .fresh))) (pulled-at k .pull .ensures)
