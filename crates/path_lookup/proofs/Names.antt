@@ -3,9 +3,11 @@ use Prim.Native.Nat.{ℕ}
 use mathlib.Core.Path.{_≡_, refl, sym, ap, _∙_}
 use mathlib.Core.List.{List, [], _∷_, _++_}
 use Rattle.walk.specs.Walk.{View, Seen, Walk, bind, Ran, ran, run, Outcome, ok, stop, onward, andThen}
-use Rattle.walk.proofs.Runs.{run-bind}
+use Rattle.walk.proofs.Runs.{run-bind, run-then, run-stop}
 use Rattle.node.specs.Node.{Bounds}
-use Rattle.path_lookup.specs.Lookup.{directoryWalk, namesWalk}
+use Rattle.path.specs.Path.{slash, partsOf}
+use Rattle.path.proofs.Laws.{parts-joined}
+use Rattle.path_lookup.specs.Lookup.{rootIno, directoryWalk, namesWalk, pathWalk}
 
 module _ (v : View) (m : Bounds) where
   -- what a walk came to, and then names from there
@@ -31,3 +33,29 @@ module _ (v : View) (m : Bounds) where
               ≡ then-names more (run v (r .seen) (onward (namesWalk m names) o))
           by (ok child) = ih (r .seen) child ∙ run-bind v (r .seen) (namesWalk m names child) (onward (namesWalk m more))
           by (stop answer) = refl
+
+  -- one name is the directory's own walk
+  pub names-one : (s : Seen) (name : List ℕ) (ino : ℕ) → run v s (namesWalk m (name ∷ []) ino) ≡ run v s (directoryWalk m name ino)
+  unfolding namesWalk andThen onward run
+  names-one s name ino = run-bind v s (directoryWalk m name ino) (onward (namesWalk m [])) ∙ go (run v s (directoryWalk m name ino))
+    where
+      go : (r : Ran (Outcome ℕ)) → then-names [] r ≡ r
+      go r = by (r .value)
+        where
+          by : (o : Outcome ℕ) → run v (r .seen) (onward (namesWalk m []) o) ≡ ran o (r .seen)
+          by (ok child) = refl
+          by (stop answer) = refl
+
+  -- ---- of paths: "a path of k names whose first j lead to a directory answers as the rest of it does from there"
+  module _ (s : Seen) (p q : List ℕ) where
+    joined : run v s (pathWalk m (p ++ slash ∷ q)) ≡ run v s (andThen (pathWalk m p) (namesWalk m (partsOf q)))
+    unfolding pathWalk
+    joined = ap (λ (names : List (List ℕ)). run v s (namesWalk m names rootIno)) (parts-joined p q) ∙ names-joined s (partsOf p) (partsOf q) rootIno
+
+    pub path-from : {t : Seen} {ino : ℕ} → run v s (pathWalk m p) ≡ ran (ok ino) t
+        → run v s (pathWalk m (p ++ slash ∷ q)) ≡ run v t (namesWalk m (partsOf q) ino)
+    path-from led = joined ∙ run-then v s (pathWalk m p) (namesWalk m (partsOf q)) led
+
+    -- or as its first names do, where they stop
+    pub path-stops : {t : Seen} {answer : ℕ} → run v s (pathWalk m p) ≡ ran (stop answer) t → run v s (pathWalk m (p ++ slash ∷ q)) ≡ ran (stop answer) t
+    path-stops led = joined ∙ run-stop v s (pathWalk m p) (namesWalk m (partsOf q)) led

@@ -3,3 +3,4 @@ pub mod Sizes
 pub mod Results
 pub mod Theorems
 pub mod Inline
+pub mod Paths
