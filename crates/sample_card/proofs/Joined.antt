@@ -16,7 +16,8 @@ use Rattle.field.proofs.Choosing.{either}
 use Rattle.superblock.specs.Shape.{mostBlocks, inShape}
 use Rattle.list.specs.Lists.{bytesOf}
 use Rattle.sample_card.specs.Image.{filled, zeros, superblock, pack, journal, sitBlock, natBlock, rootInode, fileInode, inlineInode}
-use Rattle.sample_card.specs.Image.{dotsBlock, dentryBlock, dataBlock, Run, runs, laidOut, joined, image, blockIn, card}
+use Rattle.sample_card.specs.Image.{dotsBlock, dentryBlock, folderInode, innerInode, innerBlock, dataBlock}
+use Rattle.sample_card.specs.Image.{Run, runs, laidOut, joined, image, blockIn, card}
 
 -- ---- any blocks
 
@@ -89,14 +90,17 @@ zeros-length = refl
 
 -- one each for the runs in their order
 runs-whole : Whole (List.map (λ r. r .block) runs)
-unfolding runs superblock pack journal sitBlock natBlock rootInode fileInode inlineInode dotsBlock dentryBlock dataBlock filled bytesOf
+unfolding
+    runs superblock pack journal sitBlock natBlock rootInode fileInode inlineInode dotsBlock dentryBlock
+    folderInode innerInode innerBlock dataBlock filled bytesOf
 runs-whole =
     refl then refl then zeros-length
     then refl then refl then refl then zeros-length
     then refl then zeros-length
     then refl then zeros-length
     then zeros-length
-    then refl then refl then refl then refl then refl then zeros-length then refl
+    then refl then refl then refl then refl then refl
+    then refl then refl then refl then zeros-length then refl
     then none
 
 sample-whole : Whole (laidOut runs)

@@ -1,4 +1,4 @@
--- What the definitions compute of the card once it is open: table answers, and the walks of five pulls.
+-- What the definitions compute of the card once it is open: table answers, and the walks of eight pulls.
 use mathlib.Core.Path.{_≡_, refl}
 use mathlib.Core.List.{[], _∷_}
 use lib.ListN.{drop}
@@ -20,10 +20,13 @@ use Rattle.node.specs.Block.{hole, held, isHole, dataWalk, wayWalk, blockWalk}
 use Rattle.hash_level.specs.Level.{firstOf, bucketOf}
 use Rattle.dentry.specs.Slot.{wellFormed, matches, slotAt, slotsFrom}
 use Rattle.directory.specs.Find.{fetchFrom, afterBlock, bucketWalk, levelsWalk, findWalk}
-use Rattle.pull.specs.Walk.{contentWalk, atFile, fileWalk, atRoot, rootWalk, pullWalk}
+use Rattle.path.specs.Path.{partsOf}
+use Rattle.path_lookup.specs.Lookup.{atDirectory, directoryWalk, namesWalk}
+use Rattle.pull.specs.Walk.{contentWalk, atFile, fileWalk, fromWalk, pullWalk}
 use Rattle.pull.specs.Pull.{pullRun}
-use Rattle.sample_card.specs.Image.{filled, name, missing, inlineName, pack, journal, natBlock, rootInode, fileInode, inlineInode}
-use Rattle.sample_card.specs.Image.{dentryBlock, dataBlock, runs, blockIn, card}
+use Rattle.sample_card.specs.Image.{filled, name, missing, inlineName, innerPath, throughFile, throughMissing}
+use Rattle.sample_card.specs.Image.{pack, journal, natBlock, rootInode, fileInode, inlineInode}
+use Rattle.sample_card.specs.Image.{dentryBlock, folderInode, innerInode, innerBlock, dataBlock, runs, blockIn, card}
 use Rattle.sample_card.specs.Volume.{volume}
 
 -- the root's from the journal, that of "brake.log" from the table
@@ -31,7 +34,8 @@ pub table-entries : (tableAnswer card volume 3 ≡ Entry 3 4193792) × (tableAns
 unfolding runs blockIn pack journal natBlock filled bytesOf le16 le32 topBit searchFrom journalFind inJournal inRange tableAddress entryIn inTable tableAnswer
 table-entries = (refl, refl)
 
--- block 1 of "brake.log"; its block 0, a hole; block 2, past its end; a name that isn't there; block 0 of the inline file
+-- block 1 of "brake.log"; its block 0, a hole; block 2, past its end; a name that isn't there; block 0 of the inline file. Of two
+-- names: block 0 of the folder's file; through a file; through a name that isn't there
 pub walks :
     (pullRun card volume name 1
     ≡ ran (ok (record { count = 7; content = held dataBlock })) (record { nodes = 3 ∷ 4 ∷ []; blocks = 4193792 ∷ 4193793 ∷ 4193794 ∷ 4194303 ∷ [] }))
@@ -41,8 +45,13 @@ pub walks :
     × (pullRun card volume missing 0 ≡ ran (stop 2) (record { nodes = 3 ∷ []; blocks = 4193792 ∷ 4193793 ∷ [] }))
     × (pullRun card volume inlineName 0
     ≡ ran (ok (record { count = 9; content = held (drop inlineStart inlineInode) })) (record { nodes = 3 ∷ 5 ∷ []; blocks = 4193792 ∷ 4193793 ∷ 4193796 ∷ [] }))
+    × (pullRun card volume innerPath 0
+    ≡ ran (ok (record { count = 4; content = held innerBlock }))
+    (record { nodes = 3 ∷ 6 ∷ 7 ∷ []; blocks = 4193792 ∷ 4193793 ∷ 4193797 ∷ 4193798 ∷ 4193799 ∷ [] }))
+    × (pullRun card volume throughFile 0 ≡ ran (stop 12) (record { nodes = 3 ∷ 4 ∷ []; blocks = 4193792 ∷ 4193793 ∷ 4193794 ∷ [] }))
+    × (pullRun card volume throughMissing 0 ≡ ran (stop 2) (record { nodes = 3 ∷ []; blocks = 4193792 ∷ [] }))
 unfolding
-    runs blockIn pack journal natBlock rootInode fileInode inlineInode dentryBlock filled bytesOf
+    runs blockIn pack journal natBlock rootInode fileInode inlineInode dentryBlock folderInode innerInode filled bytesOf
     le16 le32 le64 topBit lowBit sameAt
     halfRound round rounds tea pushAll keyOf absorb hashOf
     placeOf searchFrom journalFind inJournal inRange tableAddress entryIn inTable tableAnswer
@@ -51,5 +60,5 @@ unfolding
     inMain belongs atBlock atEntry nodeWalk isHole dataWalk wayWalk blockWalk
     firstOf bucketOf wellFormed matches slotAt slotsFrom
     fetchFrom afterBlock bucketWalk levelsWalk findWalk
-    contentWalk atFile fileWalk atRoot rootWalk pullWalk pullRun
-walks = (refl, refl, refl, refl, refl)
+    contentWalk atFile fileWalk partsOf atDirectory directoryWalk namesWalk fromWalk pullWalk pullRun
+walks = (refl, refl, refl, refl, refl, refl, refl, refl)

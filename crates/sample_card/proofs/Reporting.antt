@@ -19,7 +19,7 @@ unfolding runs blockIn journal filled bytesOf le16 sitJournalOf sitJournalReadab
 sit-journal-readable = refl
 
 -- the segments that are off, and the ones in all maps
-pub segments : (segmentsOff (sitEntry card volume) 1 ≡ []) × (onesInAll (sitEntry card volume) 1 ≡ 6)
+pub segments : (segmentsOff (sitEntry card volume) 1 ≡ []) × (onesInAll (sitEntry card volume) 1 ≡ 9)
 unfolding runs blockIn pack journal sitBlock filled bytesOf le16 le32 topBit searchFrom journalFind validCount onesBelow sitJournalOf tableAddress inTable
     sitEntry isOff segmentsOff onesInAll
 segments = (refl, refl)

@@ -1,4 +1,4 @@
--- Some card opens, and pulls on it answer 0, by a data block and by an inline file's inode: the definitions don't refuse everything. The
+-- Some card opens, and pulls on it answer 0, by a data block, by an inline file's inode and in a folder: the definitions don't refuse all. The
 -- card is as large as one may be, and what a pull reads of its main area lies behind byte 2^32. Each theorem is stated of the image's
 -- bytes, over the definitions that the contracts cite; all numbers are computed by them, the checksum and the names' hashes too.
 use Prim.Native.Nat.{ℕ, _*_, _/_, _≤_}
@@ -10,18 +10,20 @@ use Rattle.field.specs.Card.{Card}
 use Rattle.superblock.specs.Shape.{mostBlocks}
 use Rattle.checkpoint.specs.declared.Opening.the-variants.{Opened}
 use Rattle.checkpoint.specs.Volume.{opened, openedImage}
-use Rattle.name_hash.specs.Name.{nameBytes, isName}
+use Rattle.name_hash.specs.Name.{nameBytes}
 use Rattle.nat.specs.Lookup.{tableNumbers, lookupOf}
 use Rattle.list.specs.Lists.{bytesOf, over}
 use Rattle.sit.specs.Opening.{openedWithSit}
 use Rattle.sit.proofs.Openings.{journal-opens}
 use Rattle.segment_report.specs.Report.{reported, offOn, reportOf, segmentReport}
 use Rattle.segment_report.proofs.Ends.{made}
+use Rattle.path.specs.Path.{partsOf, partCount, areNames, isPath}
 use Rattle.walk.specs.Walk.{Ran, Outcome}
 use Rattle.pull.specs.Walk.{Block}
 use Rattle.pull.specs.Pull.{Lent, lending, Result, result, lentInShape, written, pullRun, pulled}
 use Rattle.pull.proofs.Results.{call-in-shape, call-opens}
-use Rattle.sample_card.specs.Image.{filled, name, missing, content, inlineName, inlineContent, inlineInode, dataBlock, image, card}
+use Rattle.sample_card.specs.Image.{filled, name, missing, content, inlineName, inlineContent, inlineInode, dataBlock}
+use Rattle.sample_card.specs.Image.{innerPath, throughFile, throughMissing, innerContent, innerBlock, image, card}
 use Rattle.sample_card.specs.Volume.{volume}
 use Rattle.sample_card.proofs.Joined.{image-length, image-shape, image-card}
 use Rattle.sample_card.proofs.Opening.{card-opens}
@@ -50,50 +52,71 @@ leaves answer count block nodes blocks lent =
     result (record { answer = answer; «byte_count» = count; «node_count» = length nodes; «block_count» = length blocks })
     (lending block (over nodes (lent .nodes)) (over blocks (lent .blocks)))
 
--- there is memory in shape to lend
-pub some-memory-fits : lentInShape (lending (replicate 4096 0) (replicate 716 0) (replicate 952 0)) ≡ true
+-- there is memory in shape to lend: for one name, and for eight
+pub some-memory-fits : (lentInShape 1 (lending (replicate 4096 0) (replicate 716 0) (replicate 952 0)) ≡ true)
+    × (lentInShape 8 (lending (replicate 4096 0) (replicate 5616 0) (replicate 7476 0)) ≡ true)
 unfolding lentInShape
-some-memory-fits = refl
+some-memory-fits = (refl, refl)
 
-module _ (lent : Lent) (fits : lentInShape lent ≡ true) where
-  walk-leaves : (n : List ℕ) (index : ℕ) (r : Ran (Outcome Block)) → isName n ≡ true → pullRun card volume n index ≡ r
-      → pulled image n index lent ≡ written r lent
-  walk-leaves n index r p e =
-      call-opens image n index lent (Opened volume) (call-in-shape image n index lent image-shape p fits) some-card-opens
-      ∙ ap (λ (c : Card). written (pullRun c volume n index) lent) image-card ∙ ap (λ (q : Ran (Outcome Block)). written q lent) e
+walk-leaves : (lent : Lent) (path : List ℕ) (index : ℕ) (r : Ran (Outcome Block)) → lentInShape (partCount path) lent ≡ true → isPath path ≡ true
+    → pullRun card volume path index ≡ r → pulled image path index lent ≡ written r lent
+walk-leaves lent path index r fits p e =
+    call-opens image path index lent (Opened volume) (call-in-shape image path index lent image-shape p fits) some-card-opens
+    ∙ ap (λ (c : Card). written (pullRun c volume path index) lent) image-card ∙ ap (λ (q : Ran (Outcome Block)). written q lent) e
 
+-- paths of one name
+module _ (lent : Lent) (fits : lentInShape 1 lent ≡ true) where
   -- 0, "data": the seven bytes of block 1 of "brake.log", and zeros; nodes 3 and 4 were looked up, and four blocks of the main area read
   pub a-pull-answers-0 : pulled image name 1 lent ≡ leaves 0 7 (content ++ replicate 4089 0) (3 ∷ 4 ∷ []) (4193792 ∷ 4193793 ∷ 4193794 ∷ 4194303 ∷ []) lent
-  unfolding nameBytes dataBlock filled
-  a-pull-answers-0 = walk-leaves name 1 _ refl (walks .0)
+  unfolding partsOf partCount areNames isPath nameBytes dataBlock filled
+  a-pull-answers-0 = walk-leaves lent name 1 _ fits refl (walks .0)
 
   -- K4, 0 of an inline file: its nine bytes from its inode, and zeros; the inode "is listed with its block and no data block of its own"
   pub an-inline-file-answers-0 : pulled image inlineName 0 lent
       ≡ leaves 0 9 (inlineContent ++ replicate 4087 0) (3 ∷ 5 ∷ []) (4193792 ∷ 4193793 ∷ 4193796 ∷ []) lent
-  unfolding nameBytes inlineInode filled bytesOf
-  an-inline-file-answers-0 = walk-leaves inlineName 0 _ refl (walks .4)
+  unfolding partsOf partCount areNames isPath nameBytes inlineInode filled bytesOf
+  an-inline-file-answers-0 = walk-leaves lent inlineName 0 _ fits refl (walks .4)
 
   -- 1, "hole"
   pub a-hole-answers-1 : pulled image name 0 lent ≡ leaves 1 4096 (replicate 4096 0) (3 ∷ 4 ∷ []) (4193792 ∷ 4193793 ∷ 4193794 ∷ []) lent
-  unfolding nameBytes
-  a-hole-answers-1 = walk-leaves name 0 _ refl (walks .1)
+  unfolding partsOf partCount areNames isPath nameBytes
+  a-hole-answers-1 = walk-leaves lent name 0 _ fits refl (walks .1)
 
   -- 2, "no such name"
   pub no-such-name-answers-2 : pulled image missing 0 lent ≡ leaves 2 0 (lent .block) (3 ∷ []) (4193792 ∷ 4193793 ∷ []) lent
-  unfolding nameBytes
-  no-such-name-answers-2 = walk-leaves missing 0 _ refl (walks .3)
+  unfolding partsOf partCount areNames isPath nameBytes
+  no-such-name-answers-2 = walk-leaves lent missing 0 _ fits refl (walks .3)
 
   -- 3, "past the end"
   pub past-the-end-answers-3 : pulled image name 2 lent ≡ leaves 3 0 (lent .block) (3 ∷ 4 ∷ []) (4193792 ∷ 4193793 ∷ 4193794 ∷ []) lent
-  unfolding nameBytes
-  past-the-end-answers-3 = walk-leaves name 2 _ refl (walks .2)
+  unfolding partsOf partCount areNames isPath nameBytes
+  past-the-end-answers-3 = walk-leaves lent name 2 _ fits refl (walks .2)
 
--- ---- Segment report: the card has one main segment, so a list of one number has room; its count isn't off, and six of its blocks
+-- K7, paths of two names
+module _ (lent : Lent) (fits : lentInShape 2 lent ≡ true) where
+  -- 0: the four bytes of "roads/wet.bin", and zeros; nodes 3, 6 and 7 were looked up, those of root, folder and file, and five blocks read
+  pub a-path-answers-0 : pulled image innerPath 0 lent
+      ≡ leaves 0 4 (innerContent ++ replicate 4092 0) (3 ∷ 6 ∷ 7 ∷ []) (4193792 ∷ 4193793 ∷ 4193797 ∷ 4193798 ∷ 4193799 ∷ []) lent
+  unfolding partsOf partCount areNames isPath nameBytes innerBlock filled
+  a-path-answers-0 = walk-leaves lent innerPath 0 _ fits refl (walks .5)
+
+  -- "brake.log/x": "Each name but the last must be a directory, else 12". The file's node was looked up, and its block read
+  pub through-a-file-answers-12 : pulled image throughFile 0 lent
+      ≡ leaves 12 0 (lent .block) (3 ∷ 4 ∷ []) (4193792 ∷ 4193793 ∷ 4193794 ∷ []) lent
+  unfolding partsOf partCount areNames isPath nameBytes
+  through-a-file-answers-12 = walk-leaves lent throughFile 0 _ fits refl (walks .6)
+
+  -- "gone/wet.bin": 2, "no such name", of its first name, so no further node is looked up. The blocks of its bucket are holes
+  pub through-a-missing-name-answers-2 : pulled image throughMissing 0 lent ≡ leaves 2 0 (lent .block) (3 ∷ []) (4193792 ∷ []) lent
+  unfolding partsOf partCount areNames isPath nameBytes
+  through-a-missing-name-answers-2 = walk-leaves lent throughMissing 0 _ fits refl (walks .7)
+
+-- ---- Segment report: the card has one main segment, so a list of one number has room; its count isn't off, and nine of its blocks
 -- are valid
 opens-with-sit : openedWithSit image ≡ Opened volume
 opens-with-sit = journal-opens image volume some-card-opens (rw image-card sit-journal-readable)
 
 pub a-report-answers-0 : (list : List ℕ) → 1 ≤ length list / 4
-    → segmentReport image list ≡ reported (record { answer = 0; count = 0; «valid_blocks» = 6 }) list
+    → segmentReport image list ≡ reported (record { answer = 0; count = 0; «valid_blocks» = 9 }) list
 unfolding reportOf offOn over bytesOf
 a-report-answers-0 list h = made image list volume opens-with-sit h ∙ rw (image-card, segments .0, segments .1)
