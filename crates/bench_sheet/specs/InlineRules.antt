@@ -70,18 +70,18 @@ handed (stop answer) = []
 abbrev bytes : List ℕ
 bytes = handed (run (record { table = λ n. OutOfRange; block = λ b. [] }) empty (atFile main 0 4 smallFile) .value)
 
--- an inline root with "." in slot 0, for inode 40: its bit at 364, its entry at 394, whose hash is 0, its name at 2,396
-abbrev rootBlock : ℕ → ℕ → ℕ → ℕ → List ℕ
-rootBlock inline size depth level =
+-- an inline directory with "." in slot 0, for a child: its bit at 364, its entry at 394, whose hash is 0, its name at 2,396
+abbrev pub dotBlock : ℕ → ℕ → ℕ → ℕ → ℕ → ℕ → List ℕ
+dotBlock ino child inline size depth level =
     let front = inodeBlock 0x4000 inline size depth level in
     let map = front ++ replicate (364 - length front) 0 ++ (1 ∷ []) in
-    let entry = map ++ replicate 33 0 ++ bytesOf (40 ∷ []) ++ (1 ∷ 0 ∷ 2 ∷ []) in
-    footed (entry ++ replicate (2396 - length entry) 0 ++ (46 ∷ [])) 3 3 0
+    let entry = map ++ replicate 33 0 ++ bytesOf (child ∷ []) ++ (1 ∷ 0 ∷ 2 ∷ []) in
+    footed (entry ++ replicate (2396 - length entry) 0 ++ (46 ∷ [])) ino ino 0
 
--- the inode number that a pull finds for "." there, or its answer, and what is listed then
+-- the inode number that a pull finds for "." in such a root, 40, or its answer, and what is listed then
 abbrev root : ℕ → ℕ → ℕ → ℕ → List ℕ
 root inline size depth level =
-    lists (λ ino. ino) (λ n. Entry n 4096) (λ b. rootBlock inline size depth level) (directoryWalk main (46 ∷ []) rootIno)
+    lists (λ ino. ino) (λ n. Entry n 4096) (λ b. dotBlock 3 40 inline size depth level) (directoryWalk main (46 ∷ []) rootIno)
 
 abbrev inlineRules : List Line
 inlineRules =

@@ -4,6 +4,7 @@ pub mod Sheet
 pub mod OpeningRules
 pub mod WalkRules
 pub mod InlineRules
+pub mod PathRules
 pub mod LevelRules
 pub mod SegmentRules
 pub mod CompareRules
