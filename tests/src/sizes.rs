@@ -2,9 +2,21 @@
 
 /// The most blocks that a card may have.
 pub const CARD_BLOCKS_MOST: u32 = 4_194_304;
-/// The most node numbers and blocks that a pull lists.
-pub const NODES_MOST: u32 = 179;
-pub const BLOCKS_MOST: u32 = 238;
+/// The most names that a path has.
+pub const NAMES_MOST: u32 = 8;
+/// The most node numbers and blocks that a pull of one name lists.
+pub const NODES_MOST: u32 = nodes_most(1);
+pub const BLOCKS_MOST: u32 = blocks_most(1);
 /// The most main segments that a card has: before them lie two blocks with the superblock, and two segments each of
 /// checkpoint, SIT and NAT.
 pub const SEGMENTS_MOST: u32 = (CARD_BLOCKS_MOST - 2) / 512 - 6;
+
+/// The most node numbers that a pull of so many names lists.
+pub const fn nodes_most(names: u32) -> u32 {
+    175 * names + 4
+}
+
+/// The most blocks.
+pub const fn blocks_most(names: u32) -> u32 {
+    233 * names + 5
+}

@@ -87,7 +87,7 @@ pub struct Kept<'a> {
 impl<'a> Kept<'a> {
     pub fn new(image: &'a Image, name: &'a [u8], index: u32) -> Kept<'a> {
         let call = Call::new(image, name, index);
-        let outcome = Outcome::of(crate::pull, &call, Lent::least());
+        let outcome = Outcome::of(crate::pull, &call, call.least());
         Kept { call, outcome }
     }
 
@@ -172,7 +172,8 @@ impl Compares {
     /// Pulls from the new card, into other memory.
     fn pull_again(&mut self, kept: &Kept, fresh: &Image) {
         let call = Call::new(fresh, kept.call.name, kept.call.index);
-        let again = Outcome::of(crate::pull, &call, Lent::longer(&mut self.trial.random));
+        let lent = Lent::longer(&mut self.trial.random, call.names());
+        let again = Outcome::of(crate::pull, &call, lent);
         let input = ("pull again, beside the kept card's", &call);
         self.trial
             .compare(input, again.result(), kept.outcome.result());

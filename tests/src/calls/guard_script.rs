@@ -5,7 +5,6 @@ use std::fs;
 use std::process::Command;
 
 use crate::calls::answers::Answers;
-use crate::calls::lent::Lent;
 use crate::calls::pulls::{reference_pull, Call, Outcome};
 use crate::calls::segments::reported;
 use crate::cards::image::Image;
@@ -145,7 +144,7 @@ fn hex(bytes: &[u8]) -> String {
 }
 
 fn pulled(call: &Call) -> Outcome {
-    Outcome::of(reference_pull, call, Lent::least())
+    Outcome::of(reference_pull, call, call.least())
 }
 
 /// The answer to a compare with the lists of a pull.

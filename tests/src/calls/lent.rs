@@ -5,7 +5,7 @@ use std::fmt::{Debug, Formatter, Result};
 use std::ops::Range;
 
 use crate::cards::layout::BLOCK_SIZE;
-use crate::sizes::{BLOCKS_MOST, NODES_MOST};
+use crate::sizes::{blocks_most, nodes_most};
 use crate::trial::Random;
 
 /// Bytes of a number in a list.
@@ -25,12 +25,17 @@ pub struct Lens {
 }
 
 impl Lens {
-    /// The shortest that are in shape.
+    /// The shortest that are in shape for one name.
     pub fn least() -> Lens {
+        Lens::of(1)
+    }
+
+    /// For a path of so many.
+    pub fn of(names: u32) -> Lens {
         Lens {
             block: BLOCK_SIZE,
-            nodes: NODES_MOST as usize * NUMBER_SIZE,
-            blocks: BLOCKS_MOST as usize * NUMBER_SIZE,
+            nodes: nodes_most(names) as usize * NUMBER_SIZE,
+            blocks: blocks_most(names) as usize * NUMBER_SIZE,
         }
     }
 }
@@ -141,15 +146,20 @@ impl Lent {
         }
     }
 
-    /// As little as is in shape.
+    /// As little as is in shape for one name.
     pub fn least() -> Lent {
-        Lent::new(Lens::least(), Pattern::Plain, 0)
+        Lent::of(1)
+    }
+
+    /// For a path of so many.
+    pub fn of(names: u32) -> Lent {
+        Lent::new(Lens::of(names), Pattern::Plain, 0)
     }
 
     /// Other memory with longer lists, mostly with a remainder of one to three bytes.
-    pub fn longer(random: &mut Random) -> Lent {
+    pub fn longer(random: &mut Random, names: u32) -> Lent {
         let shift = random.below(MOST_SHIFT) as usize;
-        let mut lens = Lens::least();
+        let mut lens = Lens::of(names);
         for len in [&mut lens.nodes, &mut lens.blocks] {
             *len += random.below(MOST_SPARE) as usize;
         }

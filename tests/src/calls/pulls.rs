@@ -9,11 +9,11 @@ use crate::calls::lent::{Lens, Lent, Pattern, Slice, NUMBER_SIZE};
 use crate::cards::card::ROOT;
 use crate::cards::image::Image;
 use crate::cards::layout::BLOCK_SIZE;
-use crate::sizes::{BLOCKS_MOST, NODES_MOST};
+use crate::sizes::{blocks_most, nodes_most, NAMES_MOST};
 use crate::trial::Trial;
 use crate::Pulled;
 
-/// What is asked of a pull. Any bytes may stand for the image; `image` says what they are.
+/// What is asked of a pull. Any bytes may stand for the image; `image` says what they are. The name may be a path.
 pub struct Call<'a> {
     pub image: &'a Image,
     pub bytes: &'a [u8],
@@ -29,6 +29,17 @@ impl<'a> Call<'a> {
             name,
             index,
         }
+    }
+
+    /// How many names the path has, or the most that one has.
+    pub fn names(&self) -> u32 {
+        let slashes = self.name.iter().filter(|&&byte| byte == b'/');
+        (1 + slashes.count() as u32).min(NAMES_MOST)
+    }
+
+    /// As little memory as is in shape.
+    pub fn least(&self) -> Lent {
+        Lent::of(self.names())
     }
 
     /// Makes the call, by the library or by the reference.
@@ -110,14 +121,14 @@ impl Outcome {
         (self.pulled, self.nodes(), self.blocks(), found)
     }
 
-    /// Which promises of the paper's table of answers are broken, whatever the image is.
-    fn broken(&self) -> Vec<&'static str> {
-        let promises = [self.kept_by_numbers(), self.kept_by_memory()].concat();
+    /// Which promises of the paper's table of answers are broken, whatever the image is, for a path of so many names.
+    fn broken(&self, names: u32) -> Vec<&'static str> {
+        let promises = [self.kept_by_numbers(names), self.kept_by_memory()].concat();
         let broken = promises.into_iter().filter(|&(_, kept)| !kept);
         broken.map(|(promise, _)| promise).collect()
     }
 
-    fn kept_by_numbers(&self) -> Vec<(&'static str, bool)> {
+    fn kept_by_numbers(&self, names: u32) -> Vec<(&'static str, bool)> {
         let opened = self.opened();
         let (nodes, blocks) = (self.nodes(), self.blocks());
         let rising = |list: &[u32]| list.is_sorted_by(|a, b| a < b);
@@ -125,8 +136,8 @@ impl Outcome {
         vec![
             ("answer", self.pulled.answer <= 14),
             ("byte count", bytes.contains(&self.pulled.byte_count)),
-            ("node count", nodes.len() <= NODES_MOST as usize),
-            ("block count", blocks.len() <= BLOCKS_MOST as usize),
+            ("node count", nodes.len() <= nodes_most(names) as usize),
+            ("block count", blocks.len() <= blocks_most(names) as usize),
             ("lists of the unopened", opened || blocks.is_empty()),
             ("root in the lists", opened == nodes.contains(&ROOT)),
             ("rising lists", rising(&nodes) && rising(&blocks)),
@@ -205,14 +216,14 @@ impl Debug for Bytes {
 
 /// The lists of a pull, by the reference.
 pub fn lists(call: &Call) -> (Vec<u32>, Vec<u32>) {
-    let outcome = Outcome::of(reference_pull, call, Lent::least());
+    let outcome = Outcome::of(reference_pull, call, call.least());
     (outcome.nodes(), outcome.blocks())
 }
 
 pub struct Pulls {
     pub trial: Trial,
     answers: Answers,
-    /// The shortest lists, filled once to be copied.
+    /// The shortest lists for one name, filled once to be copied.
     shortest: Lent,
 }
 
@@ -227,8 +238,9 @@ impl Pulls {
 
     /// Compares a pull with the reference's.
     pub fn compare(&mut self, image: &Image, name: &[u8], index: u32) {
-        let lents = self.in_shape();
-        self.check(&Call::new(image, name, index), lents, |_| (), ());
+        let call = Call::new(image, name, index);
+        let lents = self.in_shape(&call);
+        self.check(&call, lents, |_| (), ());
     }
 
     /// Compares also with the answer that the paper gives.
@@ -237,7 +249,7 @@ impl Pulls {
     }
 
     pub fn expect_call(&mut self, call: &Call, answer: u32) {
-        let lents = self.in_shape();
+        let lents = self.in_shape(call);
         self.check(call, lents, |outcome| outcome.pulled.answer, answer);
     }
 
@@ -265,7 +277,7 @@ impl Pulls {
             let block = Bytes(lent.block.bytes().to_vec());
             (pulled.answer, pulled.byte_count, block)
         };
-        let lents = self.in_shape();
+        let lents = self.in_shape(call);
         self.check(call, lents, says, paper);
     }
 
@@ -277,7 +289,7 @@ impl Pulls {
         };
         let paper = (answer, rising(nodes), rising(blocks));
         let says = |outcome: &Outcome| (outcome.pulled.answer, outcome.nodes(), outcome.blocks());
-        let lents = self.in_shape();
+        let lents = self.in_shape(call);
         self.check(call, lents, says, paper);
     }
 
@@ -294,7 +306,7 @@ impl Pulls {
             let outcome = Outcome::of(crate::pull, call, lent);
             Judged {
                 by_the_paper: says(&outcome),
-                broken: outcome.broken(),
+                broken: outcome.broken(call.names()),
                 outcome,
             }
         });
@@ -310,9 +322,13 @@ impl Pulls {
     }
 
     /// The least memory, and longer lists.
-    fn in_shape(&mut self) -> [Lent; 2] {
-        let longer = Lent::longer(&mut self.trial.random);
-        [self.shortest.clone(), longer]
+    fn in_shape(&mut self, call: &Call) -> [Lent; 2] {
+        let longer = Lent::longer(&mut self.trial.random, call.names());
+        let shortest = match call.names() {
+            1 => self.shortest.clone(),
+            _ => call.least(),
+        };
+        [shortest, longer]
     }
 
     /// Ends the trial, in which each of these answers has to have come up.

@@ -41,8 +41,12 @@ pub struct Card {
     pub random: Random,
     /// By inode number and place.
     nodes: BTreeMap<(u32, u32), Node>,
-    /// Blocks of the root directory by their index.
+    /// The directory that entries go into, at first the root.
+    pub folder: u32,
+    /// Its blocks by their index.
     pub directory: BTreeMap<u32, u32>,
+    /// Those of the other directories.
+    pub(super) left: BTreeMap<u32, BTreeMap<u32, u32>>,
     free_blocks: Vec<u32>,
     /// Blocks that are junk already.
     junk_blocks: Range<u32>,
@@ -83,7 +87,9 @@ impl Card {
             pack: pack.clone(),
             random,
             nodes: BTreeMap::new(),
+            folder: ROOT,
             directory: BTreeMap::new(),
+            left: BTreeMap::new(),
             free_blocks,
             junk_blocks: knobs.junk.map_or(0..0, |_| knobs.junk_blocks()),
             junk_slots: false,
@@ -246,8 +252,20 @@ impl Card {
         self.add_root_with(DirLevel(0), inline, depth)
     }
 
-    /// An inline one has no entries yet.
     pub fn add_root_with(&mut self, dir_level: DirLevel, inline: u64, depth: u32) -> u32 {
+        self.add_directory(ROOT, dir_level, inline, depth)
+    }
+
+    /// A directory that isn't linked yet. Returns its number.
+    pub fn add_folder(&mut self, dir_level: DirLevel, inline: u64, depth: u32) -> u32 {
+        let ino = self.free_number();
+        self.add_directory(ino, dir_level, inline, depth);
+        ino
+    }
+
+    /// Enters it. An inline one has no entries yet.
+    fn add_directory(&mut self, ino: u32, dir_level: DirLevel, inline: u64, depth: u32) -> u32 {
+        self.enter(ino);
         let size = match inline & INLINE_DENTRY {
             0 => BLOCK_SIZE,
             _ => INLINE_DIRECTORY_ROOM,
@@ -259,7 +277,7 @@ impl Card {
             (I_CURRENT_DEPTH, u64::from(depth)),
             (I_DIR_LEVEL, u64::from(dir_level.0)),
         ];
-        let block = self.add_inode(ROOT, &fields);
+        let block = self.add_inode(ino, &fields);
         if let Some(slots) = self.inline_slots() {
             self.image.clear_slots(slots);
         }

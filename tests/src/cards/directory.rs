@@ -1,6 +1,6 @@
-//! The root directory of a card: entries, and the blocks of its hash levels.
+//! A directory of a card: entries, and the blocks of its hash levels.
 
-use crate::cards::card::{Card, ROOT};
+use crate::cards::card::Card;
 use crate::cards::image::Image;
 use crate::cards::layout::dentry::*;
 use crate::cards::layout::inode::{INLINE_DENTRY, I_DIR_LEVEL, I_INLINE};
@@ -189,41 +189,50 @@ impl Linked {
     }
 }
 
+/// The directory that was entered last; at first that is the root.
 impl Card {
-    /// The root directory's own level, as its inode says now.
+    /// Entries go into this directory from now on.
+    pub fn enter(&mut self, folder: u32) {
+        let left = std::mem::take(&mut self.directory);
+        self.left.insert(self.folder, left);
+        self.directory = self.left.remove(&folder).unwrap_or_default();
+        self.folder = folder;
+    }
+
+    /// Its own level, as its inode says now.
     pub fn dir_level(&self) -> DirLevel {
-        DirLevel(self.image.get(self.inode_block(ROOT), I_DIR_LEVEL) as u32)
+        DirLevel(self.image.get(self.inode_block(self.folder), I_DIR_LEVEL) as u32)
     }
 
     /// A block of the bucket that a hash leads to; an empty one where there is none yet.
     pub fn bucket_block(&mut self, level: u32, hash: u32, nth: u32) -> u32 {
         let index = self.dir_level().index(level, hash, nth);
-        let last = last_index(self.addresses(ROOT));
+        let last = last_index(self.addresses(self.folder));
         assert!(index <= last.into(), "block {index} is past {last}");
         self.directory_block(index as u32)
     }
 
-    /// A block of the root directory; an empty one where there is none yet.
+    /// A block of it; an empty one where there is none yet.
     pub fn directory_block(&mut self, index: u32) -> u32 {
         if let Some(&block) = self.directory.get(&index) {
             return block;
         }
-        let block = self.add_block(ROOT, index);
+        let block = self.add_block(self.folder, index);
         self.image.clear_slots(block);
         self.directory.insert(index, block);
         block
     }
 
-    /// The block of the root directory at an index, if it has one there.
+    /// Its block at an index, if it has one there.
     pub fn block_at(&self, index: u64) -> Option<(u32, u32)> {
         let index = u32::try_from(index).ok()?;
         let block = self.directory.get(&index)?;
         Some((index, *block))
     }
 
-    /// The root directory's slots in its inode, if they stand there.
+    /// Its slots in its inode, if they stand there.
     pub fn inline_slots(&self) -> Option<Slots> {
-        let block = self.inode_block(ROOT);
+        let block = self.inode_block(self.folder);
         let inline = self.image.get(block, I_INLINE) & INLINE_DENTRY != 0;
         inline.then_some(Slots {
             block,

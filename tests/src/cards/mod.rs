@@ -8,6 +8,7 @@ pub mod dentry;
 pub mod dentry_block;
 pub mod directory;
 pub mod disks;
+pub mod folders;
 pub mod image;
 pub mod knobs;
 pub mod layout;

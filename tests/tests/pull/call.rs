@@ -1,18 +1,13 @@
-//! Pull: the shape of the call, which of several answers comes first, and the bench sheet.
+//! Pull: the shape of the call, and the bench sheet.
 
 use harptimber_tests::calls::lent::Lens;
 use harptimber_tests::calls::pulls::{Call, Pulls};
 use harptimber_tests::cards::card::ROOT;
-use harptimber_tests::cards::directory::in_slot;
 use harptimber_tests::cards::image::Image;
 use harptimber_tests::cards::knobs::Knobs;
-use harptimber_tests::cards::layout::checkpoint::{
-    CHECKSUM_OFFSET, CKPT_FLAGS, CP_LARGE_NAT_BITMAP_FLAG,
-};
-use harptimber_tests::cards::layout::inode::{I_MODE, I_SIZE, S_IFDIR, S_IFREG};
 use harptimber_tests::cards::layout::journal::{MOST_ENTRIES, N_NATS};
-use harptimber_tests::cards::layout::superblock::{FEATURE, MAGIC};
-use harptimber_tests::cards::layout::{dentry, footer, nat, Field, BLOCK_SIZE};
+use harptimber_tests::cards::layout::superblock::MAGIC;
+use harptimber_tests::cards::layout::BLOCK_SIZE;
 use harptimber_tests::cards::lengths::{lengths, LENGTHS};
 use harptimber_tests::cards::names::good_name;
 use harptimber_tests::cards::one_file::{Scene, Setting, NAME};
@@ -108,22 +103,29 @@ fn lent_lengths() {
     pulls.finish(8 * 9 * 9, &[0, 4]);
 }
 
-/// Also where the image doesn't open: the call's shape comes first.
+/// Whether a name may have so many bytes.
+fn is_name(len: usize) -> bool {
+    (1..=255).contains(&len)
+}
+
+/// Also where the image doesn't open: the call's shape comes first. A slash between two names makes a path of them, and
+/// the first isn't there.
 #[test]
 fn names() {
     let mut pulls = Pulls::new("pull by the shape of the name");
     let mut image = scene(&mut pulls).card.image;
     for opened in [true, false] {
+        let missing = if opened { 2 } else { 5 };
+        let answer = |is_path| if is_path { missing } else { 4 };
         for len in [0, 1, 2, 8, 254, 255, 256, 257, 300, 511, 4096] {
             let good = good_name(&mut pulls.trial.random, len);
-            let missing = if opened { 2 } else { 5 };
-            let answer = if (1..=255).contains(&len) { missing } else { 4 };
-            pulls.expect(&image, &good, 0, answer);
+            pulls.expect(&image, &good, 0, answer(is_name(len)));
             for place in (0..len).filter(|place| [0, 1, len / 2, len - 1].contains(place)) {
-                for bad in [0, b'/'] {
+                let two_names = is_name(place) && is_name(len - place - 1);
+                for (bad, is_path) in [(0, false), (b'/', two_names)] {
                     let mut name = good.clone();
                     name[place] = bad;
-                    pulls.expect(&image, &name, 0, 4);
+                    pulls.expect(&image, &name, 0, answer(is_path));
                 }
             }
         }
@@ -132,92 +134,6 @@ fn names() {
         }
     }
     pulls.finish(2 * (11 + 2 * (1 + 2 + 8 * 4)), &[2, 4, 5]);
-}
-
-/// An answer, and the number in a block that has to get a value for it.
-type Stop = (u32, u32, Field, u64);
-
-/// Where a pull can be stopped after opening, in the order in which it comes by. The index has to be
-/// behind a direct node.
-fn stops(scene: &mut Scene, index: u32) -> Vec<Stop> {
-    let way = scene.card.way(scene.ino, index);
-    let (root, file, node) = (scene.root_block(), scene.file_block(), way[1].node);
-    let directory = scene.card.way(ROOT, 0)[0];
-    let outside = u64::from(scene.card.image.areas.main_end);
-    let in_table = |nid, field: Field| {
-        let (block, at) = scene.card.entry_place(nid);
-        (block, field.moved(at))
-    };
-    let dentry = |field| (scene.linked.block, in_slot(field, scene.linked.slot));
-    let mut stops = Vec::new();
-    let mut stop = |answer, (block, field), value| stops.push((answer, block, field, value));
-    for (nid, block) in [(ROOT, root), (scene.ino, file), (node.nid, node.block)] {
-        stop(9, in_table(nid, nat::BLOCK_ADDR), 0);
-        stop(10, in_table(nid, nat::BLOCK_ADDR), outside);
-        stop(11, (block, footer::FLAG), 1 << 20);
-        if block == root {
-            stop(12, (root, I_MODE), S_IFREG);
-            stop(2, (root, I_SIZE), 0);
-            stop(13, (root, directory.slot), outside);
-            stop(14, dentry(dentry::NAME_LEN), 0);
-            stop(2, dentry(dentry::HASH_CODE), 0);
-            stop(9, dentry(dentry::INO), 0);
-        }
-        if block == file {
-            stop(12, (file, I_MODE), S_IFDIR);
-            stop(3, (file, I_SIZE), u64::from(index) * BLOCK_SIZE as u64);
-        }
-    }
-    stop(13, (node.block, way[1].slot), outside);
-    stop(1, (node.block, way[1].slot), 0);
-    stops
-}
-
-/// Makes everything wrong that can be, the first faults last. Each answer comes with the mark that
-/// takes its fault away.
-fn spoil(image: &mut Image, stops: &[Stop]) -> Vec<(usize, u32)> {
-    let mut marks = Vec::new();
-    for &(answer, block, field, value) in stops.iter().rev() {
-        marks.push((image.mark(), answer));
-        image.set(block, field, value);
-    }
-    let first = image.first_block(0);
-    marks.push((image.mark(), 8));
-    image.set_sealed(first, CKPT_FLAGS, u64::from(CP_LARGE_NAT_BITMAP_FLAG));
-    marks.push((image.mark(), 7));
-    image.set(first, CHECKSUM_OFFSET, 0);
-    for (answer, field, value) in [(6, FEATURE, 1), (5, MAGIC, 0)] {
-        marks.push((image.mark(), answer));
-        for copy in [0, 1] {
-            image.set(copy, field, value);
-        }
-    }
-    marks
-}
-
-/// A card with everything wrong at once, of which one fault after the other is taken away.
-#[test]
-fn first_answer_that_applies() {
-    const INDEX: u32 = 923;
-    let mut pulls = Pulls::new("pull with several faults");
-    let setting = Setting {
-        size: u64::MAX,
-        ..PLAIN
-    };
-    let mut scene = Scene::new(&mut pulls.trial.random, setting);
-    let data = scene.card.add_block(scene.ino, INDEX);
-    let stops = stops(&mut scene, INDEX);
-    let image = &mut scene.card.image;
-    image.settle("a block behind a direct node");
-    let marks = spoil(image, &stops);
-    pulls.expect(image, b"road/bin", INDEX, 4);
-    for (mark, answer) in marks.into_iter().rev() {
-        pulls.expect(image, NAME, INDEX, answer);
-        image.undo(mark);
-    }
-    pulls.expect_data(image, NAME, INDEX, image.block(data));
-    let every_answer: Vec<u32> = (0..=14).collect();
-    pulls.finish(1 + 4 + 19 + 1, &every_answer);
 }
 
 /// The bench sheet: size 4,097, of which index 1 gives count 1 and index 2 gives 3.

@@ -3,6 +3,7 @@
 mod call;
 mod directory;
 mod file;
+mod folders;
 mod inline_bits;
 mod inline_directory;
 mod inline_files;
@@ -11,5 +12,7 @@ mod levels;
 mod maps;
 mod nodes;
 mod packs;
+mod paths;
 mod random;
 mod slots;
+mod stops;

@@ -258,20 +258,21 @@ fn collisions() {
     pulls.finish(2 * 4 * 3, &[0, 2, 12]);
 }
 
-/// Names that the paper doesn't allow can't be asked for, but may stand in an entry.
+/// Names that the paper doesn't allow can't be asked for, but may stand in an entry. With a slash between two names a
+/// path is asked for.
 #[test]
 fn bad_names_in_entries() {
     let mut pulls = Pulls::new("pull past bad names");
     for mut slots in Slots::both(&mut pulls) {
-        for bad in [b"a\0b".as_slice(), b"a/b", b"\0", b"/"] {
+        for (bad, answer) in [(b"a\0b".as_slice(), 4), (b"a/b", 2), (b"\0", 4), (b"/", 4)] {
             slots.put(0, bad);
-            slots.expect(&mut pulls, bad, 4);
+            slots.expect(&mut pulls, bad, answer);
             slots.put(9, b"behind");
             slots.expect(&mut pulls, b"behind", 0);
             slots.undo();
         }
     }
-    pulls.finish(2 * 4 * 2, &[0, 4]);
+    pulls.finish(2 * 4 * 2, &[0, 2, 4]);
 }
 
 /// The dots have hash 0, and are found under no other.
