@@ -150,7 +150,7 @@ pub fn all_blocks(dir_level: DirLevel, name: &[u8]) -> Vec<(u32, u64)> {
 }
 
 /// Those in which it is sought.
-fn sought(dir_level: DirLevel, inline: u64, name: &[u8]) -> Vec<(u32, u32)> {
+pub fn sought(dir_level: DirLevel, inline: u64, name: &[u8]) -> Vec<(u32, u32)> {
     let last = u64::from(last_index(addresses_by(inline)));
     let blocks = all_blocks(dir_level, name).into_iter();
     let inside = blocks.filter(|&(_, index)| index <= last);

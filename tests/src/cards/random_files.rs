@@ -16,15 +16,15 @@ const FILES: usize = 8;
 const DEEPEST: u32 = 12;
 const MOST_JOURNALLED: u32 = 6;
 
-/// A pull, and what it passes on a sound card.
+/// A pull, of a name or a path, and what it passes on a sound card.
 pub struct Target {
     pub name: Vec<u8>,
     pub index: u32,
-    /// Nodes with the slots that lead on, in the directory's tree and the file's.
+    /// Nodes with the slots that lead on, in the directories' trees and the file's.
     pub passages: Vec<Passage>,
-    /// The blocks of the two inodes.
+    /// The blocks of the inodes, the root's first and the file's last.
     pub inodes: Vec<u32>,
-    /// Entries in the buckets that the name leads to, or in an inline directory.
+    /// Entries in the buckets that the names lead to, or in inline directories.
     pub entries: Vec<Linked>,
 }
 
@@ -43,10 +43,28 @@ impl Target {
             1 => name = good_name(random, 5),
             2 => name.clear(),
             3 => name[0] = pick(random, b"\0/"),
+            4..8 if name.contains(&b'/') => name = other_path(&name, random),
             _ => {}
         }
         (name, index)
     }
+}
+
+/// Mostly the same names: one of them is there twice, is missing, or has dots or a slash before it.
+fn other_path(path: &[u8], random: &mut Random) -> Vec<u8> {
+    let mut names: Vec<&[u8]> = path.split(|&byte| byte == b'/').collect();
+    let at = random.below(names.len() as u64) as usize;
+    let name = names[at];
+    let instead = [
+        vec![name, name],
+        vec![],
+        vec![b".", name],
+        vec![b"..", name],
+        vec![name, b"..", name],
+        vec![b"", name],
+    ];
+    names.splice(at..=at, instead[random.below(6) as usize].iter().copied());
+    names.join(&b'/')
 }
 
 pub fn any_target<'a>(targets: &'a [Target], random: &mut Random) -> &'a Target {
@@ -59,11 +77,18 @@ pub struct RandomFiles {
 }
 
 /// A file to be built, with a few of its blocks.
-struct File {
-    name: Vec<u8>,
-    ino: u32,
+pub(super) struct File {
+    pub name: Vec<u8>,
+    pub ino: u32,
     level: u32,
-    indexes: Vec<u32>,
+    pub indexes: Vec<u32>,
+}
+
+/// A directory, and a name that is sought in it.
+pub(super) struct Sought<'a> {
+    pub folder: u32,
+    pub depth: u32,
+    pub name: &'a [u8],
 }
 
 pub fn random_files(random: &mut Random) -> RandomFiles {
@@ -78,7 +103,7 @@ pub fn random_files_with(random: &mut Random, dir_level: DirLevel) -> RandomFile
     files_on(random, knobs, Root::with_blocks(dir_level))
 }
 
-fn small_knobs(random: &mut Random) -> Knobs {
+pub(super) fn small_knobs(random: &mut Random) -> Knobs {
     Knobs {
         main_segments: between(random, 1, 2),
         ..sound_knobs(random)
@@ -98,9 +123,9 @@ pub fn large_random_files(random: &mut Random) -> RandomFiles {
 
 /// A root directory: its level, and the inline bit if its entries stand in its inode.
 #[derive(Clone, Copy)]
-struct Root {
-    dir_level: DirLevel,
-    inline: u64,
+pub(super) struct Root {
+    pub dir_level: DirLevel,
+    pub inline: u64,
 }
 
 impl Root {
@@ -113,7 +138,7 @@ impl Root {
 }
 
 /// Every other time without a level, as most cards have it, and every fourth time inline.
-fn any_root(random: &mut Random) -> Root {
+pub(super) fn any_root(random: &mut Random) -> Root {
     let any = random.below(31) as u32;
     Root {
         dir_level: DirLevel(pick(random, &[0, any])),
@@ -130,19 +155,24 @@ fn files_on(random: &mut Random, knobs: Knobs, root: Root) -> RandomFiles {
         .map(|_| add_file(&mut card, random, depth))
         .collect();
     add_entries_aside(&mut card, random, &files);
-    journal_some(&mut card, random, &files);
+    let numbers = files.iter().map(|file| file.ino).chain([ROOT]);
+    journal_some(&mut card, random, numbers.collect());
     let mut targets = Vec::new();
     for file in &files {
-        for &index in &file.indexes {
-            targets.push(target(&mut card, file, index, depth));
-        }
+        let (folder, name) = (ROOT, &file.name);
+        let sought = [Sought {
+            folder,
+            depth,
+            name,
+        }];
+        targets.extend(targets_of(&mut card, &sought, file));
     }
     card.image.settle("random files");
     RandomFiles { card, targets }
 }
 
 /// The bit that decides over the addresses, and bits that decide nothing.
-fn any_inline(random: &mut Random) -> u64 {
+pub(super) fn any_inline(random: &mut Random) -> u64 {
     pick(random, &[0, INLINE_XATTR]) | pick(random, &[0, 0x08, 0x10, 0x40, 0x80])
 }
 
@@ -156,7 +186,7 @@ fn any_name(random: &mut Random) -> Vec<u8> {
 }
 
 /// A file under a name of its own, one in four an inline one.
-fn add_file(card: &mut Card, random: &mut Random, depth: u32) -> File {
+pub(super) fn add_file(card: &mut Card, random: &mut Random, depth: u32) -> File {
     let (ino, indexes) = match random.below(4) {
         0 => add_inline(card, random),
         _ => add_with_blocks(card, random),
@@ -193,7 +223,7 @@ fn add_with_blocks(card: &mut Card, random: &mut Random) -> (u32, Vec<u32>) {
 }
 
 /// A name with a hash level and the block of a bucket there, if it isn't past the last index.
-fn any_place(card: &Card, random: &mut Random, depth: u32) -> (Vec<u8>, u32, u32) {
+pub(super) fn any_place(card: &Card, random: &mut Random, depth: u32) -> (Vec<u8>, u32, u32) {
     loop {
         let name = any_name(random);
         let level = random.below(u64::from(depth)) as u32;
@@ -204,10 +234,10 @@ fn any_place(card: &Card, random: &mut Random, depth: u32) -> (Vec<u8>, u32, u32
     }
 }
 
-/// Whether the root directory can have a block of the bucket that a name leads to, or needs none.
+/// Whether a directory can have a block of the bucket that a name leads to, or needs none.
 fn has_block(card: &Card, level: u32, name: &[u8], nth: u32) -> bool {
     let index = card.dir_level().index(level, raw_hash(name), nth);
-    card.inline_slots().is_some() || index <= u64::from(last_index(card.addresses(ROOT)))
+    card.inline_slots().is_some() || index <= u64::from(last_index(card.addresses(card.folder)))
 }
 
 /// Indexes around one at which the way changes its nodes.
@@ -230,7 +260,7 @@ fn any_indexes(random: &mut Random, inline: u64) -> Vec<u32> {
 }
 
 /// Entries that a search has to pass: other names under a file's hash, and files that were deleted.
-fn add_entries_aside(card: &mut Card, random: &mut Random, files: &[File]) {
+pub(super) fn add_entries_aside(card: &mut Card, random: &mut Random, files: &[File]) {
     for file in files {
         let level = random.below(u64::from(file.level) + 1) as u32;
         let nth = random.below(u64::from(BUCKET_BLOCKS)) as u32;
@@ -250,31 +280,53 @@ fn add_entries_aside(card: &mut Card, random: &mut Random, files: &[File]) {
     }
 }
 
-fn journal_some(card: &mut Card, random: &mut Random, files: &[File]) {
+/// Moves the table's entries for some of these numbers to the journal.
+pub(super) fn journal_some(card: &mut Card, random: &mut Random, mut numbers: Vec<u32>) {
     let count = between(random, 0, MOST_JOURNALLED) as usize;
-    let numbers = files.iter().map(|file| file.ino).chain([ROOT]);
-    let mut numbers: Vec<u32> = numbers.collect();
     shuffle(random, &mut numbers);
     card.journal(&numbers[..count]);
 }
 
-fn target(card: &mut Card, file: &File, index: u32, depth: u32) -> Target {
-    let (mut passages, entries) = match card.inline_slots() {
-        Some(slots) => (card.inline_way(ROOT), card.image.entries_in(slots)),
-        None => in_buckets(card, &file.name, depth),
+/// Pulls of a file's blocks, by what is sought on the way.
+pub(super) fn targets_of(card: &mut Card, sought: &[Sought], file: &File) -> Vec<Target> {
+    let indexes = file.indexes.iter();
+    indexes
+        .map(|&index| target(card, sought, file, index))
+        .collect()
+}
+
+fn target(card: &mut Card, sought: &[Sought], file: &File, index: u32) -> Target {
+    let names: Vec<&[u8]> = sought.iter().map(|sought| sought.name).collect();
+    let mut target = Target {
+        name: names.join(&b'/'),
+        index,
+        passages: Vec::new(),
+        inodes: Vec::new(),
+        entries: Vec::new(),
     };
-    let file_block = card.inode_block(file.ino);
-    passages.extend(match card.image.get(file_block, I_INLINE) & INLINE_DATA {
+    for &Sought {
+        folder,
+        depth,
+        name,
+    } in sought
+    {
+        card.enter(folder);
+        let (passages, entries) = match card.inline_slots() {
+            Some(slots) => (card.inline_way(folder), card.image.entries_in(slots)),
+            None => in_buckets(card, name, depth),
+        };
+        target.passages.extend(passages);
+        target.entries.extend(entries);
+        target.inodes.push(card.inode_block(folder));
+    }
+    let inode = card.inode_block(file.ino);
+    target.inodes.push(inode);
+    let passages = match card.image.get(inode, I_INLINE) & INLINE_DATA {
         0 => card.way(file.ino, index),
         _ => card.inline_way(file.ino),
-    });
-    Target {
-        name: file.name.clone(),
-        index,
-        passages,
-        inodes: vec![card.inode_block(ROOT), file_block],
-        entries,
-    }
+    };
+    target.passages.extend(passages);
+    target
 }
 
 /// The ways to the buckets that a name leads to, and their entries.
@@ -286,7 +338,7 @@ fn in_buckets(card: &mut Card, name: &[u8], depth: u32) -> (Vec<Passage>, Vec<Li
         for nth in 0..BUCKET_BLOCKS {
             let index = dir_level.index(level, hash, nth);
             if let Some((bucket, block)) = card.block_at(index) {
-                passages.extend(card.way(ROOT, bucket));
+                passages.extend(card.way(card.folder, bucket));
                 entries.extend(card.image.entries_in(block));
             }
         }

@@ -5,4 +5,5 @@ mod checkpoints;
 mod inline;
 mod levels;
 mod lists;
+mod paths;
 mod random;

@@ -7,6 +7,7 @@ use harptimber_tests::cards::random::pick;
 use harptimber_tests::cards::random_files::{
     large_random_files, random_files, RandomFiles, Target,
 };
+use harptimber_tests::cards::random_trees::random_trees;
 use harptimber_tests::cards::walk_damage::strike_either;
 use harptimber_tests::trial::Random;
 
@@ -92,4 +93,9 @@ fn damaged_cards() {
 fn large_damaged_cards() {
     let name = "compare on large random cards, damaged";
     expect_damaged(name, 8, large_random_files);
+}
+
+#[test]
+fn damaged_trees() {
+    expect_damaged("compare on random trees, damaged", 8, random_trees);
 }

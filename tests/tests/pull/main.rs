@@ -1,6 +1,7 @@
 //! Pull.
 
 mod call;
+mod deep_folders;
 mod directory;
 mod file;
 mod folders;

@@ -13,6 +13,7 @@ use harptimber_tests::cards::random::within;
 use harptimber_tests::cards::random_files::{
     any_target, large_random_files, random_files, random_files_with, RandomFiles,
 };
+use harptimber_tests::cards::random_trees::random_trees;
 use harptimber_tests::cards::versions::Apart;
 use harptimber_tests::cards::walk_damage::strike_either;
 use harptimber_tests::trial::Random;
@@ -74,6 +75,24 @@ fn large_sound_cards() {
     expect_sound("pull from large random cards", 40, large_random_files);
 }
 
+/// Files in folders, by paths of one to eight names.
+#[test]
+fn sound_trees() {
+    const CARDS: u64 = 60;
+    let mut pulls = Pulls::new("pull from random trees");
+    let mut names = Answers::default();
+    for _ in 0..pulls.trial.times(CARDS) {
+        let files = random_trees(&mut pulls.trial.random);
+        for target in &files.targets {
+            names.note(Call::new(&files.card.image, &target.name, 0).names());
+        }
+        expect_targets(&mut pulls, files);
+    }
+    pulls.finish(CARDS * 41, &[0, 1, 2, 3, 12]);
+    let one_to_eight: Vec<u32> = (1..=8).collect();
+    names.finish(&one_to_eight);
+}
+
 /// Every level that is read.
 #[test]
 fn sound_cards_of_every_level() {
@@ -133,6 +152,11 @@ fn damaged_cards_of_every_level() {
 #[test]
 fn cards_damaged_once() {
     damaged_cards("pull from cards damaged once", 30, random_files, 1..=1);
+}
+
+#[test]
+fn trees_damaged() {
+    damaged_cards("pull from trees, damaged", 16, random_trees, 1..=3);
 }
 
 #[test]
