@@ -4,9 +4,9 @@
 pub const CARD_BLOCKS_MOST: u32 = 4_194_304;
 /// The most names that a path has.
 pub const NAMES_MOST: u32 = 8;
-/// The most node numbers and blocks that a pull of one name lists.
-pub const NODES_MOST: u32 = nodes_most(1);
-pub const BLOCKS_MOST: u32 = blocks_most(1);
+/// The most node numbers and blocks that a pull of any path lists.
+pub const NODES_MOST: u32 = nodes_most(NAMES_MOST);
+pub const BLOCKS_MOST: u32 = blocks_most(NAMES_MOST);
 /// The most main segments that a card has: before them lie two blocks with the superblock, and two segments each of
 /// checkpoint, SIT and NAT.
 pub const SEGMENTS_MOST: u32 = (CARD_BLOCKS_MOST - 2) / 512 - 6;

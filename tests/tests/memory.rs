@@ -10,7 +10,9 @@ use harptimber_tests::calls::pulls::{lists, Call};
 use harptimber_tests::cards::card::{inline_room_by, Card, ROOT};
 use harptimber_tests::cards::damage::{Damage, HARMS};
 use harptimber_tests::cards::deep::Deep;
+use harptimber_tests::cards::deep_folders::DeepFolders;
 use harptimber_tests::cards::directory::{in_slot, Dentry, DirLevel};
+use harptimber_tests::cards::folders::Folders;
 use harptimber_tests::cards::image::Image;
 use harptimber_tests::cards::knobs::{Knobs, Pack};
 use harptimber_tests::cards::layout::dentry::{IN_INODE, NAME_LEN, NR_DENTRY_IN_BLOCK};
@@ -24,6 +26,7 @@ use harptimber_tests::cards::layout::{BLOCK_SIZE, SEGMENT_BLOCKS};
 use harptimber_tests::cards::random::pick;
 use harptimber_tests::cards::random_files::{any_target, random_files, RandomFiles};
 use harptimber_tests::cards::random_segments::random_segments;
+use harptimber_tests::cards::random_trees::random_trees;
 use harptimber_tests::cards::segments::SegmentCard;
 use harptimber_tests::cards::walk_damage::{strike_block, strike_either};
 use harptimber_tests::node_lookup;
@@ -55,7 +58,12 @@ const OPENING: u64 = 4;
 
 /// Damages a card of random files so many times, after pulls from it as it is.
 fn damage_files(script: &mut Script, random: &mut Random, damages: u64) {
-    let RandomFiles { mut card, targets } = random_files(random);
+    let files = random_files(random);
+    damage_card(script, random, files, damages);
+}
+
+fn damage_card(script: &mut Script, random: &mut Random, files: RandomFiles, damages: u64) {
+    let RandomFiles { mut card, targets } = files;
     let sound = card.image.clone();
     let opening = Damage::of(&sound);
     script.card(&sound);
@@ -244,6 +252,15 @@ impl Tight {
     }
 }
 
+/// Copies an inode to the end of the main area, and leads there. Returns that block.
+fn move_to_end(card: &mut Card, ino: u32) -> u32 {
+    let last = card.image.areas.main_end - 1;
+    let bytes = card.image.block(card.inode_block(ino)).to_vec();
+    card.image.put("moved inode", last, 0, &bytes);
+    card.set_entry(ino, ino, last);
+    last
+}
+
 /// A card that ends with its main area, with an inline file in an inline root directory.
 struct TightInline {
     card: Card,
@@ -260,13 +277,8 @@ impl TightInline {
         TightInline { card, ino }
     }
 
-    /// Copies an inode to the image's end, and leads there. Returns that block.
     fn move_to_end(&mut self, ino: u32) -> u32 {
-        let last = self.card.image.areas.main_end - 1;
-        let bytes = self.card.image.block(self.card.inode_block(ino)).to_vec();
-        self.card.image.put("moved inode", last, 0, &bytes);
-        self.card.set_entry(ino, ino, last);
-        last
+        move_to_end(&mut self.card, ino)
     }
 
     /// The file's inode at the image's end: contents up to the end of the room there, and sizes that claim more.
@@ -327,6 +339,39 @@ impl TightInline {
         assert_eq!(blocks.last(), Some(&last));
         tight.card.image
     }
+}
+
+/// A path of each count of names, the last of whose folders, the file's inode and its block is the image's last block. The
+/// longest names have 255 bytes. Then the path lacks its end, or has more.
+fn folders(script: &mut Script, random: &mut Random, len: usize) {
+    for names in 1..=8 {
+        let mut folders = Folders::of_len(random, names, len);
+        let (sound, path) = (folders.card.image.clone(), folders.path());
+        script.card(&sound);
+        assert_eq!(script.pull(&sound, &sound, &path, 0), 0);
+        for (cut, answer) in [(1, 2), (len, 4), (len + 1, 12)] {
+            let shorter = &path[..path.len().saturating_sub(cut)];
+            let answer = if shorter.is_empty() { 4 } else { answer };
+            assert_eq!(script.pull(&sound, &sound, shorter, 0), answer, "{cut}");
+        }
+        for more in ["/", "//", "/x/x/x/x/x/x/x/x"] {
+            let longer = [&path, more.as_bytes()].concat();
+            assert_eq!(script.pull(&sound, &sound, &longer, 0), 4);
+        }
+        for ino in folders.inodes() {
+            move_to_end(&mut folders.card, ino);
+            assert_eq!(script.pull(&sound, &folders.card.image, &path, 0), 0);
+            folders.card.image.undo(0);
+        }
+    }
+}
+
+/// The longest lists, of which the rooms have to be no longer than they have to be.
+fn deep_folders(script: &mut Script, random: &mut Random, names: usize) {
+    let deep = DeepFolders::new(random, names, 0);
+    let image = &deep.card.image;
+    script.card(image);
+    assert_eq!(script.pull(image, image, &deep.path, deep.index), 0);
 }
 
 /// The slices of a pull, each of which is once shorter than the call is told.
@@ -441,6 +486,16 @@ fn guard_pages() {
     for _ in 0..6 {
         damage_files(&mut script, &mut random, 150);
     }
+    for len in [2, 8, 255] {
+        folders(&mut script, &mut random, len);
+    }
+    for names in [1, 2, 8] {
+        deep_folders(&mut script, &mut random, names);
+    }
+    for _ in 0..3 {
+        let trees = random_trees(&mut random);
+        damage_card(&mut script, &mut random, trees, 100);
+    }
     for level in [0, 1, 22, 23, 29] {
         leveled(&mut script, &mut random, level, &[0, 30, 31, 255]);
     }
@@ -464,6 +519,9 @@ fn valgrind() {
     for _ in 0..3 {
         damage_files(&mut script, &mut random, 100);
     }
+    folders(&mut script, &mut random, 20);
+    let trees = random_trees(&mut random);
+    damage_card(&mut script, &mut random, trees, 40);
     for level in [3, 30] {
         leveled(&mut script, &mut random, level, &[0, 29, 30, 31, 32, 255]);
     }

@@ -87,6 +87,16 @@ impl Folders {
         Folders::with(random, &named, index)
     }
 
+    /// Of any shapes, with names of so many bytes.
+    pub fn of_len(random: &mut Random, names: usize, len: usize) -> Folders {
+        let named = |_| {
+            let shape = Shape::any(random);
+            (shape, shape.name(random, len))
+        };
+        let named: Vec<_> = (0..names).map(named).collect();
+        Folders::with(random, &named, 0)
+    }
+
     /// Of any shapes.
     pub fn any(random: &mut Random, names: usize, index: u32) -> Folders {
         let shapes: Vec<Shape> = (0..names).map(|_| Shape::any(random)).collect();
@@ -137,6 +147,12 @@ impl Folders {
             names.push(if n == nth { name } else { &folder.name });
         }
         names.join(&b'/')
+    }
+
+    /// The folders' numbers and the file's.
+    pub fn inodes(&self) -> Vec<u32> {
+        let folders = self.folders.iter().map(|folder| folder.ino);
+        folders.chain([self.ino]).collect()
     }
 
     pub fn inode_block(&self, nth: usize) -> u32 {

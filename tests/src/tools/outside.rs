@@ -100,7 +100,7 @@ impl CardFile<'_> {
         self.scratch.path("yes")
     }
 
-    /// What a reader gives for a file in the root directory.
+    /// What a reader gives for a file.
     fn read(&self, reader: Reader, name: &[u8]) -> Vec<u8> {
         match reader {
             Reader::Harptimber => run(&mut self.cat(name)),
@@ -145,25 +145,35 @@ impl CardFile<'_> {
         dump.arg(self.path()).current_dir(self.scratch.path("."));
         let yes = File::open(self.yes()).expect("a file with an answer");
         run_given(&mut dump, yes.into());
-        taken(
-            &self
-                .scratch
-                .path("lost_found")
-                .join(OsStr::from_bytes(name)),
-        )
+        let (_, name) = folder_and_name(name);
+        let dumped = self.scratch.path("lost_found");
+        taken(&dumped.join(OsStr::from_bytes(name)))
     }
 }
 
-/// The number of the inode with this name, which is one of the blocks that a pull reads.
-pub fn inode_number(image: &Image, name: &[u8]) -> u32 {
-    let (_, blocks) = lists(&Call::new(image, name, 0));
+/// A path's last name, and what comes before it.
+fn folder_and_name(path: &[u8]) -> (Option<&[u8]>, &[u8]) {
+    match path.iter().rposition(|&byte| byte == b'/') {
+        Some(at) => (Some(&path[..at]), &path[at + 1..]),
+        None => (None, path),
+    }
+}
+
+/// The number of the inode that a path leads to. It has the last name, and is in a block that a pull of the path reads
+/// and one of its folder doesn't.
+pub fn inode_number(image: &Image, path: &[u8]) -> u32 {
+    let blocks_of = |path| lists(&Call::new(image, path, 0)).1;
+    let (folder, name) = folder_and_name(path);
+    let before = folder.map(blocks_of).unwrap_or_default();
     let has_name = |&block: &u32| {
         let len = image.get(block, I_NAMELEN);
         let stored = &image.block(block)[I_NAME..];
         len == name.len() as u64 && stored.starts_with(name)
     };
-    let inode = blocks.into_iter().find(has_name);
-    let inode = inode.unwrap_or_else(|| panic!("no inode with the name {}", name.escape_ascii()));
+    let mut later = blocks_of(path);
+    later.retain(|block| !before.contains(block));
+    let inode = later.into_iter().find(has_name);
+    let inode = inode.unwrap_or_else(|| panic!("no inode at {}", path.escape_ascii()));
     image.get(inode, footer::NID) as u32
 }
 

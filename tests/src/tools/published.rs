@@ -3,6 +3,7 @@
 use std::ffi::{OsStr, OsString};
 use std::fs;
 use std::os::unix::ffi::OsStrExt;
+use std::os::unix::fs::symlink;
 use std::path::{Path, PathBuf};
 use std::process::{self, Command, Stdio};
 use std::sync::atomic::{AtomicU32, Ordering};
@@ -91,6 +92,12 @@ impl Scratch {
     /// Puts files into the root directory, or into one below it if the name has a slash. With a date,
     /// no file on the card has another one.
     fn fill(&self, date: Option<u32>, files: &[File]) {
+        self.lay_out(date, files);
+        self.load(date);
+    }
+
+    /// Writes the files to a folder.
+    fn lay_out(&self, date: Option<u32>, files: &[File]) {
         let folder = self.files();
         // In a file of their own, and on the card with an inode.
         let room = |(_, bytes): &File| 2 * (bytes.len() as u64 + 4 * BLOCK_SIZE as u64);
@@ -107,11 +114,15 @@ impl Scratch {
             date.inspect(|&date| put_date(&path, date));
         }
         date.inspect(|&date| put_date(&folder, date));
+    }
+
+    /// Puts that folder onto the card.
+    fn load(&self, date: Option<u32>) {
         let option = date.map(|date| format!("-T{date}"));
         run(Command::new("sload.f2fs")
             .args(option)
             .arg("-f")
-            .args([folder, self.image_path()]));
+            .args([self.files(), self.image_path()]));
     }
 
     /// Reads the image.
@@ -199,6 +210,18 @@ pub fn filled_in_turn(megabytes: usize, options: &str, turns: &[&[File]]) -> Ima
     scratch.image(format!(
         "sload.f2fs over mkfs.f2fs {options} of {megabytes} MB"
     ))
+}
+
+/// Files, and symbolic links each with where it leads.
+pub fn filled_with_links(megabytes: usize, files: &[File], links: &[(&str, &str)]) -> Image {
+    let scratch = Scratch::new();
+    scratch.format(megabytes, "");
+    scratch.lay_out(None, files);
+    for (name, to) in links {
+        symlink(to, scratch.file_path(name.as_bytes())).expect("a link");
+    }
+    scratch.load(None);
+    scratch.image(format!("sload.f2fs with the links {links:?}"))
 }
 
 /// The same with one date everywhere and, by -r, without a random version in each node. Two such cards

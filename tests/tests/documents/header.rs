@@ -15,7 +15,9 @@ use harptimber_tests::cards::layout::{journal, sit_journal, BLOCK_SIZE, SEGMENT_
 use harptimber_tests::program::levels::MOST_LEVEL;
 use harptimber_tests::program::page::{meaning, with_commas};
 use harptimber_tests::program::{host, ran};
-use harptimber_tests::sizes::{BLOCKS_MOST, CARD_BLOCKS_MOST, NODES_MOST, SEGMENTS_MOST};
+use harptimber_tests::sizes::{
+    blocks_most, nodes_most, BLOCKS_MOST, CARD_BLOCKS_MOST, NAMES_MOST, NODES_MOST, SEGMENTS_MOST,
+};
 use harptimber_tests::tools::published::Scratch;
 
 /// The oldest forms of the languages that the header is written for, by what builds them.
@@ -57,7 +59,7 @@ fn sizes() {
         block,
         nodes,
         blocks,
-    } = Lens::least();
+    } = Lens::of(NAMES_MOST);
     for (name, size) in [
         ("BLOCK_BYTES", block),
         ("BLOCK_BYTES", BLOCK_SIZE),
@@ -72,9 +74,30 @@ fn sizes() {
         ("CARD_BLOCKS_LEAST", 2),
         ("CARD_BLOCKS_MOST", CARD_BLOCKS_MOST as usize),
         ("NAME_BYTES_MOST", LONGEST_NAME),
+        ("NAMES_MOST", NAMES_MOST as usize),
+        ("PATH_BYTES_MOST", 2047),
     ] {
         let statement = format!("printf(\"%d\", HARPTIMBER_{name});");
         assert_eq!(printed(&statement), size.to_string(), "{name}");
+    }
+}
+
+/// The rooms for a path by its names, as constants and of a number that a program has.
+#[test]
+fn rooms_by_names() {
+    let uses = "static const uint8_t nodes[HARPTIMBER_NODES_BYTES_OF(1)], blocks[HARPTIMBER_BLOCKS_BYTES_OF(1 + 1)];
+        printf(\"%d %d\\n\", (int)sizeof nodes, (int)sizeof blocks);
+        for (int k = 0; k < HARPTIMBER_NAMES_MOST; k++)
+            printf(\"%d %d %d %d\\n\", HARPTIMBER_NODES_MOST_OF(k + 1), HARPTIMBER_BLOCKS_MOST_OF(k + 1),
+                   HARPTIMBER_NODES_BYTES_OF(k + 1), HARPTIMBER_BLOCKS_BYTES_OF(k + 1));";
+    let mut expected = format!("{} {}\n", Lens::of(1).nodes, Lens::of(2).blocks);
+    for names in 1..=NAMES_MOST {
+        let Lens { nodes, blocks, .. } = Lens::of(names);
+        let most = (nodes_most(names), blocks_most(names));
+        expected += &format!("{} {} {nodes} {blocks}\n", most.0, most.1);
+    }
+    for language in [C99, CPP11] {
+        assert_eq!(printed_by(language, uses), expected, "by {language:?}");
     }
 }
 

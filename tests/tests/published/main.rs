@@ -3,6 +3,7 @@
 mod accident;
 mod damaged;
 mod files;
+mod folders;
 mod inline_files;
 mod inline_root;
 mod levels;

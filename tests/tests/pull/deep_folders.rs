@@ -8,7 +8,7 @@ use harptimber_tests::cards::deep_folders::{DeepFolders, SOUGHT};
 use harptimber_tests::cards::directory::in_slot;
 use harptimber_tests::cards::layout::dentry::HASH_CODE;
 use harptimber_tests::cards::layout::inode::INLINE_XATTR;
-use harptimber_tests::sizes::{blocks_most, nodes_most, BLOCKS_MOST, NAMES_MOST, NODES_MOST};
+use harptimber_tests::sizes::{blocks_most, nodes_most, NAMES_MOST};
 
 /// How many nodes and blocks there are, each counted once.
 fn counts((nodes, blocks): &(Vec<u32>, Vec<u32>)) -> (usize, usize) {
@@ -60,7 +60,7 @@ fn room_that_would_do() {
         let deep = DeepFolders::new(&mut pulls.trial.random, names as usize, 0);
         let (nodes, blocks) = counts(&deep.lists());
         if names == NAMES_MOST {
-            assert!(nodes > NODES_MOST as usize && blocks > BLOCKS_MOST as usize);
+            assert!(nodes > nodes_most(1) as usize && blocks > blocks_most(1) as usize);
         }
         let call = Call::new(&deep.card.image, &deep.path, deep.index);
         let enough = Lens::of(names);

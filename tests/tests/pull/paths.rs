@@ -4,7 +4,7 @@ use harptimber_tests::calls::lent::{Lens, NUMBER_SIZE};
 use harptimber_tests::calls::pulls::{Call, Pulls};
 use harptimber_tests::cards::card::Card;
 use harptimber_tests::cards::directory::{Dentry, DirLevel};
-use harptimber_tests::cards::folders::{Folders, Shape};
+use harptimber_tests::cards::folders::Folders;
 use harptimber_tests::cards::image::Image;
 use harptimber_tests::cards::layout::superblock::MAGIC;
 use harptimber_tests::cards::names::good_name;
@@ -126,13 +126,7 @@ fn slashes() {
 #[test]
 fn longest_paths() {
     let mut pulls = Pulls::new("pull of the longest paths");
-    let random = &mut pulls.trial.random;
-    let shapes: Vec<_> = (0..EIGHT).map(|_| Shape::any(random)).collect();
-    let named: Vec<_> = shapes
-        .iter()
-        .map(|shape| (*shape, shape.name(random, 255)))
-        .collect();
-    let folders = Folders::with(random, &named, 0);
+    let folders = Folders::of_len(&mut pulls.trial.random, EIGHT, 255);
     let (image, path) = (&folders.card.image, folders.path());
     assert_eq!(path.len(), 2047);
     pulls.expect_data(image, &path, 0, image.block(folders.data));
