@@ -1,28 +1,34 @@
 //! Pulls of the library and of the reference under one type.
 
 use crate::grid::{contender, Contender};
+use harptimber_tests::sizes::{blocks_most, nodes_most, BLOCKS_MOST, NODES_MOST};
 pub use reference::bytes::BLOCK_SIZE;
 pub use reference::pull::Pulled;
 use std::hint::black_box;
 use std::ops::Range;
 
-/// How many numbers the lists have that are long enough for any pull.
-pub use harptimber_tests::sizes::{BLOCKS_MOST as BLOCKS, NODES_MOST as NODES};
+/// How many numbers the longest lists of one name have.
+pub const NODES: u32 = nodes_most(1);
+pub const BLOCKS: u32 = blocks_most(1);
+
+/// How many bytes the lists have that are long enough for any path.
+const NODES_BYTES: usize = NODES_MOST as usize * 4;
+const BLOCKS_BYTES: usize = BLOCKS_MOST as usize * 4;
 
 /// What is lent to a pull: a block and the two lists.
 #[derive(PartialEq, Eq)]
 pub struct Lent {
     pub block: [u8; BLOCK_SIZE],
-    pub nodes: [u8; NODES as usize * 4],
-    pub blocks: [u8; BLOCKS as usize * 4],
+    pub nodes: [u8; NODES_BYTES],
+    pub blocks: [u8; BLOCKS_BYTES],
 }
 
 impl Default for Lent {
     fn default() -> Lent {
         Lent {
             block: [0; BLOCK_SIZE],
-            nodes: [0; NODES as usize * 4],
-            blocks: [0; BLOCKS as usize * 4],
+            nodes: [0; NODES_BYTES],
+            blocks: [0; BLOCKS_BYTES],
         }
     }
 }

@@ -28,6 +28,7 @@ pub const MEMCMP: usize = 2;
 pub struct Calls {
     pub single: Grid,
     pub inline: Grid,
+    pub eight_names: Grid,
     pub in_order: Grid,
     /// On the cards that have a file so long.
     pub indirect: Grid,
@@ -41,6 +42,7 @@ impl Calls {
         Calls {
             single: single(cards),
             inline: inline(cards),
+            eight_names: eight_names(cards),
             in_order: in_order(cards),
             indirect: indirect(&cards[WITHOUT_SURVEY..]),
             lookup: lookup(cards, agreed),
@@ -49,10 +51,11 @@ impl Calls {
         }
     }
 
-    pub fn on_all_cards(&self) -> [(&str, &Grid); 5] {
+    pub fn on_all_cards(&self) -> [(&str, &Grid); 6] {
         [
             ("single pull, block in the inode", &self.single),
             ("pull of a small file, inline", &self.inline),
+            ("pull of eight names", &self.eight_names),
             ("pulls of a whole file, in order", &self.in_order),
             ("node lookup", &self.lookup),
             ("compare, full list, all the same", &self.compare),
@@ -82,6 +85,11 @@ fn single(cards: &[Card]) -> Grid {
 /// A pull of a file whose bytes are in its inode.
 fn inline(cards: &[Card]) -> Grid {
     by_card(OFTEN, cards, |card| pulls(card, TABLE, 0..1))
+}
+
+/// A pull of a file that is in seven folders, one in the other.
+fn eight_names(cards: &[Card]) -> Grid {
+    by_card(OFTEN, cards, |card| pulls(card, LAP, 0..1))
 }
 
 /// Pulls of every block of a file; then, by the archive, as many pulls of its first block.
@@ -181,7 +189,7 @@ fn report(cards: &[Card], agreed: &mut Agreed) -> Grid {
     })
 }
 
-/// Nodes and blocks that pulls of a file rest on, as many blocks as a full list has.
+/// Nodes and blocks that pulls of a file rest on, as many blocks as a full list of one name has.
 fn rested_on(card: &Card) -> [BTreeSet<u32>; 2] {
     let (mut lent, mut nodes, mut blocks) = (Lent::default(), BTreeSet::new(), BTreeSet::new());
     let mut indexes = 0..ROAD_BLOCKS;

@@ -19,6 +19,8 @@ pub const ROAD_BLOCKS: u32 = 1920;
 /// A small one, which sload.f2fs puts into its inode.
 pub const TABLE: &str = "friction.tbl";
 const TABLE_BYTES: usize = 2560;
+/// One of a block, whose path has as many names as one can have.
+pub const LAP: &str = "runs/2026/wet/north/left/front/2/lap.bin";
 /// One that reaches an indirect node too. It is on the larger cards, which are all but the first.
 pub const SURVEY: &str = "survey.bin";
 pub const SURVEY_BLOCKS: u32 = 8192;
@@ -86,19 +88,20 @@ impl Card {
 }
 
 /// The survey comes last: the smallest card is without it.
-pub fn files() -> [File; 3] {
+pub fn files() -> [File; 4] {
     let mut random = Random::new(1);
     [
         (ROAD, ROAD_BLOCKS as usize * BLOCK_SIZE),
         (TABLE, TABLE_BYTES),
+        (LAP, BLOCK_SIZE),
         (SURVEY, SURVEY_BLOCKS as usize * BLOCK_SIZE),
     ]
     .map(|(name, len)| (name.as_bytes().to_vec(), random.bytes(len)))
 }
 
-pub fn cards(files: &[File; 3], agreed: &mut Agreed) -> Vec<Card> {
+pub fn cards(files: &[File; 4], agreed: &mut Agreed) -> Vec<Card> {
     let card = |(n, megabytes)| {
-        let files = &files[..if n < WITHOUT_SURVEY { 2 } else { 3 }];
+        let files = &files[..if n < WITHOUT_SURVEY { 3 } else { 4 }];
         let card = Card::new(megabytes, files);
         files.iter().for_each(|file| card.check(file, agreed));
         card

@@ -6,6 +6,7 @@ mod depths;
 mod directory_levels;
 mod journal;
 mod journalled;
+mod paths;
 mod roots;
 mod segments;
 mod slots;
@@ -38,6 +39,7 @@ fn main() -> ExitCode {
     journals_by_entries(&mut agreed);
     pulls_by_directory_level(&mut agreed);
     searches_by_slots(&mut agreed);
+    pulls_by_names(&mut agreed);
     agreed.finish()
 }
 
@@ -54,7 +56,7 @@ Every number in the tables is a ratio of two times of this run. No time is claim
               both are built for release
   GRUB        its F2FS reader, by {}
   cards       written by mkfs.f2fs {OPTIONS} and sload.f2fs, sparse files, mapped for reading; those of
-              tables 4, 5 and 8 to 11 are built in memory
+              tables 4, 5 and 8 to 12 are built in memory
   buffers     warm: each card is in the page cache, mapped and read before; what is lent to a pull is
               lent again to the next one, and not cleared in between
   times       the processor's, user and system, children included: other load shows only where it
@@ -233,6 +235,18 @@ fn searches_by_slots(agreed: &mut Agreed) {
         "11. A pull of no name, by what the blocks hold in which it is sought
    time as a part of reference/'s; lower is better. Depth 9, and 18 blocks alike, which all stand in the
    inode; in the first column depth 0. A search takes what a pull takes more than in that column",
+    );
+}
+
+fn pulls_by_names(agreed: &mut Agreed) {
+    let grids = paths::by_names(agreed);
+    let labels = ["with blocks", "inline"];
+    let heads = paths::NAMES.iter().map(usize::to_string);
+    let table = beside_first(heads, labels.into_iter().zip(grids), "one name");
+    table.print(
+        "12. A pull by the names of its path, through folders with a block each and through inline ones
+   time as a part of reference/'s, then as a multiple of the same side's for one name; lower is better.
+   A name more is a table answer, an inode and the slots of a folder with one entry",
     );
 }
 

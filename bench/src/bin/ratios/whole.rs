@@ -30,7 +30,7 @@ pub struct Whole<'a> {
 }
 
 /// The columns: one file on every card, then the long one on those that have it.
-pub fn columns<'a>(cards: &'a [Card], [road, _, survey]: &'a [File; 3]) -> Vec<Whole<'a>> {
+pub fn columns<'a>(cards: &'a [Card], [road, .., survey]: &'a [File; 4]) -> Vec<Whole<'a>> {
     let of = |cards: &'a [Card], file| cards.iter().map(move |card| Whole { card, file });
     let on_all = of(cards, road);
     on_all.chain(of(&cards[WITHOUT_SURVEY..], survey)).collect()
