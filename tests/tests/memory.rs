@@ -341,8 +341,8 @@ impl TightInline {
     }
 }
 
-/// A path of each count of names, the last of whose folders, the file's inode and its block is the image's last block. The
-/// longest names have 255 bytes. Then the path lacks its end, or has more.
+/// Paths of one to eight names of so many bytes, as they are, without their ends and with more behind them. Each inode
+/// on the way is once the last block of the main area.
 fn folders(script: &mut Script, random: &mut Random, len: usize) {
     for names in 1..=8 {
         let mut folders = Folders::of_len(random, names, len);
@@ -352,7 +352,7 @@ fn folders(script: &mut Script, random: &mut Random, len: usize) {
         for (cut, answer) in [(1, 2), (len, 4), (len + 1, 12)] {
             let shorter = &path[..path.len().saturating_sub(cut)];
             let answer = if shorter.is_empty() { 4 } else { answer };
-            assert_eq!(script.pull(&sound, &sound, shorter, 0), answer, "{cut}");
+            assert_eq!(script.pull(&sound, &sound, shorter, 0), answer);
         }
         for more in ["/", "//", "/x/x/x/x/x/x/x/x"] {
             let longer = [&path, more.as_bytes()].concat();
@@ -366,12 +366,25 @@ fn folders(script: &mut Script, random: &mut Random, len: usize) {
     }
 }
 
-/// The longest lists, of which the rooms have to be no longer than they have to be.
+/// The longest lists, in rooms that are just long enough for the names.
 fn deep_folders(script: &mut Script, random: &mut Random, names: usize) {
     let deep = DeepFolders::new(random, names, 0);
     let image = &deep.card.image;
     script.card(image);
     assert_eq!(script.pull(image, image, &deep.path, deep.index), 0);
+}
+
+fn all_folders(script: &mut Script, random: &mut Random) {
+    for len in [2, 8, 255] {
+        folders(script, random, len);
+    }
+    for names in [1, 2, 8] {
+        deep_folders(script, random, names);
+    }
+    for _ in 0..3 {
+        let trees = random_trees(random);
+        damage_card(script, random, trees, 100);
+    }
 }
 
 /// The slices of a pull, each of which is once shorter than the call is told.
@@ -486,16 +499,7 @@ fn guard_pages() {
     for _ in 0..6 {
         damage_files(&mut script, &mut random, 150);
     }
-    for len in [2, 8, 255] {
-        folders(&mut script, &mut random, len);
-    }
-    for names in [1, 2, 8] {
-        deep_folders(&mut script, &mut random, names);
-    }
-    for _ in 0..3 {
-        let trees = random_trees(&mut random);
-        damage_card(&mut script, &mut random, trees, 100);
-    }
+    all_folders(&mut script, &mut random);
     for level in [0, 1, 22, 23, 29] {
         leveled(&mut script, &mut random, level, &[0, 30, 31, 255]);
     }

@@ -85,8 +85,8 @@ fn sizes() {
 /// The rooms for a path by its names, as constants and of a number that a program has.
 #[test]
 fn rooms_by_names() {
-    let uses = "static const uint8_t nodes[HARPTIMBER_NODES_BYTES_OF(1)], blocks[HARPTIMBER_BLOCKS_BYTES_OF(1 + 1)];
-        printf(\"%d %d\\n\", (int)sizeof nodes, (int)sizeof blocks);
+    let uses = "enum { nodes = HARPTIMBER_NODES_BYTES_OF(1), blocks = HARPTIMBER_BLOCKS_BYTES_OF(1 + 1) };
+        printf(\"%d %d\\n\", nodes, blocks);
         for (int k = 0; k < HARPTIMBER_NAMES_MOST; k++)
             printf(\"%d %d %d %d\\n\", HARPTIMBER_NODES_MOST_OF(k + 1), HARPTIMBER_BLOCKS_MOST_OF(k + 1),
                    HARPTIMBER_NODES_BYTES_OF(k + 1), HARPTIMBER_BLOCKS_BYTES_OF(k + 1));";
@@ -175,12 +175,12 @@ fn kinds_not_read() {
     let [room, beside] = [INLINE_ROOM, INLINE_ROOM_WITH_XATTR].map(with_commas);
     let other_mark = format!("{INLINE_DATA}, inline data, or the file's have {INLINE_DENTRY}");
     let parts = [
-        "the root isn't a directory".to_string(),
+        "the root, or what a name before the last leads to, isn't a directory".to_string(),
         "isn't a regular file".to_string(),
         format!("the inode's inline flags have {EXTRA_ATTR:x} hex"),
-        format!("the root's inline flags have {other_mark}, inline dentry"),
+        format!("a directory's inline flags have {other_mark}, inline dentry"),
         "alone or with its own".to_string(),
-        format!("the root's have {INLINE_DENTRY}, and its size is over {beside} bytes"),
+        format!("a directory's have {INLINE_DENTRY}, and its size is over {beside} bytes"),
         format!("the file's have {INLINE_DATA}, and its size is over {beside} bytes if they have"),
         format!("have {INLINE_XATTR} too, inline attributes, and over {room} if not"),
         "depth is over 63".to_string(),

@@ -3,6 +3,7 @@
 mod call;
 mod deep_folders;
 mod directory;
+mod dots;
 mod file;
 mod folders;
 mod inline_bits;
