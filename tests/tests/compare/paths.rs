@@ -125,3 +125,24 @@ fn entries_of_folders() {
     }
     compares.finish(204, &[(15, 0, 0), (16, 0, 3)]);
 }
+
+/// A checkpoint after which a folder's inode is in another block. Paths that end before it don't ask for its number.
+#[test]
+fn moved_folders() {
+    let mut compares = Compares::new("compare with a folder moved");
+    for names in 1..=EIGHT {
+        for nth in 0..names {
+            let mut folders = Folders::any(&mut compares.trial.random, names, 0);
+            let kept = folders.card.image.clone();
+            let moved = folders.folders[nth].ino;
+            folders.card.checkpoint(2, &[(moved, 0)]);
+            for asked in 1..=names {
+                let path = folders.path_of(asked);
+                let kept = Kept::new(&kept, &path, 0);
+                let expected = if asked < nth { SAME } else { changed(2, moved) };
+                compares.expect(&kept, &folders.card.image, expected);
+            }
+        }
+    }
+    compares.finish(204, &[(15, 0, 0), (16, 0, 2)]);
+}

@@ -1,7 +1,7 @@
 //! Pull: files in folders, and what a path may pass on its way.
 
 use harptimber_tests::calls::pulls::{Call, Pulls};
-use harptimber_tests::cards::folders::{Folders, Shape};
+use harptimber_tests::cards::folders::{list, Folders, Shape};
 use harptimber_tests::cards::layout::dentry::{HASH_CODE, INO};
 use harptimber_tests::cards::layout::inode::*;
 use harptimber_tests::cards::layout::{footer, BLOCK_SIZE};
@@ -132,6 +132,39 @@ fn missing_names() {
     });
     pulls.finish(4 * DEPTHS * 2, &[2]);
 }
+
+/// Holes on the way to a folder's block: each node number and the address. The nodes before them are listed.
+#[test]
+fn holes_on_the_way() {
+    let mut pulls = Pulls::new("pull through folders with holes");
+    for_folders(&mut pulls, 4, |pulls, folders, nth| {
+        let folder = &folders.folders[nth];
+        if folder.linked.block == folder.way[0].node.block {
+            return;
+        }
+        let (way, path) = (folder.way.clone(), folders.path());
+        let (mut nodes, mut blocks) = folders.lists(nth);
+        for (n, passage) in way.iter().enumerate() {
+            list(&way[n..=n], &mut nodes, &mut blocks);
+            let values = if n + 1 == way.len() {
+                &HOLES[..]
+            } else {
+                &HOLES[..1]
+            };
+            for &hole in values {
+                let image = &mut folders.card.image;
+                image.set(passage.node.block, passage.slot, hole);
+                let call = Call::new(image, &path, 0);
+                pulls.expect_lists(&call, 2, &nodes, &blocks);
+                image.undo(0);
+            }
+        }
+    });
+    pulls.finish(2 * DEPTHS, &[2]);
+}
+
+/// Addresses that say hole. Of node numbers only the first does.
+const HOLES: [u64; 2] = [0, u32::MAX as u64];
 
 /// Each kind of inode by its mode in place of a folder.
 #[test]

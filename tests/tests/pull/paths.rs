@@ -53,7 +53,8 @@ impl Round {
     /// What a path answers: worked out by letters, without the names' hashes or places.
     fn answer(path: &[u8]) -> u32 {
         let names: Vec<&[u8]> = path.split(|&byte| byte == b'/').collect();
-        if names.len() > EIGHT || names.iter().any(|name| name.is_empty() || name.len() > 255) {
+        let is_name = |name: &&[u8]| !name.is_empty() && !name.contains(&0);
+        if names.len() > EIGHT || !names.iter().all(is_name) {
             return 4;
         }
         let mut at = 'r';
@@ -170,8 +171,15 @@ fn zeros() {
     pulls.finish(8 + 2 * (4 * 36 - 8), &[2, 4]);
 }
 
-/// Lists with just enough room for the names, one number or one byte short, and with the room for one name less. Where
-/// the card doesn't open 4 comes first.
+/// Lengths of a list, each with whether it is enough: just that, one byte or one number short, and for one name less.
+fn around(enough: usize, less: usize) -> Vec<(usize, bool)> {
+    let short = [enough - 1, enough - NUMBER_SIZE, less, 0].map(|len| (len, false));
+    let long = [enough, enough + 1, enough + NUMBER_SIZE, 4 * enough].map(|len| (len, true));
+    [short, long].concat()
+}
+
+/// A block buffer of another length, and lists with enough room for the names and with less. Where the card doesn't open
+/// 4 comes first.
 #[test]
 fn rooms() {
     let mut pulls = Pulls::new("pull by the rooms for each count of names");
@@ -180,14 +188,10 @@ fn rooms() {
         for names in 1..=EIGHT {
             let path = [vec!["a"; names - 1], vec!["f"]].concat().join("/");
             let call = Call::new(&image, path.as_bytes(), 0);
-            let enough = Lens::of(names as u32);
-            let less = Lens::of(names as u32 - 1);
-            let around = |enough: usize, less: usize| {
-                let short = [enough - 1, enough - NUMBER_SIZE, less, 0];
-                let short = short.map(|len| (len, false));
-                let long = [enough, enough + 1, enough + NUMBER_SIZE, 4 * enough];
-                [short, long.map(|len| (len, true))].concat()
-            };
+            let [less, enough] = [names - 1, names].map(|names| Lens::of(names as u32));
+            for block in [0, 4092, 4095, 4097, 8192] {
+                pulls.expect_with(Lens { block, ..enough }, &call, 4);
+            }
             for (nodes, enough_nodes) in around(enough.nodes, less.nodes) {
                 for (blocks, enough_blocks) in around(enough.blocks, less.blocks) {
                     let lens = Lens {
@@ -195,12 +199,8 @@ fn rooms() {
                         blocks,
                         ..enough
                     };
-                    let answer = if enough_nodes && enough_blocks {
-                        found
-                    } else {
-                        4
-                    };
-                    pulls.expect_with(lens, &call, answer);
+                    let in_shape = enough_nodes && enough_blocks;
+                    pulls.expect_with(lens, &call, if in_shape { found } else { 4 });
                 }
             }
         }
@@ -208,10 +208,10 @@ fn rooms() {
             image.set(copy, MAGIC, 0);
         }
     }
-    pulls.finish(2 * 8 * 64, &[0, 4, 5]);
+    pulls.finish(2 * 8 * (64 + 5), &[0, 4, 5]);
 }
 
-/// Any bytes of slashes, letters and dots.
+/// Any bytes of slashes, letters, dots and, now and then, a zero.
 #[test]
 fn random_paths() {
     const PATHS: u64 = 30_000;
@@ -230,6 +230,10 @@ fn random_paths() {
                 true => b'/',
                 false => pick(random, b"aaaabf.."),
             });
+        }
+        if random.below(30) == 0 {
+            let last = path.len() - 1;
+            path[last] = 0;
         }
         let answer = Round::answer(&path);
         pulls.expect(&image, &path, 0, answer);
