@@ -213,10 +213,11 @@ fn names() {
 /// Damages numbers in blocks that pulls of paths read.
 #[test]
 fn damaged() {
-    const ROUNDS: u64 = 3000;
+    const ROUNDS: u64 = 5000;
     let mut pulls = Pulls::new("published files in folders, damaged");
     let paths = ["a/b/c/d/e/f/g/h", "a/b/i", "a/j", "k"];
-    let files = files(&mut pulls.trial.random, paths);
+    let bytes = contents(&mut pulls.trial.random, 3 * BLOCK_SIZE);
+    let files = paths.map(|path| (path.into(), bytes.clone()));
     let mut image = filled_with(64, "", &files);
     for _ in 0..pulls.trial.times(ROUNDS) {
         let random = &mut pulls.trial.random;
@@ -229,7 +230,7 @@ fn damaged() {
         pulls.compare(&image, path, 0);
         image.undo(0);
     }
-    pulls.finish(ROUNDS, &[0, 2, 3, 9, 11, 12, 13, 14]);
+    pulls.finish(ROUNDS, &[0, 1, 2, 11, 12, 13, 14]);
 }
 
 /// Two cards that differ in the bytes of one file: those in other folders are the same, and in its own folder too.
