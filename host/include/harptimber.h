@@ -1,5 +1,5 @@
 /*
- * Harptimber: a proved library for reading F2FS cards. It pulls one block of a named file from a card
+ * Harptimber: a proved library for reading F2FS cards. It pulls one block of a file, by its path, from a card
  * image, lists what the answer rested on, and says from those lists whether another image gives the
  * same answer. It also says which segments' valid counts are off.
  *
@@ -23,7 +23,7 @@
  *     uint8_t block[HARPTIMBER_BLOCK_BYTES];
  *     uint8_t nodes[HARPTIMBER_NODES_BYTES], blocks[HARPTIMBER_BLOCKS_BYTES];
  *     struct harptimber_pulled p = harptimber_pull(
- *         image, image_len, (const uint8_t *)"road.bin", 8, 0,
+ *         image, image_len, (const uint8_t *)"roads/road.bin", 14, 0,
  *         block, sizeof block, nodes, sizeof nodes, blocks, sizeof blocks);
  *     if (p.answer == HARPTIMBER_DATA)
  *         use(block, p.byte_count);
@@ -42,21 +42,29 @@ extern "C" {
 
 /* The version of this header, and of the library that is installed with it. */
 #define HARPTIMBER_VERSION_MAJOR 0
-#define HARPTIMBER_VERSION_MINOR 7
+#define HARPTIMBER_VERSION_MINOR 8
 #define HARPTIMBER_VERSION_PATCH 0
-#define HARPTIMBER_VERSION "0.7.0"
+#define HARPTIMBER_VERSION "0.8.0"
+
+/* The most that a pull of a path with k names, 1 to 8, rests on, and the bytes to lend for a list of that. */
+#define HARPTIMBER_NODES_MOST_OF(k) (175 * (k) + 4)
+#define HARPTIMBER_BLOCKS_MOST_OF(k) (233 * (k) + 5)
+#define HARPTIMBER_NODES_BYTES_OF(k) (4 * HARPTIMBER_NODES_MOST_OF(k))
+#define HARPTIMBER_BLOCKS_BYTES_OF(k) (4 * HARPTIMBER_BLOCKS_MOST_OF(k))
 
 enum {
-    /* Of what is asked: a card's blocks, and a name's bytes. */
+    /* Of what is asked: a card's blocks, and a path's names and bytes. */
     HARPTIMBER_BLOCK_BYTES = 4096,
     HARPTIMBER_CARD_BLOCKS_LEAST = 2,
     HARPTIMBER_CARD_BLOCKS_MOST = 4194304,
     HARPTIMBER_NAME_BYTES_MOST = 255,
-    /* The most that a pull rests on, and the bytes to lend for a list with room for that. */
-    HARPTIMBER_NODES_MOST = 179,
-    HARPTIMBER_BLOCKS_MOST = 238,
-    HARPTIMBER_NODES_BYTES = 4 * HARPTIMBER_NODES_MOST,
-    HARPTIMBER_BLOCKS_BYTES = 4 * HARPTIMBER_BLOCKS_MOST,
+    HARPTIMBER_NAMES_MOST = 8,
+    HARPTIMBER_PATH_BYTES_MOST = HARPTIMBER_NAMES_MOST * (HARPTIMBER_NAME_BYTES_MOST + 1) - 1,
+    /* The most that a pull of any path rests on, 1,404 nodes and 1,869 blocks, and the bytes that are always enough. */
+    HARPTIMBER_NODES_MOST = HARPTIMBER_NODES_MOST_OF(HARPTIMBER_NAMES_MOST),
+    HARPTIMBER_BLOCKS_MOST = HARPTIMBER_BLOCKS_MOST_OF(HARPTIMBER_NAMES_MOST),
+    HARPTIMBER_NODES_BYTES = HARPTIMBER_NODES_BYTES_OF(HARPTIMBER_NAMES_MOST),
+    HARPTIMBER_BLOCKS_BYTES = HARPTIMBER_BLOCKS_BYTES_OF(HARPTIMBER_NAMES_MOST),
     HARPTIMBER_SEGMENT_BLOCKS = 512,
     /*
      * The most main segments that a card has, 8,185, and the bytes to lend for a list of all of them, 32,740:
@@ -74,7 +82,7 @@ enum {
 enum harptimber_answer {
     HARPTIMBER_DATA = 0, /* also of the calls that read no file: done */
     HARPTIMBER_HOLE = 1,
-    HARPTIMBER_NO_NAME = 2,
+    HARPTIMBER_NO_NAME = 2, /* of any name on the path: the directory that the ones before it lead to hasn't it */
     HARPTIMBER_PAST_END = 3,
     HARPTIMBER_OUT_OF_SHAPE = 4,
     HARPTIMBER_NO_SUPERBLOCK = 5,
@@ -95,17 +103,19 @@ enum harptimber_answer {
     HARPTIMBER_NODE_OUTSIDE = 10,
     HARPTIMBER_FOREIGN_NODE = 11,
     /*
-     * The root directory's inode or the file's isn't read. Behind it is at least one of these:
-     *   - the root isn't a directory, or what the name leads to isn't a regular file;
+     * An inode on the path isn't read: the root directory's, or one that a name leads to. Behind it is at least one
+     * of these:
+     *   - the root, or what a name before the last leads to, isn't a directory; or what the last one leads to isn't a
+     *     regular file;
      *   - the inode's inline flags have 20 hex, extra attributes;
-     *   - the root's inline flags have 2, inline data, or the file's have 4, inline dentry: the mark of the other kind,
+     *   - a directory's inline flags have 2, inline data, or the file's have 4, inline dentry: the mark of the other kind,
      *     alone or with its own;
-     *   - the root's have 4, and its size is over 3,488 bytes;
+     *   - a directory's have 4, and its size is over 3,488 bytes;
      *   - the file's have 2, and its size is over 3,488 bytes if they have 1 too, inline attributes, and over 3,688 if not;
-     *   - the root directory's depth is over 63;
+     *   - a directory's depth is over 63;
      *   - its directory level (i_dir_level) is over 30. Up to 30, names are sought where that level puts them. A file's
      *     own level isn't asked for.
-     * Otherwise a file with inline data is read, and a root with inline dentries is searched: within these bounds
+     * Otherwise a file with inline data is read, and a directory with inline dentries is searched: within these bounds
      * its depth and level decide nothing. No other inline flag is asked for.
      */
     HARPTIMBER_KIND_NOT_READ = 12,
@@ -121,9 +131,9 @@ static inline const char *harptimber_answer_words(uint32_t answer)
     static const char *const words[] = {
         /*  0 */ "data",
         /*  1 */ "hole: zeros",
-        /*  2 */ "no such name in the root directory",
+        /*  2 */ "no such name in its directory",
         /*  3 */ "past the end of the file",
-        /*  4 */ "out of shape: the image's length, the name, A or a list",
+        /*  4 */ "out of shape: the image's length, the path or name, A or a list",
         /*  5 */ "neither copy of the superblock passes",
         /*  6 */ "the card has features or a payload, which aren't read",
         /*  7 */ "neither checkpoint pack passes",
@@ -203,26 +213,33 @@ struct harptimber_entry harptimber_node_lookup(const uint8_t *image, size_t imag
 struct harptimber_pulled {
     uint32_t answer;      /* one of 0 to 14 of harptimber_answer */
     uint32_t byte_count;  /* with 0 and 1: how many bytes of the block are the file's, 1 to 4,096 */
-    uint32_t node_count;  /* how many numbers of the node list were written, at most 179 */
-    uint32_t block_count; /* how many numbers of the block list were written, at most 238 */
+    uint32_t node_count;  /* how many numbers of the node list were written, at most 175k + 4 for k names */
+    uint32_t block_count; /* how many numbers of the block list were written, at most 233k + 5 */
 };
 
 /*
- * Block `index` of a file in the root directory, and what the answer rested on. `block` has exactly
- * HARPTIMBER_BLOCK_BYTES, `nodes` at least HARPTIMBER_NODES_BYTES and `blocks` at least
- * HARPTIMBER_BLOCKS_BYTES; otherwise the answer is 4. A list has four bytes a number, the lowest first
- * (harptimber_list_entry reads one); a remainder isn't used.
+ * Block `index` of the file that a path leads to, and what the answer rested on. A path is one to eight names,
+ * parted by single slashes, from the root directory on: "road.bin", "roads/wet/road.bin". It has no slash at
+ * either end and no terminating 0. Each name is one that harptimber_name_hash takes; "." and ".." are sought like
+ * others. `block` has exactly HARPTIMBER_BLOCK_BYTES, and for k names `nodes` has at least
+ * HARPTIMBER_NODES_BYTES_OF(k) and `blocks` at least HARPTIMBER_BLOCKS_BYTES_OF(k); HARPTIMBER_NODES_BYTES and
+ * HARPTIMBER_BLOCKS_BYTES are enough for every path. Otherwise the answer is 4, before any of 5 to 8. A list has
+ * four bytes a number, the lowest first (harptimber_list_entry reads one); a remainder isn't used.
+ *
+ * Each name but the last must lead to a directory, else the answer is 12; each directory is searched, and refused,
+ * as the root directory is.
  *
  * The block buffer is written with 0 (the file's bytes up to the count, then zeros) and with 1 (zeros),
  * and left untouched by every other answer. With 4 to 8 the lists are untouched and their counts are 0;
  * otherwise the node list holds the node numbers that were looked up, and the block list the main-area
- * blocks that were read, each once, rising, and entries behind the counts are untouched.
+ * blocks that were read, those of the directories on the path and of the file, each once, rising, and entries
+ * behind the counts are untouched.
  *
  * An inline file has its bytes in its inode: they are block 0, which is data and never a hole, and of the
- * file only the inode is listed, its number and its block. Of an inline root directory, too, only the inode is listed.
+ * file only the inode is listed, its number and its block. Of an inline directory, too, only the inode is listed.
  */
-struct harptimber_pulled harptimber_pull(const uint8_t *image, size_t image_len, const uint8_t *name,
-                                         size_t name_len, uint32_t index, uint8_t *block,
+struct harptimber_pulled harptimber_pull(const uint8_t *image, size_t image_len, const uint8_t *path,
+                                         size_t path_len, uint32_t index, uint8_t *block,
                                          size_t block_len, uint8_t *nodes, size_t nodes_len,
                                          uint8_t *blocks, size_t blocks_len);
 
@@ -254,7 +271,7 @@ struct harptimber_compared {
  * the pull's answer says: a name that was missing and still is compares as the same too.
  *
  * HARPTIMBER_CHANGED means that something differs which the answer rested on, if only a date in an inode
- * or another entry of the directory. The block may have the same bytes then; a pull on the new image
+ * or another entry of a directory on the path. The block may have the same bytes then; a pull on the new image
  * tells.
  *
  * Lists that a version before 0.3.0 left may be of another checkpoint than the one that is read now,
@@ -262,7 +279,8 @@ struct harptimber_compared {
  *
  * Before 0.6.0 a root directory with any directory level was answered with 12, before 0.7.0 an inline root
  * directory and an inline file. By the lists of such a pull HARPTIMBER_SAME says nothing of what a pull
- * answers now: where 12 was kept, pull again.
+ * answers now: where 12 was kept, pull again. Before 0.8.0 a path of several names was answered with 4, which
+ * leaves no lists.
  *
  * 4 is answered, first, for an image's length; and, once both images are opened, where the node list is
  * empty, a list isn't strictly rising, a count exceeds its slice, or a listed block lies outside the

@@ -184,10 +184,10 @@ bool card_is_same(const struct card *card, const struct card *other)
            one.lo_offset == two.lo_offset;
 }
 
-struct harptimber_pulled card_pull(const struct card *card, const char *name, uint32_t index,
+struct harptimber_pulled card_pull(const struct card *card, const char *path, uint32_t index,
                                    uint8_t *block, struct lists *lists)
 {
-    return harptimber_pull(card->bytes, card->len, (const uint8_t *)name, strlen(name), index, block,
+    return harptimber_pull(card->bytes, card->len, (const uint8_t *)path, strlen(path), index, block,
                            BLOCK_SIZE, lists->nodes, sizeof lists->nodes, lists->blocks,
                            sizeof lists->blocks);
 }
@@ -195,4 +195,9 @@ struct harptimber_pulled card_pull(const struct card *card, const char *name, ui
 bool is_block(uint32_t answer)
 {
     return answer == HARPTIMBER_DATA || answer == HARPTIMBER_HOLE;
+}
+
+bool is_before_walk(uint32_t answer)
+{
+    return answer >= HARPTIMBER_OUT_OF_SHAPE && answer <= HARPTIMBER_UNREADABLE;
 }

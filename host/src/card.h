@@ -54,11 +54,14 @@ bool card_is(const struct card *card, const struct stat *info);
 /* Whether two cards have their bytes from the same place: a file or device, by whatever path or loop device. */
 bool card_is_same(const struct card *card, const struct card *other);
 
-/* Block `index` of the file `name`, into 4,096 bytes at `block`. */
-struct harptimber_pulled card_pull(const struct card *card, const char *name, uint32_t index,
+/* Block `index` of the file that a path leads to, into 4,096 bytes at `block`. */
+struct harptimber_pulled card_pull(const struct card *card, const char *path, uint32_t index,
                                    uint8_t *block, struct lists *lists);
 
 /* Whether a pull's answer is a block: data or a hole. */
 bool is_block(uint32_t answer);
+
+/* Whether it is one of those before the walk, 4 to 8: a card that doesn't open, or a call out of shape. */
+bool is_before_walk(uint32_t answer);
 
 #endif

@@ -14,7 +14,7 @@ enum { PIECE = 64 * BLOCK_SIZE };
 
 struct cat {
     const struct request *request;
-    const char *name;
+    const char *path;
     struct card card;
     struct output output;
     bool output_is_open;
@@ -33,7 +33,7 @@ static bool open_output(struct cat *cat)
         return false;
     cat->output_is_open = true;
     if (!isatty(cat->output.file))
-        cat->progress = progress_begin(&cat->card, cat->name);
+        cat->progress = progress_begin(&cat->card, cat->path);
     return true;
 }
 
@@ -53,7 +53,7 @@ static bool copy(struct cat *cat)
     for (;;) {
         struct lists lists;
         struct harptimber_pulled pulled =
-            card_pull(&cat->card, cat->name, cat->blocks, cat->piece + cat->waiting, &lists);
+            card_pull(&cat->card, cat->path, cat->blocks, cat->piece + cat->waiting, &lists);
         cat->answer = pulled.answer;
         if (!is_block(pulled.answer))
             break;
@@ -83,9 +83,9 @@ static void show_words(const struct cat *cat)
     if (cat->answer == HARPTIMBER_PAST_END)
         return;
     show_subject(stderr, cat->card.path);
-    show(stderr, cat->name);
+    show(stderr, cat->path);
     fprintf(stderr, ", block %" PRIu32 ": ", cat->blocks);
-    struct asked asked = pull_of(&cat->card, cat->name, cat->blocks);
+    struct asked asked = pull_of(&cat->card, cat->path, cat->blocks);
     show_asked(stderr, cat->answer, harptimber_answer_words(cat->answer), &asked);
     fputs("; ", stderr);
     if (!has_written(cat)) {
@@ -101,11 +101,11 @@ static void show_json(const struct cat *cat)
     bool whole = cat->answer == HARPTIMBER_PAST_END;
     uint32_t answer = whole ? HARPTIMBER_DATA : cat->answer;
     FILE *out = output_is_standard(cat->request->output) ? stderr : stdout;
-    struct asked asked = pull_of(&cat->card, cat->name, cat->blocks);
+    struct asked asked = pull_of(&cat->card, cat->path, cat->blocks);
     struct json json = json_begin(out, "cat", answer, harptimber_answer_words(answer));
     json_asked(&json, answer, &asked);
     json_string(&json, "image", cat->card.path);
-    json_name(&json, cat->name);
+    json_name(&json, cat->path);
     json_string(&json, "output", cat->request->output);
     bool written = has_written(cat);
     json_number(&json, "bytes", written ? cat->bytes : 0);
@@ -145,7 +145,7 @@ enum status run_cat(const struct request *request)
     }
     static struct cat cat; /* large, so not on the stack */
     cat.request = request;
-    cat.name = request->words[1];
+    cat.path = request->words[1];
     enum status status = card_open(&cat.card, request, request->words[0]);
     if (status != DONE)
         return status;

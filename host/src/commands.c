@@ -11,7 +11,7 @@ const struct program_option options[OPTION_COUNT] = {
     [LISTS] = {0, "lists", NULL, "print the nodes and blocks that the answer rested on", FIELD(lists)},
     [INDEX] = {0, "index", "N", "compare only block N of each file", FIELD(index)},
     [QUIET] = {'q', "quiet", NULL, "print nothing: the exit status says it", FIELD(quiet)},
-    [VERBOSE] = {'v', "verbose", NULL, "with several names too, say which blocks, and what changed", FIELD(verbose)},
+    [VERBOSE] = {'v', "verbose", NULL, "with several paths too, say which blocks, and what changed", FIELD(verbose)},
     [OFFSET] = {0, "offset", "BYTES", "the card starts so many bytes into the image", FIELD(offset)},
     [PARTITION] = {0, "partition", "N", "the card is partition N of the image, by its MBR or GPT", FIELD(partition)},
     [JSON] = {0, "json", NULL, "print one JSON object", FIELD(json)},
@@ -30,38 +30,40 @@ const struct command commands[] = {
      "  0  the card can be read\n"
      "  2  it can't\n",
      run_info},
-    {"ls", "IMAGE", 1, 1, A_PART | TAKES(JSON),
-     "the root directory's names, and what a pull of block 0 answers",
-     "List the names in the root directory of the card IMAGE: each file's size in bytes, its name, and\n"
-     "what a pull of its block 0 answers. That is 3 for an empty file, and 12 for a directory or a link.\n"
-     "'.' and '..' are left out.\n",
+    {"ls", "IMAGE [PATH]", 1, 2, A_PART | TAKES(JSON),
+     "a directory's names, and what a pull of block 0 answers",
+     "List the names in the directory PATH of the card IMAGE, without PATH in the root directory: each\n"
+     "file's size in bytes, its name, and what a pull of its block 0 answers. That is 3 for an empty file,\n"
+     "and 12 for a directory or a link. '.' and '..' are left out. A PATH that is no directory is listed\n"
+     "alone.\n",
      "  0  all names\n"
-     "  2  names may be missing, since the directory is damaged, or the card can't be read\n",
+     "  2  names may be missing, since the directory is damaged, or there is no such PATH, or the card\n"
+     "     can't be read\n",
      run_ls},
-    {"pull", "IMAGE NAME INDEX", 3, 3, TAKES(OUTPUT) | TAKES(LISTS) | A_PART | TAKES(JSON),
-     "one block of a file in the root directory",
-     "Pull block INDEX of the file NAME from the card IMAGE. Blocks have 4,096 bytes, and a file's\n"
+    {"pull", "IMAGE PATH INDEX", 3, 3, TAKES(OUTPUT) | TAKES(LISTS) | A_PART | TAKES(JSON),
+     "one block of a file",
+     "Pull block INDEX of the file PATH from the card IMAGE. Blocks have 4,096 bytes, and a file's\n"
      "first is block 0. The answer is told in words; on a terminal the block's bytes follow.\n",
      "  0  data or a hole\n"
      "  2  there is no such block, or the card can't be read\n",
      run_pull},
-    {"cat", "IMAGE NAME", 2, 2, TAKES(OUTPUT) | A_PART | TAKES(JSON),
+    {"cat", "IMAGE PATH", 2, 2, TAKES(OUTPUT) | A_PART | TAKES(JSON),
      "a whole file, to standard output",
-     "Write the file NAME of the card IMAGE to standard output. Holes are zeros. With --json, -o is\n"
+     "Write the file PATH of the card IMAGE to standard output. Holes are zeros. With --json, -o is\n"
      "needed too.\n",
      "  0  the whole file was written\n"
      "  2  a block was refused; the message says how much was written\n",
      run_cat},
-    {"compare", "KEPT NEW NAME..", 3, INT_MAX, TAKES(INDEX) | TAKES(QUIET) | TAKES(VERBOSE) | A_PART | TAKES(JSON),
+    {"compare", "KEPT NEW PATH..", 3, INT_MAX, TAKES(INDEX) | TAKES(QUIET) | TAKES(VERBOSE) | A_PART | TAKES(JSON),
      "whether files read from the card KEPT are still good on NEW",
-     "Say for each file NAME whether what was read from the card KEPT is still good on the card NEW: how\n"
+     "Say for each file PATH whether what was read from the card KEPT is still good on the card NEW: how\n"
      "many blocks differ, have the same bytes but rest on something that changed, or are the same for\n"
-     "certain. A single name is followed by which blocks, and what changed.\n",
+     "certain. A single path is followed by which blocks, and what changed.\n",
      "  0  each block is the same, for certain\n"
      "  1  something that it rests on has changed, its bytes or not\n"
      "  2  KEPT has no such block, or a card can't be read\n"
-     "  4  neither card has the name\n"
-     "     With several names it is the highest of theirs.\n",
+     "  4  neither card has the path\n"
+     "     With several paths it is the highest of theirs.\n",
      run_compare},
     {"segments", "IMAGE", 1, 1, A_PART | TAKES(JSON),
      "which segments' valid counts are off, and how full the card is",

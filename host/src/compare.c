@@ -5,7 +5,6 @@
 #include <stdlib.h>
 #include <string.h>
 
-#include "disk.h"
 #include "progress.h"
 #include "text.h"
 #include "words.h"
@@ -50,11 +49,11 @@ static bool refuse(struct comparison *c, uint32_t answer, uint32_t side)
 static bool find(struct comparison *c, uint32_t index, struct finding *found)
 {
     struct lists *lists = &found->lists;
-    found->pulled = card_pull(c->kept, c->name, index, found->block, lists);
+    found->pulled = card_pull(c->kept, c->path, index, found->block, lists);
     uint32_t answer = found->pulled.answer;
-    if (answer >= HARPTIMBER_OUT_OF_SHAPE && answer <= HARPTIMBER_UNREADABLE) {
-        bool bad_name = answer == HARPTIMBER_OUT_OF_SHAPE && length_is_in_shape(c->kept);
-        return refuse(c, answer, bad_name ? (uint32_t)NO_SIDE : HARPTIMBER_KEPT);
+    if (is_before_walk(answer)) {
+        bool bad_path = answer == HARPTIMBER_OUT_OF_SHAPE && length_is_in_shape(c->kept);
+        return refuse(c, answer, bad_path ? (uint32_t)NO_SIDE : HARPTIMBER_KEPT);
     }
     found->verdict = harptimber_compare(c->kept->bytes, c->kept->len, c->new->bytes, c->new->len, lists->nodes,
                                         sizeof lists->nodes, found->pulled.node_count, lists->blocks,
@@ -63,27 +62,6 @@ static bool find(struct comparison *c, uint32_t index, struct finding *found)
     if (answer == HARPTIMBER_SAME || answer == HARPTIMBER_CHANGED)
         return true;
     return refuse(c, answer, HARPTIMBER_FRESH); /* the kept card has just been read */
-}
-
-/* Which of the listed nodes the kept card has in the block that differs. */
-static uint32_t node_in_block(const struct comparison *c, const struct finding *found)
-{
-    for (uint32_t i = 0; i < found->pulled.node_count; i++) {
-        uint32_t node = harptimber_list_entry(found->lists.nodes, i);
-        struct harptimber_entry entry = harptimber_node_lookup(c->kept->bytes, c->kept->len, node);
-        if (entry.answer == HARPTIMBER_DATA && entry.address == found->verdict.number)
-            return node;
-    }
-    return 0;
-}
-
-/* Whether the block is the root directory's. A pull past the end reads what finds the file, and no data. */
-static bool is_of_directory(const struct comparison *c, uint32_t number)
-{
-    for (uint32_t i = 0; i < c->had.block_count; i++)
-        if (harptimber_list_entry(c->had.lists.blocks, i) == number)
-            return true;
-    return false;
 }
 
 /* Room for one thing more behind so many. */
@@ -99,18 +77,29 @@ static void *grow(void *things, size_t count, size_t size)
     return things;
 }
 
-/* Which ground it is that changed; a new one is added. */
-static size_t find_ground(struct comparison *c, const struct finding *found)
+/* Which ground has this kind and number; as many as there are if none has. */
+static size_t ground_with(const struct comparison *c, uint32_t kind, uint32_t number)
 {
-    struct ground ground = {.kind = found->verdict.kind, .number = found->verdict.number};
-    if (ground.kind == HARPTIMBER_BLOCK_DIFFERS) {
-        ground.node = node_in_block(c, found);
-        if (ground.node == 0 && !is_of_directory(c, ground.number))
-            ground.number = 0;
-    }
-    for (size_t i = c->ground_count; i-- > 0;)
-        if (c->grounds[i].kind == ground.kind && c->grounds[i].number == ground.number)
+    size_t i = c->ground_count;
+    while (i-- > 0)
+        if (c->grounds[i].kind == kind && c->grounds[i].number == number)
             return i;
+    return c->ground_count;
+}
+
+/* Which ground it is that changed under a block; a new one is added. A block of the file's own is the same ground as the others. */
+static size_t find_ground(struct comparison *c, uint32_t index, const struct harptimber_compared *verdict)
+{
+    struct ground ground = {.kind = verdict->kind, .number = verdict->number};
+    size_t i = ground_with(c, ground.kind, ground.number);
+    if (i == c->ground_count) {
+        ground.role = walk_role(c->kept, c->path, index, verdict);
+        bool is_contents = ground.role.node == 0 && (ground.role.owner.is_file || !ground.role.is_met);
+        ground.number = ground.kind == HARPTIMBER_BLOCK_DIFFERS && is_contents ? 0 : ground.number;
+        i = ground_with(c, ground.kind, ground.number);
+    }
+    if (i != c->ground_count)
+        return i;
     c->grounds = grow(c->grounds, c->ground_count, sizeof *c->grounds);
     c->grounds[c->ground_count] = ground;
     return c->ground_count++;
@@ -133,13 +122,13 @@ static void pull_again(struct comparison *c, const struct finding *found, struct
 {
     uint8_t block[BLOCK_SIZE];
     struct lists lists;
-    struct harptimber_pulled pulled = card_pull(c->new, c->name, run->first, block, &lists);
+    struct harptimber_pulled pulled = card_pull(c->new, c->path, run->first, block, &lists);
     bool there = is_block(pulled.answer);
     run->answer = there ? (uint32_t)HARPTIMBER_DATA : pulled.answer;
     run->fate = DIFFERENT;
     if (there && is_block(found->pulled.answer))
         find_byte(run, found, block, pulled.byte_count);
-    run->ground = find_ground(c, found);
+    run->ground = find_ground(c, run->first, &found->verdict);
 }
 
 static void add_run(struct comparison *c, const struct run *run)
@@ -193,36 +182,35 @@ enum status compare_status(const struct comparison *c)
     return answer == HARPTIMBER_CHANGED ? CHANGED : REFUSED;
 }
 
-static void look(struct holding *holding, const struct card *card, const char *name)
+static struct holding look(const struct card *card, const char *path)
 {
     uint8_t block[BLOCK_SIZE];
-    struct harptimber_pulled pulled = card_pull(card, name, UINT32_MAX, block, &holding->lists);
-    holding->answer = pulled.answer;
-    holding->block_count = pulled.block_count;
-    holding->inode = disk_file(card, name);
+    struct lists lists;
+    uint32_t answer = card_pull(card, path, UINT32_MAX, block, &lists).answer;
+    return (struct holding){answer, walk_inode(card, path, answer)};
 }
 
 /* For the exit status alone, what comes behind a change says nothing more. */
-static void compare_name(struct comparison *c, uint32_t index, bool quiet)
+static void compare_path(struct comparison *c, uint32_t index, bool quiet)
 {
-    look(&c->had, c->kept, c->name);
-    look(&c->has, c->new, c->name);
+    c->had = look(c->kept, c->path);
+    c->has = look(c->new, c->path);
     struct progress progress = {.total = 0};
     if (c->whole && !quiet)
-        progress = progress_begin(c->kept, c->name);
+        progress = progress_begin(c->kept, c->path);
     while (compare_block(c, index) && c->whole && !(quiet && compare_status(c) == CHANGED))
         progress_show(&progress, ++index);
     progress_end(&progress);
 }
 
-/* With several names, the highest of their statuses. Once a card is refused, other names are no news. */
-static enum status compare_names(const struct request *request, struct comparison *all, size_t count, uint32_t index)
+/* With several paths, the highest of their statuses. Once a card is refused, other paths are no news. */
+static enum status compare_paths(const struct request *request, struct comparison *all, size_t count, uint32_t index)
 {
     enum status status = DONE;
     size_t done = 0;
     for (bool opened = true; done < count && opened; done++) {
         struct comparison *c = &all[done];
-        compare_name(c, index, request->quiet);
+        compare_path(c, index, request->quiet);
         opened = !c->refused || c->side == NO_SIDE;
         status = compare_status(c) > status ? compare_status(c) : status;
     }
@@ -247,8 +235,8 @@ static enum status compare_cards(const struct request *request, const struct car
     }
     for (size_t i = 0; i < count; i++)
         all[i] = (struct comparison){
-            .name = request->words[2 + i], .whole = request->index == NULL, .kept = kept, .new = new};
-    enum status status = compare_names(request, all, count, index);
+            .path = request->words[2 + i], .whole = request->index == NULL, .kept = kept, .new = new};
+    enum status status = compare_paths(request, all, count, index);
     for (size_t i = 0; i < count; i++) {
         free(all[i].runs);
         free(all[i].grounds);

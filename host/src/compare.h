@@ -4,8 +4,8 @@
 
 #include <stdio.h>
 
-#include "card.h"
 #include "request.h"
+#include "walk.h"
 
 /* What became of a block: by the library, and where that says "changed", by a pull on the new card. */
 enum fate {
@@ -18,7 +18,7 @@ enum fate {
 /* Something that changed, which blocks rest on: the first difference of each, as the library names it. */
 struct ground {
     uint32_t kind, number; /* the number is 0 where it is the block's own data */
-    uint32_t node;         /* the node that is in the block that differs; 0 if none is */
+    struct role role;      /* of the node or the block that differs, on the kept card */
 };
 
 /* In a byte's place: the file ends before it. */
@@ -35,20 +35,18 @@ struct run {
     int before, now; /* and what it is */
 };
 
-/* What a card has under the name. */
+/* What a card has under the path. */
 struct holding {
     uint32_t answer;      /* of a pull past the end: 3 if the file can be read so far */
-    struct lists lists;   /* what that rests on: what finds the file, */
-    uint32_t block_count; /* in so many blocks */
     const uint8_t *inode; /* its block; null if the pull doesn't come to it */
 };
 
 struct comparison {
-    const char *name;
+    const char *path;
     bool whole; /* every block was asked for */
     const struct card *kept, *new;
     struct holding had, has; /* on these cards */
-    bool refused;            /* a card doesn't open, or the name is bad: */
+    bool refused;            /* a card doesn't open, or the path is bad: */
     uint32_t refusal, side;  /* the answer, 4 to 8, and whose it is */
     struct run *runs;
     size_t run_count;
@@ -59,7 +57,7 @@ struct comparison {
     struct run end;
 };
 
-/* Beside the sides of harptimber_side: the name is at fault. */
+/* Beside the sides of harptimber_side: the path is at fault. */
 enum { NO_SIDE = 0 };
 
 bool is_changed(const struct run *run);
@@ -70,7 +68,7 @@ uint64_t held_bytes(const struct holding *holding);
 /* How many blocks were compared. */
 uint32_t compared_blocks(const struct comparison *c);
 
-/* Whether neither card has the name. */
+/* Whether neither card has all names on the path. */
 bool is_on_neither(const struct comparison *c);
 
 /* The answer to the whole question, and what the program ends with for it. */
@@ -80,7 +78,7 @@ enum status compare_status(const struct comparison *c);
 /* One line, and with details more, which are indented. */
 void compare_words(const struct comparison *c, bool details);
 
-/* One object: of a single name, or with a list of several. */
+/* One object: of a single path, or with a list of several. */
 void compare_json(const struct comparison *all, size_t count, bool several);
 
 /* Prints what changed under a run. */

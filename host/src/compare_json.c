@@ -41,10 +41,10 @@ static void json_difference(struct json *json, const struct comparison *c, const
 }
 
 /* Why a card answers a pull so, if that gives no block. Of the file's end the sizes tell. */
-static void json_why(struct json *json, const char *key, const struct card *card, const char *name, const struct run *run,
+static void json_why(struct json *json, const char *key, const struct card *card, const char *path, const struct run *run,
                      uint32_t answer)
 {
-    struct asked asked = pull_of(card, name, run->first);
+    struct asked asked = pull_of(card, path, run->first);
     if (!is_block(answer) && answer != HARPTIMBER_PAST_END)
         json_asked_as(json, key, answer, &asked);
 }
@@ -58,7 +58,7 @@ static void json_verdict(struct json *json, const struct comparison *c, const st
     json_number(json, "number", run->verdict.number);
     json_difference(json, c, run);
     json_number(json, "new_answer", run->answer);
-    json_why(json, "new_reason", c->new, c->name, run, run->answer);
+    json_why(json, "new_reason", c->new, c->path, run, run->answer);
 }
 
 /* A byte that differs; null behind the file's end. */
@@ -92,13 +92,13 @@ static void json_size(struct json *json, const char *key, const struct holding *
         json_number(json, key, held_bytes(holding));
 }
 
-/* What the object has for each name. */
+/* What the object has for each path. */
 static void json_file(struct json *json, const struct comparison *c)
 {
-    struct asked asked = pull_of(c->side == HARPTIMBER_FRESH ? c->new : c->kept, c->name, c->end.first);
+    struct asked asked = pull_of(c->side == HARPTIMBER_FRESH ? c->new : c->kept, c->path, c->end.first);
     if (compare_status(c) == REFUSED)
         json_asked(json, compare_answer(c), &asked);
-    json_name(json, c->name);
+    json_name(json, c->path);
     json_number(json, "status", compare_status(c));
     json_string(json, "verdict", verdict_of(c));
     json_size(json, "kept_size", &c->had);
@@ -117,13 +117,13 @@ static void json_file(struct json *json, const struct comparison *c)
         json_open(json, "end", '{');
         json_number(json, "index", c->end.first);
         json_number(json, "kept", c->last_answer);
-        json_why(json, "kept_reason", c->kept, c->name, &c->end, c->last_answer);
+        json_why(json, "kept_reason", c->kept, c->path, &c->end, c->last_answer);
         json_verdict(json, c, &c->end);
         json_close(json, '}');
     }
 }
 
-/* The answer of several names is that of the first one with the highest status. */
+/* The answer of several paths is that of the first one with the highest status. */
 void compare_json(const struct comparison *all, size_t count, bool several)
 {
     const struct comparison *worst = all;

@@ -3,33 +3,33 @@
 
 #include "compare.h"
 #include "difference.h"
-#include "disk.h"
+#include "reason.h"
 #include "text.h"
 #include "words.h"
 
-/* Whose node it is, by the kept card's table; null if that doesn't say. */
-static const char *owner_of_node(const struct comparison *c, uint32_t node)
+/* What a node is to the pull: 'the file's inode', 'a node of the root directory'. */
+static void show_node_role(FILE *out, const struct role *role)
 {
-    struct harptimber_entry entry = harptimber_node_lookup(c->kept->bytes, c->kept->len, node);
-    if (entry.answer != HARPTIMBER_DATA || entry.address == 0)
-        return NULL;
-    if (node == DISK_ROOT)
-        return "the root directory's inode";
-    if (entry.inode == DISK_ROOT)
-        return "a node of the root directory";
-    return entry.inode == node ? "the file's inode" : "a node of the file";
+    if (role->place == 0) {
+        show_owners_inode(out, &role->owner);
+    } else {
+        fputs("a node of ", out);
+        show_owner(out, &role->owner);
+    }
 }
 
-static void show_table_difference(FILE *out, const struct comparison *c, uint32_t node)
+static void show_table_difference(FILE *out, const struct comparison *c, const struct ground *ground)
 {
-    const char *owner = owner_of_node(c, node);
-    fprintf(out, "node %" PRIu32, node);
-    if (owner != NULL)
-        fprintf(out, " (%s)", owner);
+    fprintf(out, "node %" PRIu32, ground->number);
+    if (ground->role.is_met) {
+        fputs(" (", out);
+        show_node_role(out, &ground->role);
+        fputc(')', out);
+    }
     fputs(" has another table entry: ", out);
-    show_entry(out, harptimber_node_lookup(c->kept->bytes, c->kept->len, node));
+    show_entry(out, harptimber_node_lookup(c->kept->bytes, c->kept->len, ground->number));
     fputs(" before; ", out);
-    show_entry(out, harptimber_node_lookup(c->new->bytes, c->new->len, node));
+    show_entry(out, harptimber_node_lookup(c->new->bytes, c->new->len, ground->number));
     fputs(" now", out);
 }
 
@@ -37,16 +37,20 @@ static void show_table_difference(FILE *out, const struct comparison *c, uint32_
 static void show_block_difference(FILE *out, const struct comparison *c, const struct ground *ground)
 {
     const uint8_t *before = disk_block(c->kept, ground->number), *now = disk_block(c->new, ground->number);
-    if (ground->node == 0) {
+    const struct role *role = &ground->role;
+    if (role->node == 0) {
         show_directory_entry(out, before, now);
-        fputs(" in the root directory (", out);
+        fputs(" in ", out);
+        show_owner(out, &role->owner);
+        fputs(" (", out);
     } else {
-        const char *owner = owner_of_node(c, ground->node);
         show_node_fields(out, before, now);
-        fprintf(out, " changed in %s (node %" PRIu32 ", ", owner == NULL ? "a node" : owner, ground->node);
+        fputs(" changed in ", out);
+        show_node_role(out, role);
+        fprintf(out, " (node %" PRIu32 ", ", role->node);
     }
     fprintf(out, "the card's block %" PRIu32 ")", ground->number);
-    if (ground->node != 0)
+    if (role->node != 0)
         show_inline_entry(out, before, now);
 }
 
@@ -54,7 +58,7 @@ void show_ground(FILE *out, const struct comparison *c, const struct run *run)
 {
     const struct ground *ground = &c->grounds[run->ground];
     if (ground->kind == HARPTIMBER_NODE_DIFFERS)
-        show_table_difference(out, c, ground->number);
+        show_table_difference(out, c, ground);
     else if (ground->kind == HARPTIMBER_BOUNDS_DIFFER)
         fputs("the main area lies elsewhere", out);
     else if (ground->number == 0)
@@ -67,7 +71,7 @@ void show_ground(FILE *out, const struct comparison *c, const struct run *run)
 static void words_answer(const struct comparison *c, const struct card *card, const char *where, uint32_t index,
                          uint32_t answer)
 {
-    struct asked asked = pull_of(card, c->name, index);
+    struct asked asked = pull_of(card, c->path, index);
     printf("on %s: ", where);
     show_asked(stdout, answer, harptimber_answer_words(answer), &asked);
 }
@@ -318,12 +322,27 @@ static void words_one(const struct comparison *c, const char *what, const struct
     (kept ? words_new : words_kept)(c, UINT32_MAX, answer);
 }
 
+/* Of a path that neither card has. On each another name may be the missing one. */
+static void words_neither(const struct comparison *c)
+{
+    struct asked kept = pull_of(c->kept, c->path, 0), new = pull_of(c->new, c->path, 0);
+    printf("on neither card");
+    if (same_reason(HARPTIMBER_NO_NAME, &kept, &new)) {
+        printf(": ");
+        show_asked(stdout, HARPTIMBER_NO_NAME, harptimber_answer_words(HARPTIMBER_NO_NAME), &kept);
+    } else {
+        printf("; ");
+        words_kept(c, 0, HARPTIMBER_NO_NAME);
+        printf("; ");
+        words_new(c, 0, HARPTIMBER_NO_NAME);
+    }
+}
+
 static void words_not_both(const struct comparison *c)
 {
     uint32_t had = c->had.answer, has = c->has.answer;
     if (is_on_neither(c)) {
-        printf("on neither card: ");
-        show_answer(stdout, had, harptimber_answer_words(had), c->kept, c->name);
+        words_neither(c);
     } else if (had == HARPTIMBER_PAST_END) {
         words_one(c, has == HARPTIMBER_NO_NAME ? "gone" : "no longer readable", &c->had, has);
     } else if (has == HARPTIMBER_PAST_END) {
@@ -333,13 +352,13 @@ static void words_not_both(const struct comparison *c)
     }
 }
 
-/* A card that doesn't open, or a bad name. */
+/* A card that doesn't open, or a bad path. */
 static void words_refusal(const struct comparison *c)
 {
     const struct card *card = c->side == HARPTIMBER_FRESH ? c->new : c->kept;
-    show(stdout, c->side == NO_SIDE ? c->name : card->path);
+    show(stdout, c->side == NO_SIDE ? c->path : card->path);
     printf(": ");
-    show_answer(stdout, c->refusal, harptimber_answer_words(c->refusal), card, c->name);
+    show_answer(stdout, c->refusal, harptimber_answer_words(c->refusal), card, c->path);
     printf("\n");
 }
 
@@ -349,7 +368,7 @@ void compare_words(const struct comparison *c, bool details)
         words_refusal(c);
         return;
     }
-    show(stdout, c->name);
+    show(stdout, c->path);
     if (!c->whole)
         printf(", block %" PRIu32, c->run_count == 0 ? c->end.first : c->runs[0].first);
     printf(": ");

@@ -17,12 +17,6 @@ uint64_t disk64(const uint8_t *bytes);
 /* A block of the card; null if it has none of that number. */
 const uint8_t *disk_block(const struct card *card, uint32_t number);
 
-/* The block of a node, by the library's lookup; null if the number has none inside the card. */
-const uint8_t *disk_node(const struct card *card, uint32_t number);
-
-/* The inode's block of a file in the root directory, by a pull past its end; null if that doesn't come so far. */
-const uint8_t *disk_file(const struct card *card, const char *name);
-
 /* The root directory's inode number, on every card that opens. */
 enum { DISK_ROOT = 3 };
 

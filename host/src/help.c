@@ -35,9 +35,10 @@ void show_overview(FILE *out)
     fputs("\nOptions, of which each command takes some:\n", out);
     show_options(out, ~0U);
     show_option(out, 0, "version", NULL, "print the version");
-    fputs("Options may stand anywhere; behind -- every word is a name or a number.\n\n"
+    fputs("Options may stand anywhere; behind -- every word is a path, a name or a number.\n\n"
+          "PATH is one to eight names with single slashes between them, from the root directory on.\n\n"
           "'harptimber COMMAND --help' is that command's own page.\n\n"
-          "Exit status: 0 read or still good, 1 changed or off, 2 refused, 3 usage, 4 no such name on either card.\n", out);
+          "Exit status: 0 read or still good, 1 changed or off, 2 refused, 3 usage, 4 no such path on either card.\n", out);
 }
 
 void show_page(FILE *out, const struct command *command)

@@ -29,7 +29,7 @@ void json_string(struct json *json, const char *key, const char *text);
 /* An answer and its meaning. */
 void json_answer(struct json *json, uint32_t answer, const char *meaning);
 
-/* A file's name: as text, and its exact bytes in hexadecimal. */
+/* A name, or a path, which has the same key: as text, and its exact bytes in hexadecimal. */
 void json_name(struct json *json, const char *name);
 
 /* The same for a name that may have zero bytes, and has one more behind its end. */

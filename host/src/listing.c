@@ -1,9 +1,7 @@
-#define _GNU_SOURCE /* vasprintf */
 #include "listing.h"
 
 #include <errno.h>
 #include <inttypes.h>
-#include <stdarg.h>
 #include <stdlib.h>
 #include <string.h>
 
@@ -20,14 +18,18 @@ static void go_on(struct listing *listing)
 {
     bool noted = listing->problems[listing->problem_count] != NULL;
     listing->stopped = !noted || ++listing->problem_count == MOST_PROBLEMS;
-    listing->walk.stop = (struct stop){.in_root = true};
+    listing->walk.stop = (struct stop){.answer = HARPTIMBER_DATA};
+}
+
+static FILE *open_problem(struct listing *listing)
+{
+    return open_memstream(&listing->problems[listing->problem_count], &listing->problem_len);
 }
 
 /* Notes what the walk stopped at. */
 static void add_stop(struct listing *listing)
 {
-    size_t len = 0;
-    FILE *out = open_memstream(&listing->problems[listing->problem_count], &len);
+    FILE *out = open_problem(listing);
     if (out != NULL) {
         show_stop(out, &listing->walk.stop, listing->walk.card);
         fclose(out);
@@ -35,16 +37,25 @@ static void add_stop(struct listing *listing)
     go_on(listing);
 }
 
-/* Notes something else that is wrong. */
-__attribute__((format(printf, 2, 3))) static void add_problem(struct listing *listing, const char *format, ...)
+/* Notes a block that the directory has a second time. */
+static void add_twice(struct listing *listing, uint32_t address)
 {
-    va_list arguments;
-    va_start(arguments, format);
-    char **problem = &listing->problems[listing->problem_count];
-    if (vasprintf(problem, format, arguments) < 0)
-        *problem = NULL;
-    va_end(arguments);
+    FILE *out = open_problem(listing);
+    if (out != NULL) {
+        fprintf(out, "the card's block %" PRIu32 " is in ", address);
+        show_owner(out, &listing->walk.owner);
+        fputs(" twice", out);
+        fclose(out);
+    }
     go_on(listing);
+}
+
+/* Notes something else that is wrong, and reads on no further. */
+static void give_up(struct listing *listing, const char *problem)
+{
+    listing->problems[listing->problem_count] = strdup(problem);
+    go_on(listing);
+    listing->stopped = true;
 }
 
 static bool add_name(struct listing *listing, const struct dentry *dentry)
@@ -63,10 +74,13 @@ static bool add_name(struct listing *listing, const struct dentry *dentry)
     return true;
 }
 
-/* The root directory's entries for itself, which are no files. */
-static bool is_dots(const struct dentry *dentry)
+/* A directory's entries for itself and for the one that it is in, which is on the path too: they lead to nothing below it. */
+static bool is_dots(const struct walk *walk, const struct dentry *dentry)
 {
-    return dentry->inode == DISK_ROOT && dentry->len <= 2 && memcmp(dentry->name, "..", dentry->len) == 0;
+    uint32_t i = 0;
+    while (i < walk->names && walk->inodes[i] != dentry->inode)
+        i++;
+    return walk->inodes[i] == dentry->inode && dentry->len <= 2 && memcmp(dentry->name, "..", dentry->len) == 0;
 }
 
 /* The entries up to the first one that is malformed, which hides the others. */
@@ -75,18 +89,16 @@ static void list_entries(struct listing *listing, const struct dentries *dentrie
     struct dentry dentry;
     for (uint32_t slot = 0; dentry_from(dentries, slot, &dentry); slot = dentry.slot + slots_of(dentry.len)) {
         if (dentry.name == NULL) {
-            listing->walk.stop = malformed_at(dentries, &dentry, address, index);
+            stop_at_malformed(&listing->walk, dentries, &dentry, address, index);
             add_stop(listing);
             return;
         }
         if (listing->count == MOST_NAMES) {
-            add_problem(listing, "there are more than 1,000,000 names");
-            listing->stopped = true;
+            give_up(listing, "there are more than 1,000,000 names");
             return;
         }
-        if (!is_dots(&dentry) && !add_name(listing, &dentry)) {
-            add_problem(listing, "%s", strerror(ENOMEM));
-            listing->stopped = true;
+        if (!is_dots(&listing->walk, &dentry) && !add_name(listing, &dentry)) {
+            give_up(listing, strerror(ENOMEM));
             return;
         }
     }
@@ -103,7 +115,7 @@ static void list_address(struct listing *listing, uint32_t address, uint32_t ind
     }
     uint8_t bit = (uint8_t)(1 << address % 8);
     if ((listing->seen[address / 8] & bit) != 0) {
-        add_problem(listing, "the card's block %" PRIu32 " is in the root directory twice", address);
+        add_twice(listing, address);
         return;
     }
     listing->seen[address / 8] |= bit;
@@ -124,7 +136,7 @@ static const struct subtree subtrees[] = {
 /* What hangs below a node. Each node has one place only, so that none is read twice. */
 static void list_node(struct listing *listing, uint32_t number, uint32_t place, uint32_t height, uint32_t index)
 {
-    const uint8_t *node = walk_node(&listing->walk, number, DISK_ROOT, place);
+    const uint8_t *node = walk_node(&listing->walk, number, walk_number(&listing->walk), place);
     if (node == NULL) {
         add_stop(listing);
         return;
@@ -141,15 +153,15 @@ static void list_node(struct listing *listing, uint32_t number, uint32_t place, 
     }
 }
 
-/* Every block of the root directory. */
-static void list_blocks(struct listing *listing, const uint8_t *root)
+/* Every block of the directory with this inode. */
+static void list_blocks(struct listing *listing, const uint8_t *directory)
 {
     static const uint32_t heights[INODE_NODES] = {1, 1, 2, 2, 3};
-    uint32_t addresses = addresses_of(root), place = 1, index = addresses;
+    uint32_t addresses = addresses_of(directory), place = 1, index = addresses;
     for (uint32_t i = 0; i < addresses && !listing->stopped; i++)
-        list_address(listing, disk32(root + DISK_ADDRESSES + 4 * (size_t)i), i);
+        list_address(listing, disk32(directory + DISK_ADDRESSES + 4 * (size_t)i), i);
     for (size_t i = 0; i < INODE_NODES && !listing->stopped; i++) {
-        uint32_t number = disk32(root + DISK_NODES + 4 * i);
+        uint32_t number = disk32(directory + DISK_NODES + 4 * i);
         if (number != 0)
             list_node(listing, number, place, heights[i], index);
         place += subtrees[heights[i]].nodes;
@@ -157,24 +169,25 @@ static void list_blocks(struct listing *listing, const uint8_t *root)
     }
 }
 
-/* The root directory, whatever its size, its depth and its directory level are. */
-static void list_root(struct listing *listing)
+/* The directory, whatever its size, its depth and its directory level are. */
+static void list_directory(struct listing *listing)
 {
-    const uint8_t *root = walk_node(&listing->walk, DISK_ROOT, DISK_ROOT, 0);
-    if (root == NULL) {
+    uint32_t number = walk_number(&listing->walk);
+    const uint8_t *directory = walk_node(&listing->walk, number, number, 0);
+    if (directory == NULL) {
         add_stop(listing);
         return;
     }
-    struct disk_inode inode = disk_inode_of(root);
-    enum unread why = unread_by(&inode, true);
+    struct disk_inode inode = disk_inode_of(directory);
+    enum unread why = unread_by(&inode, false);
     if (why == UNREAD_KIND || why == UNREAD_MARKS) {
         listing->walk.stop.answer = HARPTIMBER_KIND_NOT_READ;
         add_stop(listing);
     } else if (is_inline(&inode)) {
-        struct dentries dentries = dentries_of_inode(root);
+        struct dentries dentries = dentries_of_inode(directory);
         list_entries(listing, &dentries, listing->walk.stop.address, 0);
     } else {
-        list_blocks(listing, root);
+        list_blocks(listing, directory);
     }
 }
 
@@ -185,15 +198,16 @@ static int in_order(const void *one, const void *other)
     return order != 0 ? order : (a->len > b->len) - (a->len < b->len);
 }
 
-bool listing_read(struct listing *listing, const struct card *card)
+bool listing_read(struct listing *listing, const struct walk *walk)
 {
-    *listing = (struct listing){.walk = walk_begin(card)};
-    listing->seen = calloc(card->len / BLOCK_SIZE / 8 + 1, 1);
+    *listing = (struct listing){.walk = *walk};
+    listing->walk.owner.is_file = false;
+    listing->seen = calloc(walk->card->len / BLOCK_SIZE / 8 + 1, 1);
     if (listing->seen == NULL) {
-        complain(card->path, "%s", strerror(ENOMEM));
+        complain(walk->card->path, "%s", strerror(ENOMEM));
         return false;
     }
-    list_root(listing);
+    list_directory(listing);
     if (listing->count != 0)
         qsort(listing->names, listing->count, sizeof *listing->names, in_order);
     return true;

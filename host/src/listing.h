@@ -1,4 +1,4 @@
-/* The names in a card's root directory. They are read in C; nothing of this is proved. */
+/* The names in a directory of a card. They are read in C; nothing of this is proved. */
 #ifndef LISTING_H
 #define LISTING_H
 
@@ -17,15 +17,15 @@ struct listing {
     struct listed *names; /* in the order of their bytes */
     size_t count, room;
     char *problems[MOST_PROBLEMS]; /* why names may be missing, in plain text */
-    size_t problem_count;
+    size_t problem_count, problem_len; /* how many, and how long the last one is */
     bool stopped;
     /* A bit for each of the card's blocks: those that were read as blocks of entries. Of its 512 KiB on the largest card, only
      * what has such a bit is ever touched. */
     uint8_t *seen;
 };
 
-/* Reads the root directory of a card that opens. Returns false, with a message, if there is no memory for it. */
-bool listing_read(struct listing *listing, const struct card *card);
+/* Reads the directory that a walk has come to. Returns false, with a message, if there is no memory for it. */
+bool listing_read(struct listing *listing, const struct walk *walk);
 
 bool listing_is_complete(const struct listing *listing);
 

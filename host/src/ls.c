@@ -1,70 +1,139 @@
-/* ls: the names in the root directory, and what a pull of each answers. */
+/* ls: the names in a directory, or a single file, and what a pull of each answers. */
 #include <inttypes.h>
 #include <string.h>
 
 #include "json.h"
 #include "listing.h"
+#include "path.h"
 #include "reason.h"
 #include "request.h"
 #include "text.h"
 #include "words.h"
 
-/* What is said of a name. The answer is the library's, to a pull of block 0; the inode's block is null if it can't be read. */
+/* What lies below the deepest directory is named too, though no pull takes its path. */
+enum { PATH_ROOM = HARPTIMBER_PATH_BYTES_MOST + 1 + HARPTIMBER_NAME_BYTES_MOST + 1 };
+
+/* What was asked for, and what it is. */
+struct ls {
+    const struct card *card;
+    const char *path;       /* null for the root directory */
+    uint32_t answer;        /* 0 if there is something to list; else why not */
+    bool is_directory;      /* else a file: the listing has the walk to it, and no names */
+    struct listing listing;
+    char below[PATH_ROOM];  /* the path of a name in the directory */
+};
+
+/* What a line is about: a name as it is shown, the inode that it leads to, and the path to pull. */
+struct row {
+    const char *name;
+    size_t len;
+    uint32_t inode;
+    const char *path;
+    size_t path_len;
+};
+
+/* What is said of it. The answer is the library's, to a pull of block 0; the inode's block is null if it can't be read. */
 struct told {
     uint32_t answer;
     struct asked asked;
     const uint8_t *inode;
 };
 
-static struct told tell_of(struct listing *listing, const struct listed *listed)
+static size_t row_count(const struct ls *ls)
 {
-    const struct card *card = listing->walk.card;
+    return ls->is_directory ? ls->listing.count : 1;
+}
+
+/* A row stands until the next one is made. */
+static struct row row_at(struct ls *ls, size_t i)
+{
+    size_t len = ls->path == NULL ? 0 : strlen(ls->path), at = path_next(len);
+    if (!ls->is_directory)
+        return (struct row){ls->path, len, walk_number(&ls->listing.walk), ls->path, len};
+    const struct listed *listed = &ls->listing.names[i];
+    if (len != 0) {
+        memcpy(ls->below, ls->path, len);
+        ls->below[len] = '/';
+    }
+    memcpy(ls->below + at, listed->name, listed->len);
+    ls->below[at + listed->len] = '\0';
+    return (struct row){listed->name, listed->len, listed->inode, ls->below, at + listed->len};
+}
+
+/* A damaged directory may have names with a slash, by which a pull would take another way. */
+static bool is_no_name(const struct ls *ls, const struct row *row)
+{
+    return ls->is_directory &&
+           harptimber_name_hash((const uint8_t *)row->name, row->len).answer == HARPTIMBER_OUT_OF_SHAPE;
+}
+
+static struct told tell_of(struct ls *ls, const struct row *row)
+{
+    const struct card *card = ls->card;
     uint8_t block[BLOCK_SIZE];
     struct lists lists;
-    struct told told = {.asked = {card, listed->name, listed->len, true, 0}};
-    told.answer = harptimber_pull(card->bytes, card->len, (const uint8_t *)listed->name, listed->len, 0, block,
+    struct told told = {.asked = {card, row->path, row->path_len, true, 0}};
+    told.inode = walk_node(&ls->listing.walk, row->inode, row->inode, 0);
+    if (is_no_name(ls, row)) {
+        told.answer = HARPTIMBER_OUT_OF_SHAPE;
+        told.asked = (struct asked){.name = row->name, .len = row->len};
+        return told;
+    }
+    told.answer = harptimber_pull(card->bytes, card->len, (const uint8_t *)row->path, row->path_len, 0, block,
                                   sizeof block, lists.nodes, sizeof lists.nodes, lists.blocks,
                                   sizeof lists.blocks).answer;
-    told.inode = walk_node(&listing->walk, listed->inode, listed->inode, 0);
     return told;
 }
 
 /* A line: the size, the name and the answer. */
-static void words_name(struct listing *listing, const struct listed *listed)
+static void words_row(struct ls *ls, size_t i)
 {
-    struct told told = tell_of(listing, listed);
+    struct row row = row_at(ls, i);
+    struct told told = tell_of(ls, &row);
     if (told.inode == NULL)
         printf("%14s", "?");
     else
         show_padded(stdout, disk_inode_of(told.inode).size, 14);
     printf("  ");
-    show_bytes(stdout, listed->name, listed->len);
+    show_bytes(stdout, row.name, row.len);
     printf(": ");
     show_asked(stdout, told.answer, harptimber_answer_words(told.answer), &told.asked);
     printf("\n");
 }
 
-static void show_words(struct listing *listing)
+/* The line before the names of a directory. */
+static void words_head(const struct ls *ls)
 {
-    show(stdout, listing->walk.card->path);
+    const struct listing *listing = &ls->listing;
+    show(stdout, ls->card->path);
     printf(": ");
     show_count(stdout, listing->count, "name");
-    printf(" in the root directory%s", listing_is_complete(listing) ? "" : ", perhaps not all");
+    printf(" in ");
+    show_owner(stdout, &listing->walk.owner);
+    printf("%s", listing_is_complete(listing) ? "" : ", perhaps not all");
     printf("%s\n", listing->count == 0 ? "" : "; size, name, and what a pull of block 0 answers");
-    for (size_t i = 0; i < listing->count; i++)
-        words_name(listing, &listing->names[i]);
+}
+
+static void show_words(struct ls *ls)
+{
+    const struct listing *listing = &ls->listing;
+    if (ls->is_directory)
+        words_head(ls);
+    for (size_t i = 0; i < row_count(ls); i++)
+        words_row(ls, i);
     for (size_t i = 0; i < listing->problem_count; i++)
         printf("names may be missing: %s\n", listing->problems[i]);
     if (listing->stopped)
         printf("names may be missing: the directory wasn't read further\n");
 }
 
-static void json_listed(struct json *json, struct listing *listing, const struct listed *listed)
+static void json_row(struct json *json, struct ls *ls, size_t i)
 {
-    struct told told = tell_of(listing, listed);
+    struct row row = row_at(ls, i);
+    struct told told = tell_of(ls, &row);
     json_open(json, NULL, '{');
-    json_name_bytes(json, listed->name, listed->len);
-    json_number(json, "inode", listed->inode);
+    json_name_bytes(json, row.name, row.len);
+    json_number(json, "inode", row.inode);
     if (told.inode != NULL) {
         json_string(json, "kind", kind_of(disk_inode_of(told.inode).mode));
         json_number(json, "size", disk_inode_of(told.inode).size);
@@ -74,14 +143,22 @@ static void json_listed(struct json *json, struct listing *listing, const struct
     json_close(json, '}');
 }
 
-static void show_json(struct listing *listing)
+static void json_subject(struct json *json, const struct ls *ls)
 {
+    json_string(json, "image", ls->card->path);
+    if (ls->path != NULL)
+        json_name(json, ls->path);
+}
+
+static void show_json(struct ls *ls)
+{
+    const struct listing *listing = &ls->listing;
     struct json json = json_begin(stdout, "ls", HARPTIMBER_DATA, "can be read");
-    json_string(&json, "image", listing->walk.card->path);
+    json_subject(&json, ls);
     json_flag(&json, "complete", listing_is_complete(listing));
     json_open(&json, "names", '[');
-    for (size_t i = 0; i < listing->count; i++)
-        json_listed(&json, listing, &listing->names[i]);
+    for (size_t i = 0; i < row_count(ls); i++)
+        json_row(&json, ls, i);
     json_close(&json, ']');
     json_open(&json, "problems", '[');
     for (size_t i = 0; i < listing->problem_count; i++)
@@ -90,45 +167,80 @@ static void show_json(struct listing *listing)
     json_end(&json);
 }
 
-/* A card that doesn't open. */
-static void show_refusal(const struct request *request, const struct card *card, uint32_t answer)
+/* What the answer is about, for its reason: a pull past the end, or without a path the card. */
+static struct asked asked_by(const struct ls *ls)
 {
-    if (request->json) {
-        struct json json = json_begin(stdout, "ls", answer, harptimber_answer_words(answer));
-        json_reason(&json, answer, card, NULL);
-        json_string(&json, "image", card->path);
-        json_end(&json);
-        return;
-    }
-    show(stdout, card->path);
+    return ls->path == NULL ? (struct asked){.card = ls->card} : pull_of(ls->card, ls->path, UINT32_MAX);
+}
+
+static void json_refusal(struct ls *ls)
+{
+    struct asked asked = asked_by(ls);
+    struct json json = json_begin(stdout, "ls", ls->answer, harptimber_answer_words(ls->answer));
+    json_asked(&json, ls->answer, &asked);
+    json_subject(&json, ls);
+    json_end(&json);
+}
+
+/* A card that doesn't open, or a path that leads nowhere. */
+static void words_refusal(struct ls *ls)
+{
+    struct asked asked = asked_by(ls);
+    bool is_card = ls->path == NULL || !length_is_in_shape(ls->card) ||
+                   (is_before_walk(ls->answer) && ls->answer != HARPTIMBER_OUT_OF_SHAPE);
+    show(stdout, is_card ? ls->card->path : ls->path);
     printf(": ");
-    show_answer(stdout, answer, harptimber_answer_words(answer), card, NULL);
+    show_asked(stdout, ls->answer, harptimber_answer_words(ls->answer), &asked);
     printf("\n");
 }
 
-static enum status list_and_tell(const struct request *request, const struct card *card)
+/* The library's answer, to a pull past the end or without a path to a lookup. */
+static uint32_t ask(const struct ls *ls)
 {
-    uint32_t answer = harptimber_node_lookup(card->bytes, card->len, DISK_ROOT).answer;
-    struct listing listing = {.seen = NULL};
-    if (answer == HARPTIMBER_DATA && !listing_read(&listing, card))
+    uint8_t block[BLOCK_SIZE];
+    struct lists lists;
+    if (ls->path == NULL)
+        return harptimber_node_lookup(ls->card->bytes, ls->card->len, DISK_ROOT).answer;
+    return card_pull(ls->card, ls->path, UINT32_MAX, block, &lists).answer;
+}
+
+/* Finds what there is to list. Returns false, with a message, if there is no memory for it. */
+static bool find(struct ls *ls)
+{
+    struct walk walk = walk_begin(ls->card);
+    ls->answer = ask(ls);
+    bool opens = !is_before_walk(ls->answer);
+    if (!opens || (ls->path != NULL && !walk_path(&walk, ls->path, strlen(ls->path))))
+        return true;
+    ls->answer = HARPTIMBER_DATA;
+    ls->listing.walk = walk;
+    const uint8_t *inode = walk_node(&walk, walk_number(&walk), walk_number(&walk), 0);
+    ls->is_directory = ls->path == NULL || (inode != NULL && disk_inode_of(inode).mode >> 12 == DISK_DIRECTORY);
+    return !ls->is_directory || listing_read(&ls->listing, &ls->listing.walk);
+}
+
+static enum status list_and_tell(const struct request *request, struct ls *ls)
+{
+    if (!find(ls))
         return REFUSED;
-    bool settled = card_is_settled(card);
-    if (settled && answer != HARPTIMBER_DATA)
-        show_refusal(request, card, answer);
+    bool settled = card_is_settled(ls->card), found = ls->answer == HARPTIMBER_DATA;
+    if (settled && found)
+        (request->json ? show_json : show_words)(ls);
     else if (settled)
-        (request->json ? show_json : show_words)(&listing);
-    bool complete = answer == HARPTIMBER_DATA && listing_is_complete(&listing);
-    listing_free(&listing);
-    return settled && complete && card_is_settled(card) ? DONE : REFUSED;
+        (request->json ? json_refusal : words_refusal)(ls);
+    bool complete = found && listing_is_complete(&ls->listing);
+    listing_free(&ls->listing);
+    return settled && complete && card_is_settled(ls->card) ? DONE : REFUSED;
 }
 
 enum status run_ls(const struct request *request)
 {
     struct card card;
+    struct ls ls = {.card = &card, .path = request->word_count > 1 ? request->words[1] : NULL};
     enum status status = card_open(&card, request, request->words[0]);
     if (status != DONE)
         return status;
-    status = list_and_tell(request, &card);
+    status = list_and_tell(request, &ls);
     card_close(&card);
     return status;
 }

@@ -12,7 +12,7 @@
 /* A pull with all that it gave. */
 struct pull {
     const struct card *card;
-    const char *name;
+    const char *path;
     uint32_t index;
     struct harptimber_pulled pulled;
     struct lists lists;
@@ -41,9 +41,9 @@ static void show_list(FILE *out, const char *what, const uint8_t *list, uint32_t
 static void show_words(FILE *out, const struct pull *pull, bool lists)
 {
     const struct harptimber_pulled *pulled = &pull->pulled;
-    show(out, pull->name);
+    show(out, pull->path);
     fprintf(out, ", block %" PRIu32 ": ", pull->index);
-    struct asked asked = pull_of(pull->card, pull->name, pull->index);
+    struct asked asked = pull_of(pull->card, pull->path, pull->index);
     show_asked(out, pulled->answer, harptimber_answer_words(pulled->answer), &asked);
     if (is_block(pulled->answer)) {
         fputs(", ", out);
@@ -74,11 +74,11 @@ static void json_list(struct json *json, const char *key, const uint8_t *list, u
 static void show_json(FILE *out, const struct pull *pull)
 {
     const struct harptimber_pulled *pulled = &pull->pulled;
-    struct asked asked = pull_of(pull->card, pull->name, pull->index);
+    struct asked asked = pull_of(pull->card, pull->path, pull->index);
     struct json json = json_begin(out, "pull", pulled->answer, harptimber_answer_words(pulled->answer));
     json_asked(&json, pulled->answer, &asked);
     json_string(&json, "image", pull->card->path);
-    json_name(&json, pull->name);
+    json_name(&json, pull->path);
     json_number(&json, "index", pull->index);
     json_number(&json, "byte_count", pulled->byte_count);
     json_list(&json, "nodes", pull->lists.nodes, pulled->node_count);
@@ -89,7 +89,7 @@ static void show_json(FILE *out, const struct pull *pull)
 /* The words come last: nothing is said of bytes that couldn't be written. */
 static enum status pull_and_tell(const struct request *request, struct pull *pull)
 {
-    pull->pulled = card_pull(pull->card, pull->name, pull->index, pull->block, &pull->lists);
+    pull->pulled = card_pull(pull->card, pull->path, pull->index, pull->block, &pull->lists);
     if (!card_is_settled(pull->card))
         return REFUSED;
     bool to_file = request->output != NULL;
@@ -109,7 +109,7 @@ static enum status pull_and_tell(const struct request *request, struct pull *pul
 enum status run_pull(const struct request *request)
 {
     struct card card;
-    struct pull pull = {.card = &card, .name = request->words[1]};
+    struct pull pull = {.card = &card, .path = request->words[1]};
     if (!read_number(request->words[2], "INDEX", &pull.index))
         return MISUSED;
     enum status status = card_open(&card, request, request->words[0]);

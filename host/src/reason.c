@@ -2,6 +2,7 @@
 
 #include <inttypes.h>
 
+#include "path.h"
 #include "text.h"
 
 const char *kind_of(uint16_t mode)
@@ -13,19 +14,37 @@ const char *kind_of(uint16_t mode)
     return kinds[mode >> 12] == NULL ? "file of no known kind" : kinds[mode >> 12];
 }
 
-static const char *owner_of(const struct stop *stop)
+void show_owner(FILE *out, const struct owner *owner)
 {
-    return stop->in_root ? "the root directory" : "the file";
+    if (owner->is_file) {
+        fputs("the file", out);
+    } else if (owner->len == 0) {
+        fputs("the root directory", out);
+    } else {
+        fputs("the directory ", out);
+        show_bytes(out, owner->path, owner->len);
+    }
+}
+
+void show_owners_inode(FILE *out, const struct owner *owner)
+{
+    bool is_named = !owner->is_file && owner->len != 0; /* names may end in anything, so that none gets an 's */
+    fputs(is_named ? "the inode of " : "", out);
+    show_owner(out, owner);
+    fputs(is_named ? "" : "'s inode", out);
 }
 
 /* 'node 77 (place 1 of the file)'. */
 static void show_node(FILE *out, const struct stop *stop)
 {
     fprintf(out, "node %" PRIu32 " (", stop->node);
-    if (stop->place == 0)
-        fprintf(out, "%s's inode)", owner_of(stop));
-    else
-        fprintf(out, "place %" PRIu32 " of %s)", stop->place, owner_of(stop));
+    if (stop->place == 0) {
+        show_owners_inode(out, &stop->owner);
+    } else {
+        fprintf(out, "place %" PRIu32 " of ", stop->place);
+        show_owner(out, &stop->owner);
+    }
+    fputc(')', out);
 }
 
 static void show_main_area(FILE *out, const struct card *card)
@@ -43,10 +62,12 @@ static void show_no_node(FILE *out, const struct stop *stop, const struct card *
 
 static void show_outside(FILE *out, const struct stop *stop, const struct card *card)
 {
-    if (stop->answer == HARPTIMBER_NODE_OUTSIDE)
+    if (stop->answer == HARPTIMBER_NODE_OUTSIDE) {
         show_node(out, stop);
-    else
-        fprintf(out, "block %" PRIu32 " of %s", stop->index, owner_of(stop));
+    } else {
+        fprintf(out, "block %" PRIu32 " of ", stop->index);
+        show_owner(out, &stop->owner);
+    }
     fprintf(out, " has address %" PRIu32, stop->address);
     show_main_area(out, card);
 }
@@ -131,20 +152,38 @@ static void show_unread(FILE *out, const struct disk_inode *inode, enum unread w
 static void show_kind(FILE *out, const struct stop *stop, const struct card *card)
 {
     struct disk_inode inode = disk_inode_of(disk_block(card, stop->address));
-    fputs(stop->in_root ? "the root directory isn't read: " : "", out);
-    show_unread(out, &inode, unread_by(&inode, stop->in_root));
+    const struct owner *owner = &stop->owner;
+    enum unread why = unread_by(&inode, owner->is_file);
+    if (why == UNREAD_KIND && owner->len != 0 && !owner->is_file) {
+        show_bytes(out, owner->path, owner->len);
+        fputs(" isn't a directory: ", out);
+    } else if (!owner->is_file) {
+        show_owner(out, owner);
+        fputs(" isn't read: ", out);
+    }
+    show_unread(out, &inode, why);
 }
 
 static void show_malformed(FILE *out, const struct stop *stop)
 {
-    if (stop->is_inline)
-        fprintf(out, "inline slot %" PRIu32 " of the card's block %" PRIu32 " (the root directory's inode)", stop->slot,
-                stop->address);
-    else
-        fprintf(out, "slot %" PRIu32 " of the card's block %" PRIu32 " (block %" PRIu32 " of the root directory)", stop->slot,
-                stop->address, stop->index);
-    fputs(" has a name of ", out);
+    fprintf(out, "%sslot %" PRIu32 " of the card's block %" PRIu32 " (", stop->is_inline ? "inline " : "", stop->slot,
+            stop->address);
+    if (stop->is_inline) {
+        show_owners_inode(out, &stop->owner);
+    } else {
+        fprintf(out, "block %" PRIu32 " of ", stop->index);
+        show_owner(out, &stop->owner);
+    }
+    fputs(") has a name of ", out);
     show_count(out, stop->len, "byte");
+}
+
+/* Which directory has no such name. */
+static void show_no_name(FILE *out, const struct stop *stop)
+{
+    show_owner(out, &stop->owner);
+    fputs(" has no ", out);
+    show_bytes(out, stop->owner.path + path_next(stop->owner.len), stop->len);
 }
 
 /* How long the file is. */
@@ -167,7 +206,9 @@ static void show_end(FILE *out, const struct stop *stop, const struct card *card
 
 void show_stop(FILE *out, const struct stop *stop, const struct card *card)
 {
-    if (stop->answer == HARPTIMBER_PAST_END)
+    if (stop->answer == HARPTIMBER_NO_NAME)
+        show_no_name(out, stop);
+    else if (stop->answer == HARPTIMBER_PAST_END)
         show_end(out, stop, card);
     else if (stop->answer == HARPTIMBER_NO_NODE)
         show_no_node(out, stop, card);

@@ -3,6 +3,7 @@
 #include <string.h>
 
 #include "opening.h"
+#include "path.h"
 
 /* What the library never answers. */
 static const uint32_t NO_ANSWER = UINT32_MAX;
@@ -14,13 +15,18 @@ enum { SLOT_BYTES = 8, ENTRY_BYTES = 11, MOST_NAME_BYTES = 255 };
 
 struct walk walk_begin(const struct card *card)
 {
-    struct walk walk = {.card = card, .stop.in_root = true};
+    struct walk walk = {.card = card, .inodes = {DISK_ROOT}};
     const uint8_t *superblock = opening_superblock(card);
     if (superblock != NULL) {
         walk.main_first = disk_area_first(superblock, DISK_MAIN);
         walk.main_end = disk_area_end(superblock, DISK_MAIN);
     }
     return walk;
+}
+
+uint32_t walk_number(const struct walk *walk)
+{
+    return walk->inodes[walk->names];
 }
 
 static bool is_main(const struct walk *walk, uint32_t address)
@@ -34,11 +40,20 @@ static bool belongs(const uint8_t *node, const struct stop *at)
            disk32(node + DISK_FOOTER_FLAG) / 8 == at->place;
 }
 
+/* Notes what is sought, the first time that it is met: a node, or a block of the card with this node, or with none. */
+static void meet(struct walk *walk, enum harptimber_kind kind, uint32_t number, uint32_t node, uint32_t place)
+{
+    const struct harptimber_compared *sought = walk->sought;
+    if (sought != NULL && !walk->role.is_met && sought->kind == kind && sought->number == number)
+        walk->role = (struct role){true, walk->owner, node, place};
+}
+
 const uint8_t *walk_node(struct walk *walk, uint32_t number, uint32_t inode, uint32_t place)
 {
     struct harptimber_entry entry = harptimber_node_lookup(walk->card->bytes, walk->card->len, number);
-    struct stop at = {.in_root = walk->stop.in_root, .node = number, .inode = inode, .place = place};
-    at.address = entry.address;
+    struct stop at = {.owner = walk->owner, .node = number, .inode = inode, .place = place, .address = entry.address};
+    meet(walk, HARPTIMBER_NODE_DIFFERS, number, number, place);
+    meet(walk, HARPTIMBER_BLOCK_DIFFERS, entry.address, number, place);
     const uint8_t *node = disk_block(walk->card, entry.address);
     if (entry.answer != HARPTIMBER_DATA && entry.answer != HARPTIMBER_NO_NODE)
         at.answer = NO_ANSWER; /* not on a card that opens */
@@ -57,11 +72,11 @@ const uint8_t *walk_address(struct walk *walk, uint32_t address, uint32_t index)
     if (address == 0 || address == UINT32_MAX)
         return NULL;
     const uint8_t *block = disk_block(walk->card, address);
+    meet(walk, HARPTIMBER_BLOCK_DIFFERS, address, 0, 0);
     if (block != NULL && is_main(walk, address))
         return block;
-    walk->stop = (struct stop){.answer = HARPTIMBER_DATA_OUTSIDE, .in_root = walk->stop.in_root};
-    walk->stop.index = index;
-    walk->stop.address = address;
+    walk->stop = (struct stop){
+        .answer = HARPTIMBER_DATA_OUTSIDE, .owner = walk->owner, .index = index, .address = address};
     return NULL;
 }
 
@@ -80,18 +95,18 @@ bool is_inline(const struct disk_inode *inode)
 }
 
 /* Only a directory has inline entries, only a file inline data. A file's depth and level aren't asked for. */
-enum unread unread_by(const struct disk_inode *inode, bool is_root)
+enum unread unread_by(const struct disk_inode *inode, bool as_file)
 {
-    uint8_t other_mark = is_root ? DISK_INLINE_DATA : DISK_INLINE_DENTRY;
-    if (inode->mode >> 12 != (is_root ? DISK_DIRECTORY : DISK_REGULAR))
+    uint8_t other_mark = as_file ? DISK_INLINE_DENTRY : DISK_INLINE_DATA;
+    if (inode->mode >> 12 != (as_file ? DISK_REGULAR : DISK_DIRECTORY))
         return UNREAD_KIND;
     if ((inode->inline_flags & (other_mark | DISK_EXTRA_ATTR)) != 0)
         return UNREAD_MARKS;
     if (is_inline(inode) && inode->size > disk_inline_room(inode))
         return UNREAD_SIZE;
-    if (is_root && inode->depth > DISK_MOST_DEPTH)
+    if (!as_file && inode->depth > DISK_MOST_DEPTH)
         return UNREAD_DEPTH;
-    return is_root && inode->dir_level > DISK_MOST_DIR_LEVEL ? UNREAD_LEVEL : UNREAD_NOT;
+    return !as_file && inode->dir_level > DISK_MOST_DIR_LEVEL ? UNREAD_LEVEL : UNREAD_NOT;
 }
 
 uint32_t addresses_of(const uint8_t *inode)
@@ -163,11 +178,12 @@ bool dentry_from(const struct dentries *dentries, uint32_t slot, struct dentry *
     return true;
 }
 
-struct stop malformed_at(const struct dentries *dentries, const struct dentry *dentry, uint32_t address, uint32_t index)
+void stop_at_malformed(struct walk *walk, const struct dentries *dentries, const struct dentry *dentry, uint32_t address,
+                       uint32_t index)
 {
-    return (struct stop){
+    walk->stop = (struct stop){
         .answer = HARPTIMBER_MALFORMED_SLOT,
-        .in_root = true,
+        .owner = walk->owner,
         .index = index,
         .address = address,
         .is_inline = dentries->is_inline,
@@ -176,50 +192,52 @@ struct stop malformed_at(const struct dentries *dentries, const struct dentry *d
     };
 }
 
-/* What is sought in the root directory. */
-struct sought {
-    const uint8_t *name;
+/* A name that is sought in the directory that a walk is at. */
+struct search {
+    const char *name;
     size_t len;
     uint32_t hash;
+    const uint8_t *directory; /* its inode's block */
+    uint32_t inode;           /* where the last entry leads that was looked at */
 };
 
-/* Seeks a name among entries of the root directory. Returns whether the search is over: found, or stopped. */
-static bool seek_among(struct walk *walk, const struct sought *sought, const struct dentries *dentries, uint32_t index,
-                       uint32_t *inode)
+/* Seeks the name among some entries. Returns whether the search is over: found, or stopped. */
+static bool seek_among(struct walk *walk, struct search *search, const struct dentries *dentries, uint32_t index)
 {
     struct dentry dentry;
     for (uint32_t slot = 0; dentry_from(dentries, slot, &dentry); slot = dentry.slot + slots_of(dentry.len)) {
         if (dentry.name == NULL) {
             size_t at = (size_t)(dentries->bytes - walk->card->bytes);
-            walk->stop = malformed_at(dentries, &dentry, (uint32_t)(at / BLOCK_SIZE), index);
+            stop_at_malformed(walk, dentries, &dentry, (uint32_t)(at / BLOCK_SIZE), index);
             return true;
         }
-        *inode = dentry.inode;
-        if (dentry.hash == sought->hash && dentry.len == sought->len && memcmp(dentry.name, sought->name, sought->len) == 0)
+        search->inode = dentry.inode;
+        if (dentry.hash == search->hash && dentry.len == search->len && memcmp(dentry.name, search->name, search->len) == 0)
             return true;
     }
     return false;
 }
 
-static bool seek_in_block(struct walk *walk, const struct sought *sought, const uint8_t *block, uint32_t index, uint32_t *inode)
+static bool seek_in_block(struct walk *walk, struct search *search, const uint8_t *block, uint32_t index)
 {
     struct dentries dentries = dentries_of_block(block);
-    return seek_among(walk, sought, &dentries, index, inode);
+    return seek_among(walk, search, &dentries, index);
 }
 
 /* Inline entries are looked at once, whatever the depth and the directory level are. */
-static bool seek_in_inode(struct walk *walk, const struct sought *sought, const uint8_t *root, uint32_t *inode)
+static bool seek_in_inode(struct walk *walk, struct search *search)
 {
-    struct dentries dentries = dentries_of_inode(root);
-    return seek_among(walk, sought, &dentries, 0, inode);
+    struct dentries dentries = dentries_of_inode(search->directory);
+    return seek_among(walk, search, &dentries, 0);
 }
 
-/* Seeks a name in the bucket with this first block. Returns whether the search is over. Past the last index there is no block. */
-static bool seek_in_bucket(struct walk *walk, const struct sought *sought, const uint8_t *root, uint64_t first, uint32_t *inode)
+/* Seeks the name in the bucket with this first block. Returns whether the search is over. Past the last index there is no block. */
+static bool seek_in_bucket(struct walk *walk, struct search *search, uint64_t first)
 {
-    for (uint64_t index = first; index < first + BUCKET_BLOCKS && index <= last_index_of(root); index++) {
-        const uint8_t *block = file_block(walk, DISK_ROOT, root, (uint32_t)index);
-        bool over = block != NULL && seek_in_block(walk, sought, block, (uint32_t)index, inode);
+    uint32_t last = last_index_of(search->directory);
+    for (uint64_t index = first; index < first + BUCKET_BLOCKS && index <= last; index++) {
+        const uint8_t *block = file_block(walk, walk_number(walk), search->directory, (uint32_t)index);
+        bool over = block != NULL && seek_in_block(walk, search, block, (uint32_t)index);
         if (over || walk->stop.answer != HARPTIMBER_DATA)
             return true;
     }
@@ -227,17 +245,17 @@ static bool seek_in_bucket(struct walk *walk, const struct sought *sought, const
 }
 
 /*
- * Seeks a name by the hash levels of the root directory. Returns whether the search is over. The first has 2^(directory level)
+ * Seeks the name by the directory's hash levels. Returns whether the search is over. The first has 2^(directory level)
  * buckets, and each later one twice as many as the one before, up to 2^30. None in reach needs that limit: unless it is the first, at
  * least as many blocks lie before it as it has buckets, and a directory's last block is below 2^30. How many are in reach depends on
  * the directory level, so that each one's first block is asked.
  */
-static bool seek_in_levels(struct walk *walk, const struct sought *sought, const uint8_t *root, uint32_t *inode)
+static bool seek_in_levels(struct walk *walk, struct search *search)
 {
-    struct disk_inode directory = disk_inode_of(root);
+    struct disk_inode directory = disk_inode_of(search->directory);
     uint64_t first = 0, buckets = (uint64_t)1 << directory.dir_level;
-    for (uint32_t n = 0; n < directory.depth && first <= last_index_of(root); n++) {
-        if (seek_in_bucket(walk, sought, root, first + BUCKET_BLOCKS * (sought->hash % buckets), inode))
+    for (uint32_t n = 0; n < directory.depth && first <= last_index_of(search->directory); n++) {
+        if (seek_in_bucket(walk, search, first + BUCKET_BLOCKS * (search->hash % buckets)))
             return true;
         first += BUCKET_BLOCKS * buckets;
         buckets *= 2;
@@ -245,51 +263,93 @@ static bool seek_in_levels(struct walk *walk, const struct sought *sought, const
     return false;
 }
 
-/* Seeks a name in the root directory; false where the walk stops. */
-static bool seek(struct walk *walk, const struct sought *sought, const uint8_t *root, uint32_t *inode)
+/* Seeks the name; false where the walk stops. */
+static bool seek(struct walk *walk, struct search *search)
 {
-    struct disk_inode directory = disk_inode_of(root);
-    bool over = directory.size != 0 &&
-                (is_inline(&directory) ? seek_in_inode : seek_in_levels)(walk, sought, root, inode);
-    if (!over)
+    struct disk_inode directory = disk_inode_of(search->directory);
+    bool over = directory.size != 0 && (is_inline(&directory) ? seek_in_inode : seek_in_levels)(walk, search);
+    if (!over) {
         walk->stop.answer = HARPTIMBER_NO_NAME;
+        walk->stop.len = (uint32_t)search->len;
+    }
     return walk->stop.answer == HARPTIMBER_DATA;
 }
 
-/* An inode of a kind that is read; null where the walk stops. */
-static const uint8_t *read_inode(struct walk *walk, uint32_t number)
+/* The inode that the walk has come to, if it is of a kind that is read; null where the walk stops. */
+static const uint8_t *read_inode(struct walk *walk)
 {
+    uint32_t number = walk_number(walk);
     const uint8_t *block = walk_node(walk, number, number, 0);
     if (block == NULL)
         return NULL;
     struct disk_inode inode = disk_inode_of(block);
-    if (unread_by(&inode, walk->stop.in_root) == UNREAD_NOT)
+    if (unread_by(&inode, walk->owner.is_file) == UNREAD_NOT)
         return block;
     walk->stop.answer = HARPTIMBER_KIND_NOT_READ;
     return NULL;
 }
 
-/* Walks on from a file's inode. Its inline bytes are there already. */
-static void walk_file(struct walk *walk, uint32_t number, const uint8_t *block, uint32_t index)
+/* Reads the directory that the walk is at, and follows the path's next name. Returns false where the walk stops. */
+static bool walk_name(struct walk *walk, size_t path_len)
+{
+    size_t at = path_next(walk->owner.len), end = path_name_end(walk->owner.path, path_len, at);
+    struct search search = {.name = walk->owner.path + at, .len = end - at};
+    search.hash = harptimber_name_hash((const uint8_t *)search.name, search.len).hash;
+    search.directory = read_inode(walk);
+    if (search.directory == NULL || !seek(walk, &search))
+        return false;
+    walk->inodes[++walk->names] = search.inode;
+    walk->owner.len = end;
+    walk->owner.is_file = end == path_len;
+    return true;
+}
+
+bool walk_path(struct walk *walk, const char *path, size_t len)
+{
+    walk->owner.path = path;
+    while (walk->owner.len < len)
+        if (walk->names == HARPTIMBER_NAMES_MOST || !walk_name(walk, len))
+            return false;
+    return true;
+}
+
+/* Walks on from the file's inode. Its inline bytes are there already. */
+static void walk_file(struct walk *walk, const uint8_t *block, uint32_t index)
 {
     struct disk_inode inode = disk_inode_of(block);
     if (is_past_end(block, index))
         walk->stop.answer = HARPTIMBER_PAST_END;
     else if (!is_inline(&inode))
-        file_block(walk, number, block, index);
+        file_block(walk, walk_number(walk), block, index);
 }
 
-struct stop walk_pull(const struct card *card, const uint8_t *name, size_t len, uint32_t index)
+/* Walks as a pull does, from a walk's beginning on. */
+static void walk_on(struct walk *walk, const char *path, size_t len, uint32_t index)
+{
+    const uint8_t *inode = walk_path(walk, path, len) ? read_inode(walk) : NULL;
+    if (inode != NULL)
+        walk_file(walk, inode, index);
+}
+
+struct stop walk_pull(const struct card *card, const char *path, size_t len, uint32_t index)
 {
     struct walk walk = walk_begin(card);
-    struct sought sought = {name, len, harptimber_name_hash(name, len).hash};
-    uint32_t number = 0;
-    const uint8_t *inode = read_inode(&walk, DISK_ROOT);
-    if (inode == NULL || !seek(&walk, &sought, inode, &number))
-        return walk.stop;
-    walk.stop.in_root = false;
-    inode = read_inode(&walk, number);
-    if (inode != NULL)
-        walk_file(&walk, number, inode, index);
+    walk_on(&walk, path, len, index);
     return walk.stop;
+}
+
+struct role walk_role(const struct card *card, const char *path, uint32_t index, const struct harptimber_compared *difference)
+{
+    struct walk walk = walk_begin(card);
+    walk.sought = difference;
+    walk_on(&walk, path, strlen(path), index);
+    return walk.role;
+}
+
+const uint8_t *walk_inode(const struct card *card, const char *path, uint32_t answer)
+{
+    if (answer != HARPTIMBER_PAST_END && answer != HARPTIMBER_KIND_NOT_READ)
+        return NULL;
+    struct stop stop = walk_pull(card, path, strlen(path), UINT32_MAX);
+    return stop.answer == answer && stop.owner.is_file ? disk_block(card, stop.address) : NULL;
 }

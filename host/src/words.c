@@ -6,6 +6,7 @@
 
 #include "opening.h"
 #include "partitions.h"
+#include "path.h"
 #include "reason.h"
 #include "text.h"
 
@@ -103,16 +104,8 @@ static void show_out_of_shape(FILE *out, const struct asked *asked)
         show_disk(out, asked->card);
     } else if (asked->name == NULL) {
         fputs(asked->card == NULL ? "A has to be 873 or 923" : "", out);
-    } else if (asked->len == 0) {
-        fputs("the name is empty", out);
-    } else if (asked->len > HARPTIMBER_NAME_BYTES_MOST) {
-        fputs("the name has ", out);
-        show_count(out, asked->len, "byte");
-        fputs("; at most 255 are possible", out);
-    } else if (memchr(asked->name, '/', asked->len) != NULL) {
-        fprintf(out, "the name has a slash%s", asked->card == NULL ? "" : "; only the root directory is read");
-    } else if (memchr(asked->name, '\0', asked->len) != NULL) {
-        fputs("the name has a zero byte", out);
+    } else {
+        (asked->card == NULL ? show_name_fault : show_path_fault)(out, asked->name, asked->len);
     }
 }
 
@@ -148,7 +141,7 @@ static void show_unopened(FILE *out, const struct card *card, uint32_t answer)
 /* A walk that stops elsewhere than the library found no reason. */
 static void show_pull_reason(FILE *out, uint32_t answer, const struct asked *asked)
 {
-    struct stop stop = walk_pull(asked->card, (const uint8_t *)asked->name, asked->len, asked->index);
+    struct stop stop = walk_pull(asked->card, asked->name, asked->len, asked->index);
     if (stop.answer == answer)
         show_stop(out, &stop, asked->card);
 }
@@ -159,13 +152,13 @@ static void show_reason(FILE *out, uint32_t answer, const struct asked *asked)
         show_out_of_shape(out, asked);
     else if (answer >= HARPTIMBER_NO_SUPERBLOCK && answer <= HARPTIMBER_UNREADABLE)
         show_unopened(out, asked->card, answer);
-    else if (asked->is_pull && (answer == HARPTIMBER_PAST_END || answer > HARPTIMBER_UNREADABLE))
+    else if (asked->is_pull && !is_block(answer))
         show_pull_reason(out, answer, asked);
 }
 
-struct asked pull_of(const struct card *card, const char *name, uint32_t index)
+struct asked pull_of(const struct card *card, const char *path, uint32_t index)
 {
-    return (struct asked){.card = card, .name = name, .len = strlen(name), .is_pull = true, .index = index};
+    return (struct asked){.card = card, .name = path, .len = strlen(path), .is_pull = true, .index = index};
 }
 
 /* A call that is no pull. */
@@ -186,6 +179,15 @@ static char *reason_of_asked(uint32_t answer, const struct asked *asked)
         return reason;
     free(reason);
     return NULL;
+}
+
+bool same_reason(uint32_t answer, const struct asked *one, const struct asked *other)
+{
+    char *reason = reason_of_asked(answer, one), *other_reason = reason_of_asked(answer, other);
+    bool same = reason == NULL || other_reason == NULL ? reason == other_reason : strcmp(reason, other_reason) == 0;
+    free(reason);
+    free(other_reason);
+    return same;
 }
 
 char *reason_of(uint32_t answer, const struct card *card, const char *name)

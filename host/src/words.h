@@ -17,14 +17,17 @@ const char *card_meaning_of(uint32_t answer);
 /* A call of the library, as far as its words need it. */
 struct asked {
     const struct card *card; /* null if the call takes none */
-    const char *name;        /* null if the call takes none */
-    size_t len;              /* the name's */
+    const char *name;        /* a pull's path, or the name to hash; null if the call takes neither */
+    size_t len;              /* its bytes */
     bool is_pull;
     uint32_t index;
 };
 
 /* A pull of a file's block. */
-struct asked pull_of(const struct card *card, const char *name, uint32_t index);
+struct asked pull_of(const struct card *card, const char *path, uint32_t index);
+
+/* Whether two calls with this answer have one and the same reason. */
+bool same_reason(uint32_t answer, const struct asked *one, const struct asked *other);
 
 /* Prints 'MEANING (answer N)' and, unless it is null, ': ' and the reason. */
 void show_with_reason(FILE *out, uint32_t answer, const char *meaning, const char *reason);

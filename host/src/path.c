@@ -1,0 +1,96 @@
+#include "path.h"
+
+#include <stdbool.h>
+#include <string.h>
+
+#include "harptimber.h"
+#include "text.h"
+
+size_t path_next(size_t len)
+{
+    return len == 0 ? 0 : len + 1;
+}
+
+size_t path_name_end(const char *path, size_t len, size_t at)
+{
+    const char *slash = memchr(path + at, '/', len - at);
+    return slash == NULL ? len : (size_t)(slash - path);
+}
+
+static bool is_name(const char *name, size_t len)
+{
+    return len >= 1 && len <= HARPTIMBER_NAME_BYTES_MOST && memchr(name, '\0', len) == NULL && memchr(name, '/', len) == NULL;
+}
+
+/* What is wrong with a name, behind what it is called. */
+static void show_fault_of(FILE *out, const char *name, size_t len)
+{
+    if (len > HARPTIMBER_NAME_BYTES_MOST) {
+        fputs(" has ", out);
+        show_count(out, len, "byte");
+        fputs("; at most 255 are possible", out);
+    } else {
+        fputs(len == 0 ? " is empty" : memchr(name, '/', len) != NULL ? " has a slash" : " has a zero byte", out);
+    }
+}
+
+void show_name_fault(FILE *out, const char *name, size_t len)
+{
+    if (is_name(name, len))
+        return;
+    fputs("the name", out);
+    show_fault_of(out, name, len);
+}
+
+/* The first of several names that isn't one. */
+static void show_bad_name(FILE *out, const char *path, size_t len)
+{
+    size_t at = 0, end = path_name_end(path, len, at);
+    int which = 1;
+    for (; end < len && is_name(path + at, end - at); which++) {
+        at = path_next(end);
+        end = path_name_end(path, len, at);
+    }
+    if (is_name(path + at, end - at))
+        return;
+    fprintf(out, "name %d of the path", which);
+    show_fault_of(out, path + at, end - at);
+}
+
+/* The slash that a path has too much, in words; null if it has none. */
+static const char *bad_slash(const char *path, size_t len)
+{
+    if (path[0] == '/')
+        return "starts with a slash; a path is taken from the root directory on";
+    if (path[len - 1] == '/')
+        return "ends with a slash";
+    for (size_t i = 1; i < len; i++)
+        if (path[i - 1] == '/' && path[i] == '/')
+            return "has two slashes side by side";
+    return NULL;
+}
+
+static size_t count_names(const char *path, size_t len)
+{
+    size_t count = 1;
+    for (size_t i = 0; i < len; i++)
+        count += path[i] == '/';
+    return count;
+}
+
+void show_path_fault(FILE *out, const char *path, size_t len)
+{
+    const char *slash = len == 0 ? NULL : bad_slash(path, len);
+    size_t names = count_names(path, len);
+    if (len == 0) {
+        fputs("the path is empty", out);
+    } else if (slash != NULL) {
+        fprintf(out, "the path %s", slash);
+    } else if (names > HARPTIMBER_NAMES_MOST) {
+        fputs("the path has ", out);
+        show_count(out, names, "name");
+        fprintf(out, "; at most %d are possible", HARPTIMBER_NAMES_MOST);
+    } else {
+        (names == 1 ? show_name_fault : show_bad_name)(out, path, len);
+    }
+}
