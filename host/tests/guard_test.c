@@ -6,18 +6,18 @@
  *     card PATH                              a sound image
  *     put OFFSET BYTES                       damages it
  *     undo                                   takes the damage back
- *     pull NAME INDEX ANSWER KEPT FRESH      a pull's answer, and those of compares with the sound image
+ *     pull PATH INDEX ANSWER KEPT FRESH      a pull's answer, and those of compares with the sound image
  *                                            that have the damaged one as the kept and as the new one
  *     node NUMBER ANSWER
  *     segments COUNT ANSWER                  a segment report with room in its list for so many main segments,
  *                                            which is just enough, with a little more, and with less
- *     cut LEN NAME INDEX ANSWER              a pull and a report from the first bytes of the image
- *     plant SLICE NAME INDEX                 a pull of data with that slice shorter than the call is told,
+ *     cut LEN PATH INDEX ANSWER              a pull and a report from the first bytes of the image
+ *     plant SLICE PATH INDEX                 a pull of data with that slice shorter than the call is told,
  *                                            which has to end in a fault
  *     plant_report SLICE                     the same for a report that lists a segment
  *     unset                                  a compare with lists that were never written, for valgrind
  *
- * Bytes and names are in hexadecimal behind an x. `guard_test heap SCRIPT` has each slice on the heap
+ * Bytes and paths are in hexadecimal behind an x. `guard_test heap SCRIPT` has each slice on the heap
  * instead, for valgrind. Without a script, images are empty, too short or too long.
  */
 #define _GNU_SOURCE /* lending.h */
@@ -30,13 +30,11 @@
 #include "lending.h"
 
 #define BLOCK_SIZE ((size_t)HARPTIMBER_BLOCK_BYTES)
-#define LEAST_NODES ((size_t)HARPTIMBER_NODES_BYTES)
-#define LEAST_BLOCKS ((size_t)HARPTIMBER_BLOCKS_BYTES)
 #define MOST_BYTES ((size_t)HARPTIMBER_CARD_BYTES_MOST)
 #define PATTERN 0xA5
 #define COUNT_OF(array) (sizeof(array) / sizeof *(array))
 
-/* What a call is lent and told, and what it returned. Each call takes some of it. */
+/* What a call is lent and told, and what it returned. Each call takes some of it; the name is a pull's path. */
 struct call {
     struct slice image, fresh, name, block, nodes, blocks, list;
     uint32_t index, node_count, block_count;
@@ -148,11 +146,20 @@ static int refused(uint32_t answer)
 struct lens {
     size_t block, nodes, blocks;
 };
-static const struct lens least = {BLOCK_SIZE, LEAST_NODES, LEAST_BLOCKS};
 
-static int in_shape(const struct lens *lens)
+/* The least that is enough for a path, by its names. */
+static struct lens least_of(const struct slice *path)
 {
-    return lens->block == BLOCK_SIZE && lens->nodes >= LEAST_NODES && lens->blocks >= LEAST_BLOCKS;
+    size_t names = 1;
+    for (size_t i = 0; i < path->len && names < HARPTIMBER_NAMES_MOST; i++)
+        names += path->bytes[i] == '/';
+    return (struct lens){BLOCK_SIZE, HARPTIMBER_NODES_BYTES_OF(names), HARPTIMBER_BLOCKS_BYTES_OF(names)};
+}
+
+static int in_shape(const struct lens *lens, const struct slice *path)
+{
+    struct lens least = least_of(path);
+    return lens->block == BLOCK_SIZE && lens->nodes >= least.nodes && lens->blocks >= least.blocks;
 }
 
 static void lend_room(struct call *c, const struct lens *lens)
@@ -172,7 +179,7 @@ static void give_room_back(struct call *c)
 /* A pull. What its answer leaves untouched can't be written. */
 static void expect_pull(struct call *c, const struct lens *lens, uint32_t answer)
 {
-    if (!in_shape(lens))
+    if (!in_shape(lens, &c->name))
         answer = HARPTIMBER_OUT_OF_SHAPE;
     lend_room(c, lens);
     if (answer > HARPTIMBER_HOLE && answer != ANY)
@@ -200,7 +207,7 @@ struct beyond {
 static struct slice list(const char *name, const struct slice *pulled, uint32_t count,
                          const struct beyond *beyond)
 {
-    uint8_t bytes[LEAST_BLOCKS + 3] = {0};
+    uint8_t bytes[HARPTIMBER_BLOCKS_BYTES + 3] = {0};
     size_t len = 4 * (size_t)count;
     if (len != 0)
         memcpy(bytes, pulled->bytes, len);
@@ -280,12 +287,13 @@ static unsigned turn; /* so that pulls take turns in what else is tried with the
 
 static void expect_odd_room(struct call *c, uint32_t answer)
 {
-    static const struct lens odd[] = {
-        {BLOCK_SIZE, LEAST_NODES + 1, LEAST_BLOCKS + 3}, {BLOCK_SIZE, LEAST_NODES + 2, LEAST_BLOCKS + 2},
-        {BLOCK_SIZE, LEAST_NODES + 3, LEAST_BLOCKS + 1}, {BLOCK_SIZE, LEAST_NODES + 40, LEAST_BLOCKS + 44},
-        {BLOCK_SIZE - 1, LEAST_NODES, LEAST_BLOCKS},     {BLOCK_SIZE + 1, LEAST_NODES, LEAST_BLOCKS},
-        {BLOCK_SIZE, LEAST_NODES - 1, LEAST_BLOCKS},     {BLOCK_SIZE, LEAST_NODES, LEAST_BLOCKS - 1},
-        {BLOCK_SIZE, 3, LEAST_BLOCKS},                   {0, 0, 0},
+    struct lens least = least_of(&c->name);
+    const struct lens odd[] = {
+        {BLOCK_SIZE, least.nodes + 1, least.blocks + 3}, {BLOCK_SIZE, least.nodes + 2, least.blocks + 2},
+        {BLOCK_SIZE, least.nodes + 3, least.blocks + 1}, {BLOCK_SIZE, least.nodes + 40, least.blocks + 44},
+        {BLOCK_SIZE - 1, least.nodes, least.blocks},     {BLOCK_SIZE + 1, least.nodes, least.blocks},
+        {BLOCK_SIZE, least.nodes - 1, least.blocks},     {BLOCK_SIZE, least.nodes, least.blocks - 1},
+        {BLOCK_SIZE, 3, least.blocks},                   {0, 0, 0},
     };
     expect_pull(c, &odd[turn % COUNT_OF(odd)], answer);
     give_room_back(c);
@@ -339,6 +347,7 @@ static uint32_t with_itself(uint32_t answer)
 static void run_pull(struct slice name, uint32_t index, uint32_t answer, uint32_t as_kept, uint32_t as_fresh)
 {
     struct call c = {.image = damaged, .name = name, .index = index};
+    struct lens least = least_of(&name);
     stays_inside("name hash", make_hash, &c);
     stays_inside("file place", make_place, &c);
     expect_pull(&c, &least, answer);
@@ -361,6 +370,7 @@ static void run_cut(size_t len, struct slice name, uint32_t index, uint32_t answ
     struct slice cut = first_bytes(len);
     seal(&cut);
     struct call c = {.image = cut, .name = name, .index = index};
+    struct lens least = least_of(&name);
     expect_report(cut, HARPTIMBER_SEGMENTS_BYTES, refused(answer) ? answer : ANY);
     expect_pull(&c, &least, answer);
     look_up_nodes(&c);
@@ -404,6 +414,7 @@ static void expect_noticed(const char *which, void (*make)(void *), struct call 
 static void run_plant(const char *which, struct slice name, uint32_t index)
 {
     struct call c = {.image = damaged, .name = name, .index = index};
+    struct lens least = least_of(&name);
     expect_pull(&c, &least, HARPTIMBER_DATA);
     if (c.pulled.answer != HARPTIMBER_DATA)
         return;
@@ -447,6 +458,7 @@ static void run_plant_report(const char *which)
 static void run_unset(void)
 {
     struct call c = {.image = damaged, .fresh = sound, .node_count = 1};
+    struct lens least = least_of(&c.name);
     lend_room(&c, &least);
     make_compare(&c);
     use((uint8_t *)&c.compared.answer, sizeof c.compared.answer);
@@ -599,10 +611,11 @@ static void test_guards(void)
 {
     static const size_t lens[] = {1,
                                   255,
-                                  LEAST_NODES - 1,
-                                  LEAST_NODES,
-                                  LEAST_BLOCKS,
-                                  LEAST_BLOCKS + 3,
+                                  HARPTIMBER_NODES_BYTES_OF(1) - 1,
+                                  HARPTIMBER_NODES_BYTES,
+                                  HARPTIMBER_BLOCKS_BYTES,
+                                  HARPTIMBER_BLOCKS_BYTES_OF(2) + 3,
+                                  HARPTIMBER_PATH_BYTES_MOST,
                                   BLOCK_SIZE - 1,
                                   BLOCK_SIZE,
                                   BLOCK_SIZE + 1,
@@ -660,6 +673,39 @@ static void expect_no_image(struct slice name, size_t len)
     give_back(&damaged);
 }
 
+/* A path of so many names, each of so many bytes. */
+static struct slice path_of(size_t names, size_t bytes)
+{
+    uint8_t text[(HARPTIMBER_NAMES_MOST + 1) * (HARPTIMBER_NAME_BYTES_MOST + 1)];
+    size_t len = names * (bytes + 1) - 1;
+    for (size_t i = 0; i < len; i++)
+        text[i] = (i + 1) % (bytes + 1) == 0 ? '/' : 'x';
+    return copied("path", text, len);
+}
+
+/* Paths of any number of names, short and as long as they can be, also told to be a byte longer than they are. */
+static void test_paths(void)
+{
+    static const size_t bytes[] = {1, 100, HARPTIMBER_NAME_BYTES_MOST};
+    for (size_t i = 0; i < COUNT_OF(bytes) * HARPTIMBER_NAMES_MOST; i++) {
+        struct call c = {.image = lend_zeros("image", 2 * BLOCK_SIZE)};
+        c.name = path_of(i / COUNT_OF(bytes) + 1, bytes[i % COUNT_OF(bytes)]);
+        struct lens least = least_of(&c.name);
+        expect_no_image(c.name, c.image.len);
+        lend_room(&c, &least);
+        c.name.len++;
+        if (placement == BEFORE_GUARD && bytes[i % COUNT_OF(bytes)] < HARPTIMBER_NAME_BYTES_MOST && fails(faults(make_pull, &c)))
+            printf("FAILED to notice a pull that leaves a path of %zu bytes\n", c.name.len - 1);
+        give_room_back(&c);
+        give_back(&c.name);
+        c.name = path_of(HARPTIMBER_NAMES_MOST + 1, bytes[i % COUNT_OF(bytes)]);
+        expect_pull(&c, &least, HARPTIMBER_OUT_OF_SHAPE);
+        give_room_back(&c);
+        give_back(&c.name);
+        give_back(&c.image);
+    }
+}
+
 static void test_zeros(void)
 {
     static const size_t lens[] = {0, 1, 4095, 4096, 4097, 8191, 8192, 8193, 12288};
@@ -690,6 +736,7 @@ static void test_nulls(void)
     static const uint8_t zeros[2 * HARPTIMBER_BLOCK_BYTES];
     struct call c = {.image = copied("image", zeros, sizeof zeros), .name = copied("name", (const uint8_t *)"x", 1)};
     c.fresh = c.image;
+    struct lens least = least_of(&c.name);
     lend_room(&c, &least);
     c.list = lend("segment list", HARPTIMBER_SEGMENTS_BYTES);
     struct slice *pulled[] = {&c.image, &c.name, &c.block, &c.nodes, &c.blocks};
@@ -715,6 +762,7 @@ static void run(int count, char **scripts)
     if (placement != ON_HEAP)
         test_guards();
     test_names();
+    test_paths();
     test_zeros();
     test_nulls();
     for (int i = 0; i < count; i++)

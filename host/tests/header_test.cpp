@@ -3,6 +3,11 @@
 #include "harptimber.h"
 
 static_assert(HARPTIMBER_CARD_BYTES_MOST == 17179869184, "16 GiB, which no int holds");
+static_assert(HARPTIMBER_NODES_MOST_OF(1) == 179 && HARPTIMBER_BLOCKS_MOST_OF(1) == 238, "one name");
+static_assert(HARPTIMBER_NODES_BYTES_OF(1 + 1) == 1416 && HARPTIMBER_BLOCKS_BYTES_OF(1 + 1) == 1884, "a sum of names");
+static_assert(HARPTIMBER_NODES_MOST == 1404 && HARPTIMBER_BLOCKS_MOST == 1869, "eight names");
+static_assert(HARPTIMBER_NODES_BYTES == 5616 && HARPTIMBER_BLOCKS_BYTES == 7476, "bytes for eight names");
+static_assert(HARPTIMBER_NAMES_MOST == 8 && HARPTIMBER_PATH_BYTES_MOST == 2047, "the longest path");
 
 uint32_t every_call_with_nothing()
 {

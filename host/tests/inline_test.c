@@ -2,51 +2,12 @@
  * Pulls of inline files, and through inline root directories, from C: the answer, the other numbers and every lent byte, on both
  * sides of each bound. Compares by the lists that they leave.
  */
-#include <inttypes.h>
-
 #include "check.h"
-#include "small_card.h"
+#include "pulling.h"
 
-#define PATTERN 0xA5
-#define COUNT_OF(array) (sizeof(array) / sizeof *(array))
-
-enum { XATTR = 1, DATA = 2, DENTRY = 4, EXTRA = 0x20 };
-enum { DIRECTORY = 0x41ED, REGULAR = 0x81A4 };
 enum { ROOM = 3688, ROOM_WITH_XATTR = 3488, SLOTS = 182 };
 
-/* Where inline contents start in an inode. */
-enum { CONTENTS = 364 };
-
 static const char name[] = "road.bin";
-
-static uint8_t block[BLOCK], nodes[HARPTIMBER_NODES_BYTES], blocks[HARPTIMBER_BLOCKS_BYTES];
-static struct harptimber_pulled got;
-
-static void pull(const char *sought, uint32_t index)
-{
-    memset(block, PATTERN, sizeof block);
-    memset(nodes, PATTERN, sizeof nodes);
-    memset(blocks, PATTERN, sizeof blocks);
-    got = harptimber_pull(card, sizeof card, (const uint8_t *)sought, strlen(sought), index, block, sizeof block, nodes,
-                          sizeof nodes, blocks, sizeof blocks);
-}
-
-static int all_are(const uint8_t *bytes, size_t len, uint8_t byte)
-{
-    for (size_t i = 0; i < len; i++)
-        if (bytes[i] != byte)
-            return 0;
-    return 1;
-}
-
-/* Whether a list has just these numbers, and is as it was behind them. */
-static int lists(const uint8_t *list, size_t len, uint32_t count, const uint32_t *numbers, uint32_t expected)
-{
-    for (uint32_t i = 0; i < expected; i++)
-        if (harptimber_list_entry(list, i) != numbers[i])
-            return 0;
-    return count == expected && all_are(list + 4 * expected, len - 4 * expected, PATTERN);
-}
 
 /* What a walk rests on: the root's inode, with a block of entries or without, and the file's inode if it comes so far. */
 enum walked { ROOT_ALONE, THROUGH_INODE, THROUGH_BLOCK };
@@ -61,14 +22,6 @@ static int rests_on(enum walked walked)
            lists(blocks, sizeof blocks, got.block_count, read, block_count);
 }
 
-/* The buffer, by what the last block of the card has as contents. */
-static int buffer_is(uint32_t answer, uint32_t count)
-{
-    if (answer != HARPTIMBER_DATA)
-        return all_are(block, sizeof block, PATTERN);
-    return memcmp(block, block_at(FILE_AT) + CONTENTS, count) == 0 && all_are(block + count, sizeof block - count, 0);
-}
-
 static void expect(const char *what, uint64_t value, uint32_t answer, uint32_t count, enum walked walked)
 {
     int numbers = got.answer == answer && got.byte_count == count;
@@ -79,15 +32,6 @@ static void expect(const char *what, uint64_t value, uint32_t answer, uint32_t c
                buffer_is(answer, count) ? "as expected" : "other");
 }
 
-/* A file with these inline flags; each byte of its contents is another than the one before, up to its end or the room's. */
-static void put_file(uint8_t flags, uint64_t size)
-{
-    struct inode inode = {.mode = REGULAR, .inline_flags = flags, .level = 99, .depth = 99, .size = size};
-    put_inode(FILE_NUMBER, FILE_AT, &inode);
-    for (uint64_t i = 0; i < size && i < ROOM; i++)
-        block_at(FILE_AT)[CONTENTS + i] = (uint8_t)(7 * i + i / 256 + 1);
-}
-
 /* A root with the file's entry in a block, and inline in slot 3. */
 static void put_root(const struct inode *inode)
 {
@@ -96,8 +40,8 @@ static void put_root(const struct inode *inode)
     put(block_at(ROOT_AT) + 360, ENTRIES_AT, 4);
     clear_entries(&in_block);
     clear_entries(&in_inode);
-    put_entry(&in_block, 2, name, strlen(name));
-    put_entry(&in_inode, 3, name, strlen(name));
+    put_entry(&in_block, 2, FILE_NUMBER, name, strlen(name));
+    put_entry(&in_inode, 3, FILE_NUMBER, name, strlen(name));
 }
 
 static const struct inode plain_root = {.mode = DIRECTORY, .depth = 1, .size = BLOCK};
@@ -201,7 +145,7 @@ static void expect_slot(size_t slot, const char *sought, size_t len, uint32_t an
     struct entries entries = entries_in_inode(ROOT_AT);
     put_root(&inline_root);
     clear_entries(&entries);
-    put_entry(&entries, slot, sought, len);
+    put_entry(&entries, slot, FILE_NUMBER, sought, len);
     pull(sought, 0);
     expect("an inline entry in slot", slot, answer, answer == HARPTIMBER_DATA ? 100 : 0,
            answer == HARPTIMBER_DATA ? THROUGH_INODE : ROOT_ALONE);
@@ -222,24 +166,6 @@ static void test_slots(void)
     }
     for (size_t slot = SLOTS; slot < SLOTS + 58; slot++) /* up to the reserved bytes' last bit */
         expect_slot(slot, name, 8, HARPTIMBER_NO_NAME);
-}
-
-static uint8_t fresh[sizeof card];
-
-/* A compare by the lists of the last pull, with one byte of the new card changed. */
-static void expect_compared(uint32_t address, size_t at, uint32_t answer)
-{
-    uint8_t *byte = fresh + (size_t)address * BLOCK + at;
-    *byte ^= 1;
-    struct harptimber_compared compared = harptimber_compare(card, sizeof card, fresh, sizeof fresh, nodes, sizeof nodes,
-                                                             got.node_count, blocks, sizeof blocks, got.block_count);
-    *byte ^= 1;
-    uint32_t kind = answer == HARPTIMBER_CHANGED ? HARPTIMBER_BLOCK_DIFFERS : 0;
-    uint32_t number = answer == HARPTIMBER_CHANGED ? address : 0;
-    if (fails(compared.answer == answer && compared.side == 0 && compared.kind == kind && compared.number == number))
-        printf("FAILED compare with byte %zu of block %" PRIu32 " changed: answer %" PRIu32 ", kind %" PRIu32 ", number %" PRIu32
-               "; expected %" PRIu32 "\n",
-               at, address, compared.answer, compared.kind, compared.number, answer);
 }
 
 /* Inode and inline contents are one block. A block of entries that an inline root doesn't have decides nothing. */

@@ -6,10 +6,11 @@
 
 #define PATTERN 0xA5
 
-enum { BLOCK = HARPTIMBER_BLOCK_BYTES, NODES = HARPTIMBER_NODES_BYTES, BLOCKS = HARPTIMBER_BLOCKS_BYTES };
+/* The rooms of a path with one name: what hosts lent before there were others is still enough for it. */
+enum { BLOCK = HARPTIMBER_BLOCK_BYTES, NODES = 716, BLOCKS = 952 };
 
 static const uint8_t two_blocks[2 * BLOCK];
-static uint8_t block[BLOCK + 1], nodes[NODES + 3], blocks[BLOCKS + 3];
+static uint8_t block[BLOCK + 1], nodes[HARPTIMBER_NODES_BYTES_OF(2)], blocks[HARPTIMBER_BLOCKS_BYTES_OF(2)];
 
 static int untouched(const uint8_t *bytes, size_t len)
 {
@@ -79,6 +80,7 @@ int main(void)
     expect_refused("road.bin", BLOCK, NODES - 1, BLOCKS, HARPTIMBER_OUT_OF_SHAPE);
     expect_refused("road.bin", BLOCK, NODES, BLOCKS - 1, HARPTIMBER_OUT_OF_SHAPE);
     expect_refused("", BLOCK, NODES, BLOCKS, HARPTIMBER_OUT_OF_SHAPE);
-    expect_refused("a/b", BLOCK, NODES, BLOCKS, HARPTIMBER_OUT_OF_SHAPE);
+    expect_refused("a/b", BLOCK, NODES, BLOCKS, HARPTIMBER_OUT_OF_SHAPE); /* room for one name */
+    expect_refused("a/b", BLOCK, sizeof nodes, sizeof blocks, HARPTIMBER_NO_SUPERBLOCK);
     return refuse_zeros(expect_length);
 }

@@ -23,6 +23,13 @@ enum {
     CARD_BLOCKS = MAIN + HARPTIMBER_SEGMENT_BLOCKS
 };
 
+/* What modes and inline flags say. */
+enum { DIRECTORY = 0x41ED, REGULAR = 0x81A4 };
+enum { XATTR = 1, DATA = 2, DENTRY = 4, EXTRA = 0x20 };
+
+/* Where inline contents start in an inode. */
+enum { CONTENTS = 364 };
+
 /* Two inodes, where they are, and where the root directory has entries if they aren't inline. */
 enum { ROOT = 3, FILE_NUMBER = 7, ROOT_AT = MAIN + 5, ENTRIES_AT = MAIN + 9, FILE_AT = CARD_BLOCKS - 1 };
 
@@ -118,7 +125,7 @@ static inline struct entries entries_in_block(uint32_t address)
 
 static inline struct entries entries_in_inode(uint32_t address)
 {
-    return (struct entries){block_at(address) + 364, 182, 23, 2032};
+    return (struct entries){block_at(address) + CONTENTS, 182, 23, 2032};
 }
 
 static inline void clear_entries(const struct entries *entries)
@@ -127,18 +134,28 @@ static inline void clear_entries(const struct entries *entries)
 }
 
 /*
- * An entry for the file, which says that its name has so many bytes. Of its slots only the first one's bit is set, and as much
- * of the name is written as there are slots for.
+ * An entry that leads to an inode, and says that its name has so many bytes. Of its slots only the first one's bit is set, and as
+ * much of the name is written as there are slots for.
  */
-static inline void put_entry(const struct entries *entries, size_t slot, const char *name, size_t len)
+static inline void put_entry(const struct entries *entries, size_t slot, uint32_t inode, const char *name, size_t len)
 {
     uint8_t *entry = entries->bytes + 30 + 11 * slot;
     size_t name_len = strlen(name), room = slot < entries->slots ? 8 * (entries->slots - slot) : 0;
     entries->bytes[slot / 8] |= (uint8_t)(1 << slot % 8);
     put(entry, harptimber_name_hash((const uint8_t *)name, name_len).hash, 4);
-    put(entry + 4, FILE_NUMBER, 4);
+    put(entry + 4, inode, 4);
     put(entry + 8, len, 2);
     memcpy(entries->bytes + entries->names_at + 8 * slot, name, name_len < room ? name_len : room);
+}
+
+/* The file, with these inline flags; each byte of its contents is another than the one before, up to its end or the room's. */
+static inline void put_file(uint8_t flags, uint64_t size)
+{
+    enum { ROOM = 3688 };
+    struct inode inode = {.mode = REGULAR, .inline_flags = flags, .level = 99, .depth = 99, .size = size};
+    put_inode(FILE_NUMBER, FILE_AT, &inode);
+    for (uint64_t i = 0; i < size && i < ROOM; i++)
+        block_at(FILE_AT)[CONTENTS + i] = (uint8_t)(7 * i + i / 256 + 1);
 }
 
 /* A card without inodes. */
