@@ -38,7 +38,10 @@ const KEYS: [(&str, &[&str]); 9] = [
             "partitions",
         ],
     ),
-    ("ls", &["image", "complete", "problems", "names"]),
+    (
+        "ls",
+        &["image", "name", "name_hex", "complete", "problems", "names"],
+    ),
     (
         "pull",
         &[
