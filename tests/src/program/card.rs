@@ -7,7 +7,6 @@ use std::sync::Arc;
 
 use reference::hash::raw_hash;
 
-use crate::calls::lent::Lent;
 use crate::calls::pulls::{reference_pull, Call, Outcome};
 use crate::cards::card::Card;
 use crate::cards::directory::{Dentry, DirLevel};
@@ -223,7 +222,7 @@ pub fn shared_card() -> Arc<ProgramCard> {
 /// A pull by the reference.
 pub fn pulled(image: &Image, name: &[u8], index: u32) -> Outcome {
     let call = Call::new(image, name, index);
-    Outcome::of(reference_pull, &call, Lent::least())
+    Outcome::of(reference_pull, &call, call.least())
 }
 
 /// Adds a file with data at these indexes.

@@ -10,7 +10,7 @@ use crate::cards::layout::inode::I_SIZE;
 use crate::cards::layout::{footer, BLOCK_SIZE};
 use crate::program::card::pulled;
 use crate::program::json::Json;
-use crate::program::page::meaning;
+use crate::program::page::{in_words, meaning};
 
 /// What became of a block.
 #[derive(Clone, Copy, Debug, PartialEq, Eq)]
@@ -38,6 +38,29 @@ pub(crate) struct Run {
     pub(crate) byte: Option<Byte>,
 }
 
+/// A directory on the kept image.
+struct Directory {
+    ino: u32,
+    /// In words.
+    name: String,
+    /// Its blocks that a pull past the end reads, nodes or not, beside those of the directories before it.
+    blocks: Vec<u32>,
+}
+
+impl Directory {
+    /// The one with this number that so many names of a path lead to.
+    fn of(kept: &Image, path: &[u8], names: usize, ino: u32) -> Directory {
+        let part = |names: usize| path.split(|&byte| byte == b'/').take(names);
+        let part = |names: usize| part(names).collect::<Vec<_>>().join(&b'/');
+        let name = match names {
+            0 => "the root directory".to_string(),
+            _ => format!("the directory {}", in_words(&part(names))),
+        };
+        let blocks = pulled(kept, &part(names + 1), u32::MAX).blocks();
+        Directory { ino, name, blocks }
+    }
+}
+
 /// What a compare comes to if both images open.
 pub struct Expected<'a> {
     pub(crate) cards: [&'a Image; 2],
@@ -45,8 +68,8 @@ pub struct Expected<'a> {
     pub(crate) there: [u32; 2],
     /// Where it is there.
     pub(crate) sizes: [Option<u64>; 2],
-    /// Blocks of the kept image that a pull past the end reads: nodes and the root directory.
-    directory: Vec<u32>,
+    /// The directories on the path, the root first.
+    directories: Vec<Directory>,
     /// Without it, every block is compared.
     pub(crate) index: Option<u32>,
     pub answer: u32,
@@ -57,12 +80,26 @@ pub struct Expected<'a> {
 }
 
 impl<'a> Expected<'a> {
+    /// Of a file in the root directory.
     pub fn of(cards: [&'a Image; 2], name: &[u8], index: Option<u32>) -> Expected<'a> {
+        Expected::along(cards, name, &[ROOT], index)
+    }
+
+    /// Of a path through directories with these numbers on the kept image, the root first.
+    pub fn along(
+        cards: [&'a Image; 2],
+        name: &[u8],
+        directories: &[u32],
+        index: Option<u32>,
+    ) -> Expected<'a> {
+        let numbered = directories.iter().enumerate();
         let mut expected = Expected {
             cards,
             there: cards.map(|card| pulled(card, name, u32::MAX).pulled.answer),
-            sizes: cards.map(|card| size(card, name)),
-            directory: pulled(cards[0], name, u32::MAX).blocks(),
+            sizes: cards.map(|card| size(card, name, directories)),
+            directories: numbered
+                .map(|(names, &ino)| Directory::of(cards[0], name, names, ino))
+                .collect(),
             index,
             answer: 15,
             status: 0,
@@ -164,10 +201,11 @@ impl<'a> Expected<'a> {
     }
 }
 
-/// A file's size, by its inode, the only one that is looked up beside the root's; none if it isn't there.
-fn size(image: &Image, name: &[u8]) -> Option<u64> {
+/// A file's size, by its inode, the only one that is looked up beside the directories'; none if it isn't there.
+fn size(image: &Image, name: &[u8], directories: &[u32]) -> Option<u64> {
     let outcome = pulled(image, name, u32::MAX);
-    let nodes = outcome.nodes().into_iter().filter(|&nid| nid != ROOT);
+    let nodes = outcome.nodes().into_iter();
+    let nodes = nodes.filter(|nid| !directories.contains(nid));
     let blocks = nodes.map(|nid| node_lookup(image.bytes(), nid).expect("an entry").1);
     let is_inode = |&block: &u32| image.get(block, footer::NID) == image.get(block, footer::INO);
     let inode = (outcome.pulled.answer == 3).then(|| blocks.into_iter().find(is_inode));
@@ -209,8 +247,8 @@ impl Expected<'_> {
                 let place = format!(", the card's block {number})");
                 let of_card = |node| format!(" changed in {node}{place}");
                 let content = self.content(number).map(|content| match content {
-                    Some(nid) => of_card(format!("{} (node {nid}", self.owner(nid))),
-                    None => format!(" in the root directory (the card's block {number})"),
+                    Content::Node(nid) => of_card(format!("{} (node {nid}", self.owner(nid))),
+                    Content::Entries(of) => format!(" in {} (the card's block {number})", of.name),
                 });
                 vec![content.unwrap_or("the file's data changed".to_string())]
             }
@@ -234,24 +272,43 @@ impl Expected<'_> {
     }
 
     /// Whose a node is.
-    fn owner(&self, nid: u32) -> &str {
-        match node_lookup(self.cards[0].bytes(), nid) {
-            _ if nid == ROOT => "the root directory's inode",
-            Ok((ROOT, _)) => "a node of the root directory",
-            Ok((ino, _)) if ino == nid => "the file's inode",
-            _ => "a node of the file",
+    fn owner(&self, nid: u32) -> String {
+        let entry = node_lookup(self.cards[0].bytes(), nid);
+        let of = entry.map_or(0, |(ino, _)| ino);
+        let mut directories = self.directories.iter();
+        match (directories.find(|directory| directory.ino == of), of == nid) {
+            (None, true) => "the file's inode".to_string(),
+            (None, false) => "a node of the file".to_string(),
+            (
+                Some(Directory {
+                    ino: ROOT, name, ..
+                }),
+                true,
+            ) => format!("{name}'s inode"),
+            (Some(Directory { name, .. }), true) => format!("the inode of {name}"),
+            (Some(Directory { name, .. }), false) => format!("a node of {name}"),
         }
     }
 
-    /// What is in a block: a node, or else entries of the root directory. None if it is data of the file.
-    fn content(&self, block: u32) -> Option<Option<u32>> {
+    /// What is in a block. None if it is data of the file.
+    fn content(&self, block: u32) -> Option<Content<'_>> {
         let kept = self.cards[0];
         let nid = kept.get(block, footer::NID) as u32;
         match node_lookup(kept.bytes(), nid) {
-            Ok((_, address)) if address == block => Some(Some(nid)),
-            _ => self.directory.contains(&block).then_some(None),
+            Ok((_, address)) if address == block => Some(Content::Node(nid)),
+            _ => {
+                let mut directories = self.directories.iter();
+                let of = directories.find(|directory| directory.blocks.contains(&block));
+                of.map(Content::Entries)
+            }
         }
     }
+}
+
+/// What a block has that isn't data of the file.
+enum Content<'a> {
+    Node(u32),
+    Entries(&'a Directory),
 }
 
 /// As JSON.

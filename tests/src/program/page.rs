@@ -329,3 +329,19 @@ pub fn status_of(answer: u32) -> i32 {
         2
     }
 }
+
+/// A name as words show it.
+pub fn in_words(name: &[u8]) -> String {
+    let hex = |bytes: &[u8]| bytes.iter().map(|byte| format!("\\x{byte:02X}")).collect();
+    let character = |letter: char| match letter {
+        '\\' => "\\\\".to_string(),
+        _ if letter.is_control() => hex(letter.to_string().as_bytes()),
+        _ => letter.to_string(),
+    };
+    let chunk = |chunk: std::str::Utf8Chunk| {
+        let valid: String = chunk.valid().chars().map(character).collect();
+        let invalid: String = hex(chunk.invalid());
+        valid + &invalid
+    };
+    name.utf8_chunks().map(chunk).collect()
+}

@@ -357,7 +357,7 @@ fn status_of_several() {
     let mut new = kept.clone();
     new[1].1[0] ^= 1;
     let [kept, new] = [&kept, &new].map(|files| OnDisk::new(filled_on(64, DATE, files)));
-    let of = [("same", 0), ("table", 1), ("a/b", 2), ("misspelt", 4)];
+    let of = [("same", 0), ("table", 1), ("a//b", 2), ("misspelt", 4)];
     for set in 1..16 {
         let mut some: Vec<(&str, i32)> = (0..4)
             .filter(|i| set >> i & 1 == 1)

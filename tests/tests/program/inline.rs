@@ -21,7 +21,7 @@ use harptimber_tests::program::{run, Ran, Words};
 use harptimber_tests::trial::Random;
 
 use crate::compare::{self, Cards};
-use crate::ls::{expect_listing, Expected};
+use crate::ls::{expect_listing, Expected, NOT_THERE};
 use crate::pull::expect_json;
 use crate::reasons::{expect_answers, expect_reason, expect_stops, write_places};
 use crate::{cat, ls, pull, words};
@@ -238,7 +238,7 @@ fn expect_bound(stage: &mut Stage, field: Field, what: &str, read: [u64; 4], ove
         let empty = [(field, value), (I_SIZE, 0)];
         stage.with_fields(root, &empty, |stage| {
             assert_eq!(expect_json(&stage.disk, &stage.card.image, NAME, 0), 2);
-            let listed = vec![Expected::new(NAME, 100, 2, "")];
+            let listed = vec![Expected::new(NAME, 100, 2, NOT_THERE)];
             expect_listing(&stage.path(), listed, &[]);
         });
     }
@@ -460,7 +460,7 @@ fn listed_entries() {
             read(NAME),
             read(b"a longer name than that"),
             read(b"last one"),
-            Expected::new(b"hidden", 100, 2, ""),
+            Expected::new(b"hidden", 100, 2, "the root directory has no hidden"),
         ];
         expect_listing(&stage.path(), listed, &[]);
     });

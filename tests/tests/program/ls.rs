@@ -23,9 +23,9 @@ use harptimber_tests::cards::walk_damage::strike_block;
 use harptimber_tests::program::card::{pulled, shared_card, ProgramCard, ROAD};
 use harptimber_tests::program::card::{MARKED, TOO_LONG, TOO_LONG_BESIDE_XATTR};
 use harptimber_tests::program::json::Json;
-use harptimber_tests::program::page::{counted, expect_head, expect_name, meaning};
+use harptimber_tests::program::page::{counted, expect_head, expect_name, in_words, meaning};
 use harptimber_tests::program::special_build::SpecialBuild;
-use harptimber_tests::program::{run, Ran};
+use harptimber_tests::program::{run, Ran, Word};
 use harptimber_tests::tools::published::{self, contents, LONGEST_INLINE};
 use harptimber_tests::trial::Random;
 
@@ -56,7 +56,7 @@ impl Expected {
         });
         let said = format!("{} (answer {})", meaning("pull", self.answer), self.answer);
         // Of all that can be out of shape, only what is.
-        let said = said.replace(": the image's length, the name, A or a list", "");
+        let said = said.replace(": the image's length, the path or name, A or a list", "");
         let reason = self.reason.iter().map(|reason| format!(": {reason}"));
         let reason: String = reason.collect();
         format!("{size:>14}  {}: {said}{reason}\n", in_words(&self.name))
@@ -73,28 +73,24 @@ impl Expected {
     }
 }
 
-/// A name as words show it.
-fn in_words(name: &[u8]) -> String {
-    let hex = |bytes: &[u8]| bytes.iter().map(|byte| format!("\\x{byte:02X}")).collect();
-    let character = |letter: char| match letter {
-        '\\' => "\\\\".to_string(),
-        _ if letter.is_control() => hex(letter.to_string().as_bytes()),
-        _ => letter.to_string(),
-    };
-    let chunk = |chunk: std::str::Utf8Chunk| {
-        let valid: String = chunk.valid().chars().map(character).collect();
-        let invalid: String = hex(chunk.invalid());
-        valid + &invalid
-    };
-    name.utf8_chunks().map(chunk).collect()
+/// A listing of the root directory with these names and nothing else, in words and as JSON. With problems it is incomplete.
+pub(crate) fn expect_listing(path: &Path, expected: Vec<Expected>, problems: &[String]) {
+    expect_listing_of(path, None, expected, problems)
 }
 
-/// A listing of these names and of nothing else, in words and as JSON. With problems it is incomplete.
-pub(crate) fn expect_listing(path: &Path, mut expected: Vec<Expected>, problems: &[String]) {
-    let path = path.to_path_buf();
+/// The same of the directory that a path leads to, or without one of the root.
+pub(crate) fn expect_listing_of(
+    image: &Path,
+    directory: Option<&[u8]>,
+    mut expected: Vec<Expected>,
+    problems: &[String],
+) {
+    let path = image.to_path_buf();
     expected.sort_by(|one, other| one.name.cmp(&other.name));
     let status = if problems.is_empty() { 0 } else { 2 };
-    let ran = run(&[&"ls", &path]).expect(status);
+    let of = directory.iter().map(|path| path as &dyn Word);
+    let line: Vec<&dyn Word> = [&"ls" as &dyn Word, &path].into_iter().chain(of).collect();
+    let ran = run(&line).expect(status);
     assert_eq!(ran.err, "", "of {ran:?}");
     let names = counted(expected.len(), "name");
     let all = if problems.is_empty() {
@@ -107,10 +103,10 @@ pub(crate) fn expect_listing(path: &Path, mut expected: Vec<Expected>, problems:
     } else {
         "; size, name, and what a pull of block 0 answers"
     };
-    let mut words = format!(
-        "{}: {names} in the root directory{all}{told}\n",
-        path.display()
-    );
+    let of = directory.map_or("the root directory".to_string(), |directory| {
+        format!("the directory {}", in_words(directory))
+    });
+    let mut words = format!("{}: {names} in {of}{all}{told}\n", path.display());
     words.extend(expected.iter().map(Expected::line));
     words.extend(
         problems
@@ -118,7 +114,12 @@ pub(crate) fn expect_listing(path: &Path, mut expected: Vec<Expected>, problems:
             .map(|problem| format!("names may be missing: {problem}\n")),
     );
     assert_eq!(ran.words(), words);
-    let json = listed(&run(&[&"ls", &"--json", &path]).expect(status), &path);
+    let json = [&line[..], &[&"--json" as &dyn Word]].concat();
+    let json = listed(&run(&json).expect(status), &path);
+    match directory {
+        Some(directory) => expect_name(&json, directory),
+        None => assert!(json.get("name").is_none(), "{json:?}"),
+    }
     let names = json["names"].list();
     assert_eq!(names.len(), expected.len(), "names in {json:?}");
     names
@@ -321,6 +322,9 @@ fn small() -> Scene {
     scene
 }
 
+/// Why a pull doesn't find the file.
+pub(crate) const NOT_THERE: &str = "the root directory has no road.bin";
+
 fn road(answer: u32, reason: &str) -> Expected {
     Expected::new(NAME, 4096, answer, reason)
 }
@@ -368,14 +372,13 @@ fn found_by_no_pull() {
     image.put_dentry(block, 130, &Dentry::new(b"..", ROOT));
     image.put_dentry(block, 140, &Dentry::new(NAME, ROOT));
     let root_size = image.get(root, I_SIZE);
-    let slash = "the name has a slash; only the root directory is read";
     let expected = vec![
         road(0, ""),
         Expected::new(NAME, root_size, 0, ""),
-        Expected::new(b"hidden", 4096, 2, ""),
-        Expected::new(b"too deep", 4096, 2, ""),
+        Expected::new(b"hidden", 4096, 2, "the root directory has no hidden"),
+        Expected::new(b"too deep", 4096, 2, "the root directory has no too deep"),
         Expected::new(b"zero\0byte", 4096, 4, "the name has a zero byte"),
-        Expected::new(b"a/b", 4096, 4, slash),
+        Expected::new(b"a/b", 4096, 4, "the name has a slash"),
         Expected::new(b".", 4096, 0, ""),
     ];
     expect_listing(&OnDisk::new(scene.card.image).path(), expected, &[]);
@@ -500,8 +503,8 @@ fn roots() {
             vec![road(12, &not_read("its directory level is 31, over 30"))],
         ),
         // The name is in the first hash level's first bucket, and not where its hash leads to.
-        (&[(I_DIR_LEVEL, 30)], None, vec![road(2, "")]),
-        (&[(I_SIZE, 0)], None, vec![road(2, "")]),
+        (&[(I_DIR_LEVEL, 30)], None, vec![road(2, NOT_THERE)]),
+        (&[(I_SIZE, 0)], None, vec![road(2, NOT_THERE)]),
     ];
     for (fields, problem, expected) in cases {
         let mut image = scene.card.image.clone();

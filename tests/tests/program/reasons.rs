@@ -6,12 +6,11 @@ use std::path::{Path, PathBuf};
 
 use reference::hash::raw_hash;
 
-use harptimber_tests::calls::lent::Lent;
 use harptimber_tests::calls::pulls::{reference_pull, Call, Outcome};
 use harptimber_tests::cards::card::{Card, Node, ROOT};
 use harptimber_tests::cards::damage::Damage;
-use harptimber_tests::cards::directory::{bucket_index, in_slot, Dentry};
-use harptimber_tests::cards::layout::dentry::{FILE_TYPE, INO, NAME_LEN};
+use harptimber_tests::cards::directory::{bucket_index, in_slot, Dentry, Linked};
+use harptimber_tests::cards::layout::dentry::{FILE_TYPE, HASH_CODE, INO, NAME_LEN};
 use harptimber_tests::cards::layout::footer;
 use harptimber_tests::cards::layout::inode::*;
 use harptimber_tests::cards::layout::superblock::MAIN_BLKADDR;
@@ -374,6 +373,23 @@ fn malformed() {
     });
 }
 
+/// 2: which directory hasn't the name, wherever its entry stands instead.
+#[test]
+fn no_name() {
+    let mut stage = Stage::new();
+    let Linked { block, slot, .. } = stage.scene.linked;
+    let reason = format!(
+        "the root directory has no {}",
+        String::from_utf8_lossy(NAME)
+    );
+    for (field, number) in [(NAME_LEN, 7), (HASH_CODE, 0)] {
+        let fields = [(in_slot(field, slot), number)];
+        stage.expect_fields(block, 2, &reason, &fields);
+    }
+    let root = stage.scene.root_block();
+    stage.expect_fields(root, 2, &reason, &[(I_SIZE, 0)]);
+}
+
 /// 3: how long the file is.
 #[test]
 fn past_the_end() {
@@ -437,19 +453,18 @@ fn in_cat() {
     assert_eq!(ran.json()["reason"].text(), reason, "in {ran:?}");
 }
 
-/// Of a block or a hole there is nothing to explain, nor of a name that isn't there.
+/// Of a block or a hole there is nothing to explain.
 #[test]
 fn no_reason() {
     let stage = Stage::new();
     let path = stage.save();
-    let lines: [(Words, i32); 4] = [
-        (&[&"pull", &"--json", &path, &NAME, &"0"], 0),
-        (&[&"pull", &"--json", &path, &NAME, &"1"], 0),
-        (&[&"pull", &"--json", &path, &"missing", &"0"], 2),
-        (&[&"node", &"--json", &path, &"3"], 0),
+    let lines: [Words; 3] = [
+        &[&"pull", &"--json", &path, &NAME, &"0"],
+        &[&"pull", &"--json", &path, &NAME, &"1"],
+        &[&"node", &"--json", &path, &"3"],
     ];
-    for (line, status) in lines {
-        let json = run(line).expect(status).json();
+    for line in lines {
+        let json = run(line).expect(0).json();
         assert!(json.get("reason").is_none(), "a reason in {json:?}");
     }
 }
@@ -471,7 +486,7 @@ pub(crate) fn expect_reason(
     run: impl Fn(Words) -> Ran,
 ) -> u32 {
     let call = Call::new(&card.image, name, index);
-    let answer = Outcome::of(reference_pull, &call, Lent::least())
+    let answer = Outcome::of(reference_pull, &call, call.least())
         .pulled
         .answer;
     let json = run(&[&"pull", &"--json", &"--", path, &name, &index]).json();
@@ -479,7 +494,7 @@ pub(crate) fn expect_reason(
     let explained = json.get("reason").is_some();
     assert_eq!(
         explained,
-        matches!(answer, 3..=14),
+        matches!(answer, 2..=14),
         "in {json:?} of {:?}",
         card.image
     );
@@ -487,13 +502,19 @@ pub(crate) fn expect_reason(
 }
 
 /// Damages random cards. Returns how often each answer came.
-fn damage_cards(seed: u64, cards: u32, damages: u32, run: impl Fn(Words) -> Ran) -> [u32; 15] {
+pub(crate) fn damage_cards(
+    seed: u64,
+    cards: u32,
+    damages: u32,
+    make: fn(&mut Random) -> RandomFiles,
+    run: impl Fn(Words) -> Ran,
+) -> [u32; 15] {
     let mut random = Random::new(seed);
     let scratch = Scratch::new();
     let path = scratch.path("card.img");
     let mut answers = [0; 15];
     for _ in 0..cards {
-        let RandomFiles { mut card, targets } = random_files(&mut random);
+        let RandomFiles { mut card, targets } = make(&mut random);
         card.image.save(&path);
         let opening = Damage::of(&card.image);
         for _ in 0..damages {
@@ -534,12 +555,13 @@ pub(crate) fn expect_stops(answers: &[u32; 15]) {
 
 #[test]
 fn damaged() {
-    expect_answers(&damage_cards(22, 10, 100, run), 0..15);
+    expect_answers(&damage_cards(22, 10, 100, random_files, run), 0..15);
 }
 
 /// It keeps to the image's bytes.
 #[test]
 fn damaged_under_sanitizers() {
     let build = SpecialBuild::sanitized();
-    expect_stops(&damage_cards(23, 3, 30, |words| build.run(words)));
+    let run = |words: Words| build.run(words);
+    expect_stops(&damage_cards(23, 3, 30, random_files, run));
 }

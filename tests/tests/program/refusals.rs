@@ -351,17 +351,19 @@ fn both_sides() {
 
 /// A name that is none, on a card that opens.
 #[test]
-fn bad_names() {
+fn bad_paths() {
     let [good, other] = [(); 2].map(|()| OnDisk::new(sound()));
     let path = good.path();
     let output = good.scratch.path("output");
     fs::write(&output, "kept").unwrap();
-    for name in [vec![], b"a/b".to_vec(), vec![b'x'; 256]] {
-        let json = refused("pull", &[&path, &name, &"0"], 4);
-        expect_name(&json, &name);
-        refused("cat", &[&"-o", &output, &path, &name], 4);
-        let json = refused("compare", &[&path, &other.path(), &name], 4);
-        assert_eq!(json["side"].number(), 0, "side of a name in {json:?}");
+    for bad in [vec![], b"a//b".to_vec(), vec![b'x'; 256]] {
+        let json = refused("pull", &[&path, &bad, &"0"], 4);
+        expect_name(&json, &bad);
+        refused("cat", &[&"-o", &output, &path, &bad], 4);
+        let json = refused("compare", &[&path, &other.path(), &bad], 4);
+        assert_eq!(json["side"].number(), 0, "side of a path in {json:?}");
+        let json = refused("ls", &[&path, &bad], 4);
+        expect_name(&json, &bad);
     }
     assert_eq!(fs::read(&output).unwrap(), b"kept");
 }

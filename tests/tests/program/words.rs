@@ -62,7 +62,7 @@ pub(crate) fn expect_pulls(card: &ProgramCard) {
         };
         // Where a walk stopped, the reason follows.
         let behind = match answer {
-            3 | 9..=14 => ": ",
+            2 | 3 | 9..=14 => ": ",
             _ => &count,
         };
         let said = format!("(answer {answer}){behind}");
@@ -142,16 +142,16 @@ fn out_of_shape() {
     let path = card.disk.path();
     let other = OnDisk::new(card.disk.image.clone());
     let long = vec![b'x'; 300];
-    let slash = "the name has a slash; only the root directory is read";
     let too_long = "the name has 300 bytes; at most 255 are possible";
+    let slashes = "the path has two slashes side by side";
     let lines: [(Words, &str); 9] = [
         (&[&"hash", &"a/b"], "the name has a slash"),
         (&[&"hash", &""], "the name is empty"),
         (&[&"hash", &long], too_long),
-        (&[&"pull", &path, &"a/b", &"0"], slash),
-        (&[&"pull", &path, &"", &"0"], "the name is empty"),
+        (&[&"pull", &path, &"a//b", &"0"], slashes),
+        (&[&"pull", &path, &"", &"0"], "the path is empty"),
         (&[&"pull", &path, &long, &"0"], too_long),
-        (&[&"compare", &path, &other.path(), &"a/b"], slash),
+        (&[&"compare", &path, &other.path(), &"a//b"], slashes),
         (&[&"place", &"5", &"0"], "A has to be 873 or 923"),
         (&[&"place", &"4294967295", &"0"], "A has to be 873 or 923"),
     ];
