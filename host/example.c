@@ -1,4 +1,4 @@
-/* What README.md shows of the library, as a whole program: example KEPT NEW caches block 0 of road.bin from
+/* What README.md shows of the library, as a whole program: example KEPT NEW caches block 0 of roads/road.bin from
  * the first card, prints it, and says whether it is still good on the second: status 0 if it is, 1 if not, 2
  * if something failed. It is C and C++. */
 #include <errno.h>
@@ -17,10 +17,11 @@ struct cached {
     uint8_t nodes[HARPTIMBER_NODES_BYTES], blocks[HARPTIMBER_BLOCKS_BYTES];
 };
 
-/* Caches block 0 of road.bin. Returns 1 if there is one, data or a hole. */
+/* Caches block 0 of roads/road.bin. Returns 1 if there is one, data or a hole. */
 static int cache_road(struct cached *c, const uint8_t *kept, size_t kept_len)
 {
-    c->pulled = harptimber_pull(kept, kept_len, (const uint8_t *)"road.bin", 8, 0, c->block, sizeof c->block,
+    static const char path[] = "roads/road.bin";
+    c->pulled = harptimber_pull(kept, kept_len, (const uint8_t *)path, sizeof path - 1, 0, c->block, sizeof c->block,
                                 c->nodes, sizeof c->nodes, c->blocks, sizeof c->blocks);
     return c->pulled.answer == HARPTIMBER_DATA || c->pulled.answer == HARPTIMBER_HOLE;
 }

@@ -6,17 +6,17 @@ use std::fs;
 use std::path::{Path, PathBuf};
 use std::process::{Command, Stdio};
 
-use harptimber_tests::cards::card::Card;
-use harptimber_tests::cards::directory::Dentry;
+use harptimber_tests::cards::card::{Card, ROOT};
+use harptimber_tests::cards::directory::{Dentry, DirLevel};
 use harptimber_tests::cards::image::Image;
 use harptimber_tests::cards::knobs::{Knobs, Pack};
 use harptimber_tests::cards::layout::inode::{INLINE_ROOM, INLINE_ROOM_WITH_XATTR};
-use harptimber_tests::cards::layout::BLOCK_SIZE;
-use harptimber_tests::program::card::{ProgramCard, ROAD};
+use harptimber_tests::cards::layout::{BLOCK_SIZE, SEGMENT_BLOCKS};
+use harptimber_tests::cards::on_disk::OnDisk;
 use harptimber_tests::program::levels::MOST_LEVEL;
 use harptimber_tests::program::page::with_commas;
 use harptimber_tests::running::ran;
-use harptimber_tests::sizes::CARD_BLOCKS_MOST;
+use harptimber_tests::sizes::{blocks_most, nodes_most, CARD_BLOCKS_MOST, NAMES_MOST};
 use harptimber_tests::tools::published::{Scratch, LONGEST_INLINE};
 use harptimber_tests::trial::Random;
 
@@ -184,6 +184,54 @@ fn inline_inodes() {
     }
 }
 
+/// The first version that takes paths.
+const TAKES_PATHS: &str = "0.8.0";
+
+/// How many names a path has, what room that needs, and since when there are any.
+#[test]
+fn paths_of_names() {
+    let [nodes, blocks] = [nodes_most(NAMES_MOST), blocks_most(NAMES_MOST)];
+    let [nodes, blocks] = [nodes, blocks].map(|most| with_commas(most as usize));
+    let of_names = "at most 175k + 4 nodes and 233k + 5 blocks";
+    for (page, words) in [
+        (
+            "README.md",
+            "one to eight names with single slashes between them".to_string(),
+        ),
+        ("README.md", of_names.to_string()),
+        (
+            "docs/C-API.md",
+            format!("From {TAKES_PATHS} on a path may have up to eight names"),
+        ),
+        (
+            "docs/C-API.md",
+            "room for 175k + 4 node numbers and 233k + 5 blocks".to_string(),
+        ),
+        (
+            "docs/C-API.md",
+            format!("Lists of {nodes} numbers (`HARPTIMBER_NODES_BYTES`) and of {blocks} "),
+        ),
+        (
+            "host/include/harptimber.h",
+            format!("Before {TAKES_PATHS} a path of several names"),
+        ),
+        (
+            "host/include/harptimber.h",
+            "at most 175k + 4 for k names".to_string(),
+        ),
+        (
+            "host/harptimber.1",
+            "one to eight names with single slashes between them".to_string(),
+        ),
+        (
+            "host/harptimber.1",
+            "or up to seven directories further down".to_string(),
+        ),
+    ] {
+        expect_words(page, &words);
+    }
+}
+
 /// The indented lines of the README's part on C.
 fn snippet() -> String {
     let readme = read("README.md");
@@ -225,14 +273,20 @@ fn build_example(folder: &Scratch) -> PathBuf {
     program
 }
 
-/// A card with a road.bin of 100 such bytes.
+/// A card with a roads/road.bin of 100 such bytes.
 fn card(byte: u8) -> Image {
     let knobs = Knobs::sound().with_pack(0, Pack::compact(1));
-    let mut card = Card::new(knobs, Random::new(1));
+    with_road(Card::new(knobs, Random::new(1)), byte)
+}
+
+fn with_road(mut card: Card, byte: u8) -> Image {
     card.add_root(0, 1);
+    let roads = card.add_folder(DirLevel(0), 0, 1);
     let ino = card.add_file(0, 100);
     let block = card.add_block(ino, 0);
     card.link(0, 0, &Dentry::new(b"road.bin", ino));
+    card.enter(ROOT);
+    card.link(0, 0, &Dentry::new(b"roads", roads));
     card.image.put("road", block, 0, &[byte; 100]);
     card.image
 }
@@ -271,11 +325,14 @@ fn example_runs() {
 fn example_runs_on_a_large_card() {
     let folder = Scratch::new();
     let program = build_example(&folder);
-    let card = ProgramCard::far();
-    let road = card.file(ROAD).block(&card.card.image, 0);
-    let image = card.disk.path();
+    let knobs = Knobs::largest(2);
+    let end = knobs.areas().main_end;
+    let blocks = (end - SEGMENT_BLOCKS..end).collect();
+    let card = Card::within(knobs, Random::new(1), blocks);
+    let disk = OnDisk::new(with_road(card, b'r'));
+    let image = disk.path();
     let ran = ran(Command::new(program).args([&image; 2]), Stdio::piped()).expect(0);
-    assert!(ran.out == road, "output of {ran:?}");
+    assert_eq!(ran.out, [b'r'; 100], "output of {ran:?}");
 }
 
 /// The change that the README asks to try is a must-fail edit, so that it is refused in the gate too.
