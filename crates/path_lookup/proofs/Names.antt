@@ -2,7 +2,7 @@
 use Prim.Native.Nat.{ℕ}
 use mathlib.Core.Path.{_≡_, refl, sym, ap, _∙_}
 use mathlib.Core.List.{List, [], _∷_, _++_}
-use Rattle.walk.specs.Walk.{View, Seen, Walk, bind, Ran, ran, run, Outcome, ok, stop, onward, andThen}
+use Rattle.walk.specs.Walk.{View, Seen, bind, Ran, ran, run, Outcome, ok, stop, onward, andThen}
 use Rattle.walk.proofs.Runs.{run-bind, run-then, run-stop}
 use Rattle.node.specs.Node.{Bounds}
 use Rattle.path.specs.Path.{slash, partsOf}

@@ -2,10 +2,10 @@
 use Prim.Native.Nat.{ℕ, _+_, _-_, _≤_}
 use native.Mathlib.Omega.{arith}
 use mathlib.Core.Path.{_≡_, ap}
-use mathlib.Core.List.{List, _∷_}
+use mathlib.Core.List.{List}
 use lib.ListN.{length, take, drop}
 use borrow.Author.Tests.{eq-eqb, ne-eqb}
-use Rattle.walk.specs.Walk.{View, Walk, Outcome, ok, stop, andThen, Lists, Walked, Fits}
+use Rattle.walk.specs.Walk.{View, Outcome, ok, stop, andThen, Lists, Walked, Fits}
 use Rattle.walk.proofs.Reached.{Reached, reached-start, reached-to, reached-then, reached-stop, reached-done}
 use Rattle.walk.proofs.Fits.{fits-first, fits-at}
 use Rattle.node.specs.Node.{Bounds}

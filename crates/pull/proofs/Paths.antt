@@ -1,20 +1,19 @@
 -- K7, of every pull: a path without a slash answers as document 01's pull of that name did, and any other as the rest of it does from
 -- where its first names lead.
-use Prim.Native.Nat.{ℕ, _/_}
-use mathlib.Core.Path.{_≡_, refl, sym, ap, _∙_}
+use Prim.Native.Nat.{ℕ}
+use mathlib.Core.Path.{_≡_, refl, ap, _∙_}
 use mathlib.Core.Bool.{Bool, true, false, _&&_}
-use mathlib.Core.List.{List, [], _∷_, _++_, List·Memᴰ}
+use mathlib.Core.List.{List, _∷_, _++_, List·Memᴰ}
 use lib.ListN.{length}
 use Rattle.field.specs.Card.{Card, cardOf}
 use Rattle.field.specs.Choice.{choose}
-use Rattle.superblock.specs.Shape.{inShape}
 use Rattle.checkpoint.specs.declared.Volume.{Volume}
 use Rattle.checkpoint.specs.declared.Opening.{Opening}
 use Rattle.checkpoint.specs.declared.Opening.the-variants.{Opened, Refused}
 use Rattle.checkpoint.specs.Volume.{openedImage}
 use Rattle.name_hash.specs.Name.{isName}
-use Rattle.walk.specs.Walk.{viewOf, imageView, Seen, empty, Ran, ran, run, Outcome, ok, stop, andThen}
-use Rattle.walk.proofs.Runs.{run-then, run-stop, run-first}
+use Rattle.walk.specs.Walk.{viewOf, imageView, Seen, empty, Ran, ran, run, Outcome, ok, stop}
+use Rattle.walk.proofs.Runs.{run-stop, run-first}
 use Rattle.node.specs.Node.{boundsOf}
 use Rattle.path.specs.Path.{slash, partsOf, partCount, areNames, isPath}
 use Rattle.path.proofs.Laws.{parts-one}

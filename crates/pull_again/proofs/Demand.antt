@@ -4,8 +4,7 @@ use Prim.Native.Nat.{ℕ}
 use mathlib.Core.Path.{_≡_, refl, sym, ap, subst, _∙_}
 use mathlib.Core.Bool.{true}
 use mathlib.Core.List.{List, [], _∷_}
-use mathlib.Core.Logic.{_⊎_, inl, inr, _↔_}
-use native.Mathlib.Omega.{arith}
+use mathlib.Core.Logic.{_↔_}
 use Rattle.field.specs.Card.{cardOf}
 use Rattle.checkpoint.specs.declared.Volume.{Volume}
 use Rattle.checkpoint.specs.declared.Opening.the-variants.{Opened}
@@ -17,7 +16,7 @@ use Rattle.walk.specs.Walk.{viewOf, Ran, Outcome}
 use Rattle.node.specs.Node.{boundsOf}
 use Rattle.path.specs.Path.{partCount}
 use Rattle.pull.specs.Walk.{Block}
-use Rattle.pull.specs.Pull.{Lent, Result, lentInShape, written, pullRun, pulled, nodesLeft, blocksLeft}
+use Rattle.pull.specs.Pull.{Lent, lentInShape, written, pullRun, pulled, nodesLeft, blocksLeft}
 use Rattle.pull.proofs.Results.{path-in-shape, call-in-shape, call-opens}
 use Rattle.pull.proofs.Theorems.{run-ended}
 use Rattle.compare.specs.declared.Difference.{Difference}
@@ -28,7 +27,7 @@ use Rattle.list.proofs.Searching.{FirstNot}
 use Rattle.compare.proofs.Differences.{SameTable, SameBlock, difference-same, same-difference, difference-bounds, difference-node, difference-block}
 use Rattle.compare.proofs.Openings.{says-same, says-changed, lists-compared, compared-opened}
 use Rattle.pull_again.specs.Demand.{PastOpening, said, SameOn, SamePull}
-use Rattle.pull_again.proofs.Steps.{Came, past-came, lists-fit, nodes-of-run, blocks-of-run, same-run, same-written, Opens, same-opens, some-past}
+use Rattle.pull_again.proofs.Steps.{Came, past-came, lists-fit, nodes-of-run, blocks-of-run, same-run, same-written, same-opens, some-past}
 
 module _ (kept path : List ℕ) (index : ℕ) (lent : Lent) (past : PastOpening (pulled kept path index lent))
     (fresh : List ℕ) (u : Volume) (freshOpens : openedImage fresh ≡ Opened u) where

@@ -1,26 +1,23 @@
 -- The steps of demand 3: what a pull that got past opening left, that Compare takes its lists, and that cards which agree on them
 -- give the same run. The last is the tree's law, applied once.
-use Prim.Native.Nat.{ℕ, _*_, _<_, _≤_}
+use Prim.Native.Nat.{ℕ, _<_, _≤_}
 use native.Mathlib.Omega.{arith}
 use mathlib.Core.Path.{_≡_, refl, sym, ap, subst, _∙_}
-use mathlib.Core.Bool.{Bool, true, false, _&&_}
+use mathlib.Core.Bool.{true}
 use mathlib.Core.List.{List}
-use mathlib.Core.Logic.{_⊎_, inl, inr, ⊎-elim}
-use lib.ListN.{length}
+use mathlib.Core.Logic.{_⊎_, inl, ⊎-elim}
 use Rattle.field.specs.Card.{cardOf}
-use Rattle.superblock.specs.Shape.{inShape}
 use Rattle.checkpoint.specs.declared.Volume.{Volume}
-use Rattle.checkpoint.specs.declared.Opening.{Opening}
-use Rattle.checkpoint.specs.declared.Opening.the-variants.{Opened, Refused}
+use Rattle.checkpoint.specs.declared.Opening.the-variants.{Opened}
 use Rattle.checkpoint.proofs.Inside.{refusals}
 use Rattle.checkpoint.specs.Volume.{openedImage}
-use Rattle.list.specs.Lists.{Rising, AllOf, numbers, over, Listed, entries}
+use Rattle.list.specs.Lists.{Rising, AllOf, numbers, Listed, entries}
 use Rattle.walk.specs.Walk.{viewOf, empty, Ran, run, Outcome, ok, stop, Ended}
 use Rattle.walk.proofs.Runs.{agree}
 use Rattle.list.proofs.Written.{numbers-over, over-inside}
 use Rattle.node.specs.Node.{Bounds, boundsOf, inMain}
 use Rattle.pull.specs.Walk.{Block, pullWalk}
-use Rattle.pull.specs.Pull.{Lent, Result, callInShape, contentAnswer, answerOf, bufferAfter, written, pullRun, pulled, nodesLeft, blocksLeft}
+use Rattle.pull.specs.Pull.{Lent, Result, callInShape, answerOf, bufferAfter, written, pullRun, pulled, nodesLeft, blocksLeft}
 use Rattle.pull.proofs.Sizes.{Counted}
 use Rattle.pull.proofs.Theorems.{PullEnds, refusal, walked, ends, ending-inside, content-few, run-rises, run-inside, run-ended, run-some}
 use Rattle.compare.specs.Lists.{listsInShape}
@@ -29,7 +26,6 @@ use Rattle.compare.specs.Compare.{compared}
 use Rattle.compare.proofs.Shapes.{ListsFit, lists-in-shape, in-shape-lists}
 use Rattle.compare.proofs.Theorems.{CompareEnds, badLength, keptRefused, freshRefused, badLists, told}
 use Rattle.compare.proofs.Theorems as compare
-use Rattle.node.specs.Block.{Fetched, hole, held}
 use Rattle.pull_again.specs.Demand.{PastOpening, SameOn, SamePull}
 
 -- what a pull that got past opening left: its card opened, and its walk's result was written

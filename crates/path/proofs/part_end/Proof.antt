@@ -2,13 +2,11 @@
 use Prim.Native.Nat.{ℕ, _+_, _-_, _≤_}
 use native.Mathlib.Omega.{arith}
 use mathlib.Core.Path.{_≡_, refl, ap}
-use mathlib.Core.Bool.{true, false}
 use mathlib.Core.List.{List}
-use lib.ListN.{length, getD, drop}
-use lib.Dec.{eqb}
+use lib.ListN.{length, drop}
 use denote.Ref.{now}
 use borrow.Author.Tests.{eq-eqb, ne-eqb}
-use Rattle.path.specs.Path.{slash, firstPart}
+use Rattle.path.specs.Path.{firstPart}
 use Rattle.path.proofs.Parts.{first-on, first-slash, first-end}
 use Rattle.path.proofs.part_end.Statement.{statement}
 use Rattle.path.proofs.part_end.Tie as tie
