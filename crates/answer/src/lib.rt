@@ -5,7 +5,7 @@ pub const DATA: u32 = 0;
 // The block is a hole: zeros.
 pub const HOLE: u32 = 1;
 
-// The root directory has no such name.
+// A directory on the path has no such name.
 pub const NO_NAME: u32 = 2;
 
 // The block index lies past the end.

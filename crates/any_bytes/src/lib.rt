@@ -16,13 +16,13 @@ pub fn node_lookup(image: &[u8], number: u32) -> nat::Lookup {
 
 pub fn pull(
     image: &[u8],
-    name: &[u8],
+    path: &[u8],
     index: u32,
     block: &mut [u8],
     nodes: &mut [u8],
     blocks: &mut [u8],
 ) -> pull::Pulled {
-    harptimber::harptimber_pull(image, name, index, block, nodes, blocks)
+    harptimber::harptimber_pull(image, path, index, block, nodes, blocks)
 }
 
 pub fn compare(

@@ -22,25 +22,21 @@ use Rattle.dentry.specs.Slot.{wellFormed, matches, slotAt, slotsFrom}
 use Rattle.name_hash.specs.Name.{nameBytes}
 use Rattle.name_hash.specs.Hash.{hashOf}
 use Rattle.directory.specs.Find.{findWalk}
-use Rattle.path.specs.Path.{partsOf, partCount, areNames, isPath, nameCount}
+use Rattle.path.specs.Path.{slash, partsOf, partCount, areNames, isPath, nameCount}
 use Rattle.path_lookup.specs.Lookup.{atDirectory, directoryWalk, namesWalk}
-use Rattle.pull.specs.Walk.{Block, contentWalk, atFile, fileWalk, fromWalk, pullWalk}
-use Rattle.pull.specs.Pull.{nodesMost, blocksMost, lending, lentInShape, contentAnswer}
-use Rattle.bench_sheet.specs.Line.{Line, _is_, Holds, yes}
-use Rattle.bench_sheet.specs.WalkRules.{main, lists, footed, inodeBlock}
+use Rattle.pull.specs.Walk.{Block, contentWalk, atFile, fileWalk, namedFileWalk, pullWalk}
+use Rattle.pull.specs.Pull.{nodesMost, blocksMost, lentInShape, contentAnswer}
+use Rattle.bench_sheet.specs.Line.{Line, _is_, Holds}
+use Rattle.bench_sheet.specs.WalkRules.{main, lists, footed, inodeBlock, lent}
 use Rattle.bench_sheet.specs.InlineRules.{dotBlock}
 
 -- a name, and n more of it, parted by single slashes
 abbrev again : ℕ → List ℕ → List ℕ
 again zero name = name
-again (suc n) name = name ++ 47 ∷ again n name
+again (suc n) name = name ++ slash ∷ again n name
 
 abbrev dot : List ℕ
 dot = 46 ∷ []
-
--- whether lists of so many numbers are room for k names
-abbrev room : ℕ → ℕ → ℕ → ℕ
-room k nodes blocks = yes (lentInShape k (lending (replicate 4096 0) (replicate nodes 0) (replicate blocks 0)))
 
 -- Inode 3 is the root, and node n is in block 4093 + n. Inodes below `file` are inline directories, in each of which "." leads to the next
 -- inode; `file` is a regular file of 4,097 bytes, all holes. The answer of a pull of its block 0, and what is listed then.
@@ -55,7 +51,8 @@ abbrev pathRules : List Line
 pathRules =
     -- "one to eight names parted by single slashes; an empty part or a ninth is 4"
     (List.map (λ n. nameCount (again n dot)) (0 ∷ 1 ∷ 6 ∷ 7 ∷ 8 ∷ []) is (1 ∷ 2 ∷ 7 ∷ 8 ∷ 0 ∷ []))
-    ∷ (List.map nameCount ([] ∷ (47 ∷ []) ∷ (47 ∷ 97 ∷ []) ∷ (97 ∷ 47 ∷ []) ∷ (97 ∷ 47 ∷ 47 ∷ 97 ∷ []) ∷ (97 ∷ 47 ∷ 97 ∷ []) ∷ []) is (0 ∷ 0 ∷ 0 ∷ 0 ∷ 0 ∷ 2 ∷ []))
+    ∷ (List.map nameCount ([] ∷ (47 ∷ []) ∷ (47 ∷ 97 ∷ []) ∷ (97 ∷ 47 ∷ []) ∷ []) is (0 ∷ 0 ∷ 0 ∷ 0 ∷ []))
+    ∷ (List.map nameCount ((97 ∷ 47 ∷ 47 ∷ 97 ∷ []) ∷ (97 ∷ 47 ∷ 97 ∷ []) ∷ []) is (0 ∷ 2 ∷ []))
     ∷ (List.map length (partsOf (97 ∷ 98 ∷ 47 ∷ 47 ∷ 99 ∷ 47 ∷ [])) is (2 ∷ 0 ∷ 1 ∷ 0 ∷ []))
     -- a part is a name of 1 to 255 bytes, none of them 0
     ∷ (List.map (λ n. nameCount (again 1 (replicate n 97))) (1 ∷ 255 ∷ 256 ∷ []) is (2 ∷ 2 ∷ 0 ∷ []))
@@ -63,9 +60,8 @@ pathRules =
     -- "With k names at most 175k + 4 node numbers and 233k + 5 blocks are listed, and the lists lent must have that room"
     ∷ (List.map nodesMost (1 ∷ 2 ∷ 3 ∷ 8 ∷ []) is (179 ∷ 354 ∷ 529 ∷ 1404 ∷ []))
     ∷ (List.map blocksMost (1 ∷ 2 ∷ 3 ∷ 8 ∷ []) is (238 ∷ 471 ∷ 704 ∷ 1869 ∷ []))
-    ∷ ((room 1 716 952 ∷ room 1 715 952 ∷ room 1 716 951 ∷ []) is (1 ∷ 0 ∷ 0 ∷ []))
-    ∷ ((room 2 1416 1884 ∷ room 2 1415 1884 ∷ room 2 1416 1883 ∷ []) is (1 ∷ 0 ∷ 0 ∷ []))
-    ∷ ((room 8 5616 7476 ∷ room 8 5615 7476 ∷ room 8 5616 7475 ∷ []) is (1 ∷ 0 ∷ 0 ∷ []))
+    ∷ ((lent 2 4096 1416 1884 ∷ lent 2 4096 1415 1884 ∷ lent 2 4096 1416 1883 ∷ []) is (1 ∷ 0 ∷ 0 ∷ []))
+    ∷ ((lent 8 4096 5616 7476 ∷ lent 8 4096 5615 7476 ∷ lent 8 4096 5616 7475 ∷ []) is (1 ∷ 0 ∷ 0 ∷ []))
     -- one name, two, and eight, each sought in the directory that the one before it led to
     ∷ (pulls 4 dot is (1 ∷ 3 ∷ 4 ∷ 4096 ∷ 4097 ∷ []))
     ∷ (pulls 5 (again 1 dot) is (1 ∷ 3 ∷ 4 ∷ 5 ∷ 4096 ∷ 4097 ∷ 4098 ∷ []))
@@ -84,5 +80,5 @@ pub path-rules : Holds pathRules
 unfolding le16 le32 le64 bytesOf lowBit sameAt insert run bind onward andThen placeOf inMain belongs atBlock atEntry nodeWalk isHole dataWalk wayWalk
     blockWalk inodeOf hasInlineData hasInlineDentry hasExtraAttr dataRoom isDirectory isRegular addressesIn isPast countIn
     wellFormed matches slotAt slotsFrom findWalk nameBytes hashOf partsOf partCount areNames isPath nameCount
-    atDirectory directoryWalk namesWalk contentWalk atFile fileWalk fromWalk pullWalk lentInShape
+    atDirectory directoryWalk namesWalk contentWalk atFile fileWalk namedFileWalk pullWalk lentInShape
 path-rules = refl

@@ -344,15 +344,16 @@ abbrev file : (ℕ → TableAnswer) → ℕ → ℕ → ℕ → List ℕ
 file table mode ino index =
     lists (λ (b : Block). contentAnswer (b .content)) table (λ b. footed (inodeBlock mode 0 4097 0 0) ino ino 0) (fileWalk main index ino)
 
-abbrev lent : ℕ → ℕ → ℕ → ℕ
-lent block nodes blocks = yes (lentInShape 1 (lending (replicate block 0) (replicate nodes 0) (replicate blocks 0)))
+-- whether so many bytes are what a pull of k names is lent
+abbrev pub lent : ℕ → ℕ → ℕ → ℕ → ℕ
+lent k block nodes blocks = yes (lentInShape k (lending (replicate block 0) (replicate nodes 0) (replicate blocks 0)))
 
 abbrev pullRules : List Line
 pullRules =
     -- "a block buffer of exactly 4,096 bytes", and for one name "a node list of at least 179 and a block list of at least 238 32-bit numbers"
-    (List.map (λ block. lent block 716 952) (4095 ∷ 4096 ∷ 4097 ∷ []) is (0 ∷ 1 ∷ 0 ∷ []))
-    ∷ (List.map (λ nodes. lent 4096 nodes 952) (715 ∷ 716 ∷ 720 ∷ []) is (0 ∷ 1 ∷ 1 ∷ []))
-    ∷ (List.map (lent 4096 716) (951 ∷ 952 ∷ 956 ∷ []) is (0 ∷ 1 ∷ 1 ∷ []))
+    (List.map (λ block. lent 1 block 716 952) (4095 ∷ 4096 ∷ 4097 ∷ []) is (0 ∷ 1 ∷ 0 ∷ []))
+    ∷ (List.map (λ nodes. lent 1 4096 nodes 952) (715 ∷ 716 ∷ 720 ∷ []) is (0 ∷ 1 ∷ 1 ∷ []))
+    ∷ (List.map (lent 1 4096 716) (951 ∷ 952 ∷ 956 ∷ []) is (0 ∷ 1 ∷ 1 ∷ []))
     -- 1 is "hole"; "Size 4,097: .. index 2 gives 3."
     ∷ (file (λ n. Entry n 4096) 0x8000 4 1 is (1 ∷ 4 ∷ 4096 ∷ []))
     ∷ (file (λ n. Entry n 4096) 0x8000 4 2 is (3 ∷ 4 ∷ 4096 ∷ []))

@@ -42,8 +42,8 @@ dentryRoom = 3488
 
 -- ---- which inodes are read
 
--- "The root must be a directory .., else 12"; "2 on a directory .. stay[s] 12", and bit 20 hex; "A size above the room is 12."; "Depth over
--- 63 ..: 12"; "refusal 12 for a level now starts at 31"
+-- "The root must be a directory .., else 12"; K7: "Each name but the last must be a directory, else 12"; "2 on a directory .. stay[s]
+-- 12", and bit 20 hex; "A size above the room is 12."; "Depth over 63 ..: 12"; "refusal 12 for a level now starts at 31"
 unfoldable pub isDirectory : Inode → Bool
 isDirectory i =
     eqb (i .mode / 4096) 4 && not (hasInlineData i) && not (hasExtraAttr i)

@@ -38,7 +38,7 @@ count-all count h =
     let size : count + 0 ≡ count = omega arith in
     rw (size, le-leb count namesMost h)
 
--- and one is left too many
+-- one too many is left
 pub count-ninth : (parts : List (List ℕ)) (count : ℕ) → 1 ≤ length parts → namesMost ≤ count → countOn count parts ≡ 0
 count-ninth parts count some h = rw (lt-leb (count + length parts) namesMost (omega arith))
 

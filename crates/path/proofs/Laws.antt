@@ -1,14 +1,15 @@
--- What the parts of a path are: two paths joined by a slash have the parts of both, and without a slash there is one.
-use Prim.Native.Nat.{ℕ, _≤_}
+-- What the parts of a path are: two paths joined by a slash have the parts of both, and without a slash there is one. And what is no path.
+use Prim.Native.Nat.{ℕ, _≤_, _<_}
 use native.Mathlib.Omega.{arith}
 use mathlib.Core.Path.{_≡_, refl, sym, ap, _∙_}
-use mathlib.Core.Bool.{Bool, true, false}
-use mathlib.Core.List.{List, [], _∷_, _++_, List·Memᴰ, List·Memᴰ·head, List·Memᴰ·tail}
+use mathlib.Core.Bool.{Bool, true, false, and-false}
+use mathlib.Core.Logic.{⊎-elim}
+use mathlib.Core.List.{List, [], _∷_, _++_, List·Memᴰ, List·Memᴰ·head, List·Memᴰ·tail, List·Memᴰ·not-nil, List·Memᴰ·cases-cons}
 use lib.ListN.{length}
 use lib.Dec.{eqb}
-use borrow.Author.Tests.{eqb-true}
+use borrow.Author.Tests.{eqb-true, lt-leb}
 use Rattle.field.specs.Choice.{choose}
-use Rattle.path.specs.Path.{slash, onFirst, partsOf}
+use Rattle.path.specs.Path.{slash, namesMost, onFirst, partsOf, partCount, areNames, isPath}
 use Rattle.path.proofs.Parts.{some-part}
 
 on-first-joined : (b : ℕ) (parts more : List (List ℕ)) → 1 ≤ length parts → onFirst b (parts ++ more) ≡ onFirst b parts ++ more
@@ -34,3 +35,17 @@ parts-one (b ∷ path) none = go (eqb b slash) refl (parts-one path (λ m. none 
     go : (t : Bool) → eqb b slash ≡ t → partsOf path ≡ path ∷ [] → choose t ([] ∷ partsOf path) (onFirst b (partsOf path)) ≡ (b ∷ path) ∷ []
     go true e ih = absurd (none (List·Memᴰ·head (sym (eqb-true b slash e))))
     go false e ih = ap (onFirst b) ih
+
+-- ---- what is no path
+empty-none : (parts : List (List ℕ)) → List·Memᴰ [] parts → areNames parts ≡ false
+unfolding areNames
+empty-none [] m = absurd (List·Memᴰ·not-nil m)
+empty-none (part ∷ parts) m = ⊎-elim (λ e. rw (← e) refl) (λ r. rw (empty-none parts r, and-false) refl) (List·Memᴰ·cases-cons m)
+
+pub empty-no-path : (path : List ℕ) → List·Memᴰ [] (partsOf path) → isPath path ≡ false
+unfolding isPath
+empty-no-path path m = rw (empty-none (partsOf path) m, and-false) refl
+
+pub ninth-no-path : (path : List ℕ) → namesMost < partCount path → isPath path ≡ false
+unfolding isPath
+ninth-no-path path h = rw (lt-leb (partCount path) namesMost h) refl

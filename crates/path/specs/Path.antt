@@ -15,7 +15,12 @@ slash = 47
 abbrev pub namesMost : ℕ
 namesMost = 8
 
--- a byte at the front of the first of some parts
+-- the bytes before the first slash, all if there is none: what the code goes by
+unfoldable pub firstPart : List ℕ → List ℕ
+firstPart [] = []
+firstPart (b ∷ path) = choose (eqb b slash) [] (b ∷ firstPart path)
+
+-- a byte at the front of the first of some parts; a path has always one, so the first case doesn't come up
 abbrev pub onFirst : ℕ → List (List ℕ) → List (List ℕ)
 onFirst b [] = (b ∷ []) ∷ []
 onFirst b (part ∷ parts) = (b ∷ part) ∷ parts
@@ -40,10 +45,3 @@ isPath path = leb (partCount path) namesMost && areNames (partsOf path)
 -- how many names a path has, and 0 of what is no path
 unfoldable pub nameCount : List ℕ → ℕ
 nameCount path = choose (isPath path) (partCount path) 0
-
--- ---- by places, as the code goes
-
--- the bytes before the first slash; all, if there is none
-unfoldable pub firstPart : List ℕ → List ℕ
-firstPart [] = []
-firstPart (b ∷ path) = choose (eqb b slash) [] (b ∷ firstPart path)

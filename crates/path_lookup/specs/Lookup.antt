@@ -15,7 +15,7 @@ use Rattle.path.specs.Path.{partsOf}
 abbrev pub rootIno : ℕ
 rootIno = 3
 
--- "At a node: .. then 12, then 2": K7, "Each name but the last must be a directory, else 12", and the root too. "Then size 0: 2"
+-- K7: "Each name but the last must be a directory, else 12", and so must the root. Then "size 0: 2"
 unfoldable pub atDirectory : Bounds → List ℕ → ℕ → List ℕ → Walk (Outcome ℕ)
 atDirectory m name ino inode =
     choose (isDirectory (inodeOf inode))

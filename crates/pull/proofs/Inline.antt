@@ -23,7 +23,7 @@ use Rattle.node.specs.Block.{held}
 use Rattle.node.proofs.Listed.{Listed, node-listed}
 use Rattle.path_lookup.specs.Lookup.{pathWalk}
 use Rattle.pull.specs.declared.Pulled.{Pulled}
-use Rattle.pull.specs.Walk.{Block, atFile, fileWalk, fromWalk, pullWalk}
+use Rattle.pull.specs.Walk.{Block, atFile, fileWalk, namedFileWalk, pullWalk}
 use Rattle.pull.specs.Pull.{Lent, callInShape, written, pullRun, pulled}
 use Rattle.pull.proofs.Cases.{file-past, file-inline}
 use Rattle.pull.proofs.Results.{call-opens}
@@ -78,7 +78,7 @@ module _ (image path : List ℕ) (index : ℕ) (lent : Lent) (shape : callInShap
 
   -- ".. and no data block of its own": the lists are as they were when it was read
   pub inline-pulled : pulled image path index lent ≡ written (ran (inlineFound inode index) t) lent
-  unfolding pullRun pullWalk fromWalk pathWalk fileWalk run
+  unfolding pullRun pullWalk namedFileWalk pathWalk fileWalk run
   inline-pulled =
       call-opens image path index lent (Opened v) shape opens
       ∙ ap (λ (r : Ran (Outcome Block)). written r lent)

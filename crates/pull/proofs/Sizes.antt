@@ -15,7 +15,7 @@ use Rattle.path.specs.Path.{partCount}
 use Rattle.path_lookup.specs.Lookup.{pathWalk}
 use Rattle.path_lookup.proofs.Sizes.{path-within}
 use Rattle.pull.specs.Pull.{nodesMost, blocksMost}
-use Rattle.pull.specs.Walk.{Block, contentWalk, atFile, fileWalk, fromWalk, pullWalk}
+use Rattle.pull.specs.Walk.{Block, contentWalk, atFile, fileWalk, namedFileWalk, pullWalk}
 
 -- "a byte count 1 to 4,096"
 abbrev pub Counted : Block → Type 0
@@ -47,7 +47,7 @@ module _ (m : Bounds) where
   file-within index ino = within-then _ (node-within m ino ino 0) (λ inode _. at-file-within index ino inode)
 
   pub pull-within : (path : List ℕ) (index : ℕ) → ToBlock m (nodesMost (partCount path)) (blocksMost (partCount path)) (pullWalk m path index)
-  unfolding pullWalk fromWalk pathWalk
+  unfolding pullWalk namedFileWalk pathWalk
   pull-within path index =
       let ns : 4 + 175 * partCount path ≡ nodesMost (partCount path) = omega arith in
       let bs : 5 + 233 * partCount path ≡ blocksMost (partCount path) = omega arith in

@@ -27,7 +27,7 @@ use Rattle.node.specs.Block.{Fetched, hole, held}
 use Rattle.path.specs.Path.{partsOf, partCount}
 use Rattle.path.proofs.Parts.{some-part}
 use Rattle.path_lookup.specs.Lookup.{rootIno, directoryWalk, namesWalk}
-use Rattle.pull.specs.Walk.{Block, fromWalk, pullWalk}
+use Rattle.pull.specs.Walk.{Block, namedFileWalk, pullWalk}
 use Rattle.pull.specs.Pull.{nodesMost, blocksMost, Lent, Result, callInShape, contentAnswer, answerOf, countOf, bufferAfter}
 use Rattle.pull.specs.Pull.{nodesLeft, blocksLeft, refusedPull, written, pullRun, pulled}
 use Rattle.pull.proofs.Sizes.{Counted, ToBlock, pull-within}
@@ -87,10 +87,10 @@ module _ (card : Card) (v : Volume) (path : List ℕ) (index : ℕ) where
   run-exact = (nodes-exact (viewOf card v) (walkOf v path index), blocks-exact (viewOf card v) (walkOf v path index))
 
   root-asked : AsksNode (viewOf card v) (walkOf v path index) rootIno
-  unfolding pullWalk fromWalk namesWalk directoryWalk nodeWalk andThen bind AsksNode
+  unfolding pullWalk namedFileWalk namesWalk directoryWalk nodeWalk andThen bind AsksNode
   root-asked = go (partsOf path) (some-part path)
     where
-      go : (names : List (List ℕ)) → 1 ≤ length names → AsksNode (viewOf card v) (fromWalk (boundsOf v) names index rootIno) rootIno
+      go : (names : List (List ℕ)) → 1 ≤ length names → AsksNode (viewOf card v) (namedFileWalk (boundsOf v) names index rootIno) rootIno
       go [] some = absurd (omega arith)
       go (name ∷ names) some = inl refl
 

@@ -40,12 +40,12 @@ unfoldable pub fileWalk : Bounds → ℕ → ℕ → Walk (Outcome Block)
 fileWalk m index ino = andThen (inodeWalk m ino) (atFile m index ino)
 
 -- block `index` of the file that some names lead to, from the directory of an inode number
-unfoldable pub fromWalk : Bounds → List (List ℕ) → ℕ → ℕ → Walk (Outcome Block)
-fromWalk m names index ino = andThen (namesWalk m names ino) (fileWalk m index)
+unfoldable pub namedFileWalk : Bounds → List (List ℕ) → ℕ → ℕ → Walk (Outcome Block)
+namedFileWalk m names index ino = andThen (namesWalk m names ino) (fileWalk m index)
 
 -- block `index` of the file that a path leads to, from the root
 unfoldable pub pullWalk : Bounds → List ℕ → ℕ → Walk (Outcome Block)
-pullWalk m path index = fromWalk m (partsOf path) index rootIno
+pullWalk m path index = namedFileWalk m (partsOf path) index rootIno
 
 -- what the code found as a block of the file: an address stands for the bytes of its block, from a start on
 abbrev pub blockFound : Card → Data → ℕ → ℕ → Outcome Block

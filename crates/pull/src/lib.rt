@@ -10,7 +10,7 @@ ghost use Rattle.checkpoint.specs.Volume.{VolumeIn};
 ghost use Rattle.walk.specs.Walk.{imageView, lists, none, Walked, Fits};
 ghost use Rattle.node.specs.Node.{boundsOf};
 ghost use Rattle.node.specs.Found.{DataIn};
-ghost use Rattle.path.specs.Path.{partCount, isPath};
+ghost use Rattle.path.specs.Path.{namesMost, partCount, isPath};
 ghost use Rattle.pull.specs.Walk.{atFile, fileWalk, blockFound, pullWalk};
 ghost use Rattle.pull.specs.Pull.{nodesMost, blocksMost, lending, result, lentInShape};
 ghost use Rattle.pull.specs.Pull.{answerOf, countOf, bufferAfter, written, pullRun, pulled};
@@ -215,7 +215,7 @@ fn refused_pull(answer: u32) -> Pulled
 
 // Whether the lent memory is of the lengths that a pull of k names takes.
 fn lent_in_shape(k: usize, block: usize, nodes: usize, blocks: usize) -> bool
-    requires { ⌜ k ≤ 8 ⌝ }
+    requires { ⌜ k ≤ namesMost ⌝ }
     ensures { λ r. ⌜ r ≡ (eqb block 4096 && leb (nodesMost k) (nodes / 4) && leb (blocksMost k) (blocks / 4)) ⌝ }
 {
     (block == 4096) & (175 * k + 4 <= nodes / 4) & (233 * k + 5 <= blocks / 4)

@@ -1,5 +1,6 @@
--- Demand 3, whole, over paths (K7: "Demand 3 covers paths"). "Take any image, name and block index whose pull got past opening, and any second image that opens. The comparison
--- is given the first image as the kept one, the second as the new one, and the lists and counts as that pull left them."
+-- Demand 3, whole. "Take any image, name and block index whose pull got past opening, and any second image that opens. The comparison
+-- is given the first image as the kept one, the second as the new one, and the lists and counts as that pull left them." K7: "Demand 3
+-- covers paths": where the demand has a name, a path stands.
 use Prim.Native.Nat.{ℕ}
 use mathlib.Core.Path.{_≡_, refl, sym, ap, subst, _∙_}
 use mathlib.Core.Bool.{true}

@@ -22,7 +22,7 @@ use Rattle.dentry.specs.Slot.{wellFormed, matches, slotAt, slotsFrom}
 use Rattle.directory.specs.Find.{fetchFrom, afterBlock, bucketWalk, levelsWalk, findWalk}
 use Rattle.path.specs.Path.{partsOf}
 use Rattle.path_lookup.specs.Lookup.{atDirectory, directoryWalk, namesWalk}
-use Rattle.pull.specs.Walk.{contentWalk, atFile, fileWalk, fromWalk, pullWalk}
+use Rattle.pull.specs.Walk.{contentWalk, atFile, fileWalk, namedFileWalk, pullWalk}
 use Rattle.pull.specs.Pull.{pullRun}
 use Rattle.sample_card.specs.Image.{filled, name, missing, inlineName, innerPath, throughFile, throughMissing}
 use Rattle.sample_card.specs.Image.{pack, journal, natBlock, rootInode, fileInode, inlineInode}
@@ -60,5 +60,5 @@ unfolding
     inMain belongs atBlock atEntry nodeWalk isHole dataWalk wayWalk blockWalk
     firstOf bucketOf wellFormed matches slotAt slotsFrom
     fetchFrom afterBlock bucketWalk levelsWalk findWalk
-    contentWalk atFile fileWalk partsOf atDirectory directoryWalk namesWalk fromWalk pullWalk pullRun
+    contentWalk atFile fileWalk partsOf atDirectory directoryWalk namesWalk namedFileWalk pullWalk pullRun
 walks = (refl, refl, refl, refl, refl, refl, refl, refl)

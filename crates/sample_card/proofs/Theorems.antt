@@ -1,6 +1,6 @@
--- Some card opens, and pulls on it answer 0, by a data block, by an inline file's inode and in a folder: the definitions don't refuse all. The
--- card is as large as one may be, and what a pull reads of its main area lies behind byte 2^32. Each theorem is stated of the image's
--- bytes, over the definitions that the contracts cite; all numbers are computed by them, the checksum and the names' hashes too.
+-- Some card opens, and pulls on it answer 0, by a data block, by an inline file's inode and in a folder: the definitions don't refuse
+-- everything. The card is as large as one may be, and what a pull reads of its main area lies behind byte 2^32. Each theorem is stated of
+-- the image's bytes, over the definitions that the contracts cite; all numbers are computed by them, the checksum and the names' hashes too.
 use Prim.Native.Nat.{ℕ, _*_, _/_, _≤_}
 use mathlib.Core.Path.{_≡_, refl, ap, _∙_}
 use mathlib.Core.Bool.{true}

@@ -5,6 +5,7 @@ use mathlib.Core.Bool.{true, not, _&&_}
 use lib.Dec.{eqb}
 use borrow.Author.Tests.{not-true, not-false}
 use Rattle.checkpoint.proofs.Inside.{image-volume}
+use Rattle.path.specs.Path.{namesMost}
 use Rattle.path.proofs.Counting.{count-few}
 use Rattle.pull.specs.declared.Pulled.{Pulled}
 use Rattle.pull.specs.Pull.{Lent, lending, result, lentInShape, callInShape}
@@ -54,7 +55,7 @@ name-count-requires c κs = search needs
 lent-in-shape-requires : tie.Need-lent-in-shape-requires
 lent-in-shape-requires c κs =
     let n = c .before in
-    subst (λ (k : ℕ). k ≤ 8) (sym (n .name-count .ensures)) (count-few _)
+    subst (λ (k : ℕ). k ≤ namesMost) (sym (n .name-count .ensures)) (count-few _)
 
 refused-pull-requires : tie.Need-refused-pull-requires
 refused-pull-requires c κs = search needs

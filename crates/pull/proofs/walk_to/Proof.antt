@@ -4,7 +4,7 @@ use mathlib.Core.Path.{ap}
 use Rattle.walk.proofs.Fits.{fits-first}
 use Rattle.directory.specs.Find.{entryOf}
 use Rattle.path_lookup.specs.Lookup.{pathWalk}
-use Rattle.pull.specs.Walk.{fileWalk, fromWalk, pullWalk}
+use Rattle.pull.specs.Walk.{fileWalk, namedFileWalk, pullWalk}
 use Rattle.walk.proofs.Both.{both-stop, second-fits, both-walked}
 use borrow.Author.Needs.{needs}
 use Rattle.pull.proofs.walk_to.Statement.{statement}
@@ -24,7 +24,7 @@ found-of k = k .before .before
 -- ---- the needs
 
 find-path-requires : tie.Need-find-path-requires
-unfolding pullWalk fromWalk pathWalk
+unfolding pullWalk namedFileWalk pathWalk
 find-path-requires c κs =
     let s = c .before .before .before .before .before .before in
     (fits-first _ (s .pre .0), s .pre .1)
@@ -36,7 +36,7 @@ enum-known-entry-2 : tie.Need-enum-known-entry-2
 enum-known-entry-2 c = search needs
 
 block-of-file-requires : tie.Need-block-of-file-requires
-unfolding pullWalk fromWalk pathWalk
+unfolding pullWalk namedFileWalk pathWalk
 block-of-file-requires c κs =
     let k = c .before .before .before in
     let l = found-of k in
@@ -50,7 +50,7 @@ same-length-2 : tie.Need-same-length-2
 same-length-2 c = search needs
 
 returns : tie.Need-returns
-unfolding pullWalk fromWalk pathWalk
+unfolding pullWalk namedFileWalk pathWalk
 returns c =
     let k = c .before in
     let l = k .before .before in
@@ -63,7 +63,7 @@ same-length-4 : tie.Need-same-length-4
 same-length-4 c = search needs
 
 returns-2 : tie.Need-returns-2
-unfolding pullWalk fromWalk pathWalk
+unfolding pullWalk namedFileWalk pathWalk
 returns-2 c =
     let end = c .before .before .before .before in
     let k = end .before .before .before .before in
