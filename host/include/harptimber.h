@@ -108,8 +108,8 @@ enum harptimber_answer {
      *   - the root, or what a name before the last leads to, isn't a directory; or what the last one leads to isn't a
      *     regular file;
      *   - the inode's inline flags have 20 hex, extra attributes;
-     *   - a directory's inline flags have 2, inline data, or the file's have 4, inline dentry: the mark of the other kind,
-     *     alone or with its own;
+     *   - a directory's inline flags have 2, inline data, or the file's have 4, inline dentry: the mark of the other
+     *     kind, alone or with its own;
      *   - a directory's have 4, and its size is over 3,488 bytes;
      *   - the file's have 2, and its size is over 3,488 bytes if they have 1 too, inline attributes, and over 3,688 if not;
      *   - a directory's depth is over 63;

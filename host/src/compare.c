@@ -87,7 +87,7 @@ static size_t ground_with(const struct comparison *c, uint32_t kind, uint32_t nu
     return c->ground_count;
 }
 
-/* Which ground it is that changed under a block; a new one is added. A block of the file's own is the same ground as the others. */
+/* Which ground it is that changed under a block; a new one is added. All data of the file is one ground. */
 static size_t find_ground(struct comparison *c, uint32_t index, const struct harptimber_compared *verdict)
 {
     struct ground ground = {.kind = verdict->kind, .number = verdict->number};

@@ -41,8 +41,8 @@ static void json_difference(struct json *json, const struct comparison *c, const
 }
 
 /* Why a card answers a pull so, if that gives no block. Of the file's end the sizes tell. */
-static void json_why(struct json *json, const char *key, const struct card *card, const char *path, const struct run *run,
-                     uint32_t answer)
+static void json_why(struct json *json, const char *key, const struct card *card, const char *path,
+                     const struct run *run, uint32_t answer)
 {
     struct asked asked = pull_of(card, path, run->first);
     if (!is_block(answer) && answer != HARPTIMBER_PAST_END)

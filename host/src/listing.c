@@ -74,7 +74,7 @@ static bool add_name(struct listing *listing, const struct dentry *dentry)
     return true;
 }
 
-/* A directory's entries for itself and for the one that it is in, which is on the path too: they lead to nothing below it. */
+/* A directory's entries for itself, and for the one that it is in and that is on the path too. */
 static bool is_dots(const struct walk *walk, const struct dentry *dentry)
 {
     uint32_t i = 0;

@@ -16,11 +16,11 @@ enum { PATH_ROOM = HARPTIMBER_PATH_BYTES_MOST + 1 + HARPTIMBER_NAME_BYTES_MOST +
 /* What was asked for, and what it is. */
 struct ls {
     const struct card *card;
-    const char *path;       /* null for the root directory */
-    uint32_t answer;        /* 0 if there is something to list; else why not */
-    bool is_directory;      /* else a file: the listing has the walk to it, and no names */
+    const char *path;  /* null for the root directory */
+    uint32_t answer;   /* 0 if there is something to list; else why not */
+    bool is_directory; /* else a file: the listing has the walk to it, and no names */
     struct listing listing;
-    char below[PATH_ROOM];  /* the path of a name in the directory */
+    char below[PATH_ROOM]; /* the path of a name in the directory */
 };
 
 /* What a line is about: a name as it is shown, the inode that it leads to, and the path to pull. */
@@ -32,7 +32,7 @@ struct row {
     size_t path_len;
 };
 
-/* What is said of it. The answer is the library's, to a pull of block 0; the inode's block is null if it can't be read. */
+/* What is said of it: the library's answer to a pull of block 0. The inode's block is null if it can't be read. */
 struct told {
     uint32_t answer;
     struct asked asked;

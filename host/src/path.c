@@ -17,9 +17,14 @@ size_t path_name_end(const char *path, size_t len, size_t at)
     return slash == NULL ? len : (size_t)(slash - path);
 }
 
+static bool has_byte(const char *name, size_t len, char byte)
+{
+    return memchr(name, byte, len) != NULL;
+}
+
 static bool is_name(const char *name, size_t len)
 {
-    return len >= 1 && len <= HARPTIMBER_NAME_BYTES_MOST && memchr(name, '\0', len) == NULL && memchr(name, '/', len) == NULL;
+    return len >= 1 && len <= HARPTIMBER_NAME_BYTES_MOST && !has_byte(name, len, '/') && !has_byte(name, len, '\0');
 }
 
 /* What is wrong with a name, behind what it is called. */
@@ -30,7 +35,7 @@ static void show_fault_of(FILE *out, const char *name, size_t len)
         show_count(out, len, "byte");
         fputs("; at most 255 are possible", out);
     } else {
-        fputs(len == 0 ? " is empty" : memchr(name, '/', len) != NULL ? " has a slash" : " has a zero byte", out);
+        fputs(len == 0 ? " is empty" : has_byte(name, len, '/') ? " has a slash" : " has a zero byte", out);
     }
 }
 

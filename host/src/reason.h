@@ -12,7 +12,7 @@ void show_stop(FILE *out, const struct stop *stop, const struct card *card);
 /* Prints whose something is: 'the root directory', 'the directory roads/wet', 'the file'. */
 void show_owner(FILE *out, const struct owner *owner);
 
-/* Prints whose inode one is: 'the root directory's inode', 'the inode of the directory roads/wet', 'the file's inode'. */
+/* Prints whose inode one is: 'the root directory's inode', 'the inode of the directory roads/wet'. */
 void show_owners_inode(FILE *out, const struct owner *owner);
 
 /* What a file's mode says that it is: 'directory', 'symbolic link'. */

@@ -178,8 +178,8 @@ bool dentry_from(const struct dentries *dentries, uint32_t slot, struct dentry *
     return true;
 }
 
-void stop_at_malformed(struct walk *walk, const struct dentries *dentries, const struct dentry *dentry, uint32_t address,
-                       uint32_t index)
+void stop_at_malformed(struct walk *walk, const struct dentries *dentries, const struct dentry *dentry,
+                       uint32_t address, uint32_t index)
 {
     walk->stop = (struct stop){
         .answer = HARPTIMBER_MALFORMED_SLOT,
@@ -212,7 +212,8 @@ static bool seek_among(struct walk *walk, struct search *search, const struct de
             return true;
         }
         search->inode = dentry.inode;
-        if (dentry.hash == search->hash && dentry.len == search->len && memcmp(dentry.name, search->name, search->len) == 0)
+        if (dentry.hash == search->hash && dentry.len == search->len &&
+            memcmp(dentry.name, search->name, search->len) == 0)
             return true;
     }
     return false;
@@ -231,7 +232,7 @@ static bool seek_in_inode(struct walk *walk, struct search *search)
     return seek_among(walk, search, &dentries, 0);
 }
 
-/* Seeks the name in the bucket with this first block. Returns whether the search is over. Past the last index there is no block. */
+/* Seeks the name in the bucket with this first block. Past the last index there is no block. */
 static bool seek_in_bucket(struct walk *walk, struct search *search, uint64_t first)
 {
     uint32_t last = last_index_of(search->directory);
@@ -338,7 +339,8 @@ struct stop walk_pull(const struct card *card, const char *path, size_t len, uin
     return walk.stop;
 }
 
-struct role walk_role(const struct card *card, const char *path, uint32_t index, const struct harptimber_compared *difference)
+struct role walk_role(const struct card *card, const char *path, uint32_t index,
+                      const struct harptimber_compared *difference)
 {
     struct walk walk = walk_begin(card);
     walk.sought = difference;

@@ -1,7 +1,7 @@
 /*
- * A pull's walk through a card's nodes, made once more in C: to say where it stopped, to name what it met, and to list
- * directories. Nothing of this is proved. A pull's answer is the library's, and where this doesn't stop with the same, nothing is
- * said of it.
+ * A pull's walk through a card's nodes, made once more in C: to say where it stopped, to name what it met, and to
+ * list directories. Nothing of this is proved. A pull's answer is the library's, and where this doesn't stop with the
+ * same, nothing is said of it.
  */
 #ifndef WALK_H
 #define WALK_H
@@ -55,7 +55,7 @@ const uint8_t *walk_node(struct walk *walk, uint32_t number, uint32_t inode, uin
 /* The block that an address leads to: null if it is a hole, or where the walk stops. */
 const uint8_t *walk_address(struct walk *walk, uint32_t address, uint32_t index);
 
-/* Follows a path to the number of an inode, which isn't looked at yet; false where the walk stops. No path is the root directory's. */
+/* Follows a path to the number of an inode, which isn't looked at yet. Returns false where the walk stops. */
 bool walk_path(struct walk *walk, const char *path, size_t len);
 
 /* The inode's number that the walk has come to. */
@@ -65,7 +65,8 @@ uint32_t walk_number(const struct walk *walk);
 struct stop walk_pull(const struct card *card, const char *path, size_t len, uint32_t index);
 
 /* What a compare found to differ is to the pull on this card. */
-struct role walk_role(const struct card *card, const char *path, uint32_t index, const struct harptimber_compared *difference);
+struct role walk_role(const struct card *card, const char *path, uint32_t index,
+                      const struct harptimber_compared *difference);
 
 /* The inode's block of a file, by a walk past its end, if a pull there answers so; null if that doesn't come so far. */
 const uint8_t *walk_inode(const struct card *card, const char *path, uint32_t answer);
@@ -116,7 +117,7 @@ bool dentry_from(const struct dentries *dentries, uint32_t slot, struct dentry *
 uint32_t slots_of(uint32_t len);
 
 /* Stops at a malformed entry of these, in this block of the card, which is this one of the directory, or its inode. */
-void stop_at_malformed(struct walk *walk, const struct dentries *dentries, const struct dentry *dentry, uint32_t address,
-                       uint32_t index);
+void stop_at_malformed(struct walk *walk, const struct dentries *dentries, const struct dentry *dentry,
+                       uint32_t address, uint32_t index);
 
 #endif

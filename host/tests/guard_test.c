@@ -686,20 +686,21 @@ static struct slice path_of(size_t names, size_t bytes)
 /* Paths of any number of names, short and as long as they can be, also told to be a byte longer than they are. */
 static void test_paths(void)
 {
-    static const size_t bytes[] = {1, 100, HARPTIMBER_NAME_BYTES_MOST};
-    for (size_t i = 0; i < COUNT_OF(bytes) * HARPTIMBER_NAMES_MOST; i++) {
-        struct call c = {.image = lend_zeros("image", 2 * BLOCK_SIZE)};
-        c.name = path_of(i / COUNT_OF(bytes) + 1, bytes[i % COUNT_OF(bytes)]);
+    static const size_t lens[] = {1, 100, HARPTIMBER_NAME_BYTES_MOST};
+    for (size_t i = 0; i < COUNT_OF(lens) * (HARPTIMBER_NAMES_MOST + 1); i++) {
+        size_t names = i / COUNT_OF(lens) + 1, bytes = lens[i % COUNT_OF(lens)];
+        int in_shape = names <= HARPTIMBER_NAMES_MOST;
+        struct call c = {.image = lend_zeros("image", 2 * BLOCK_SIZE), .name = path_of(names, bytes)};
         struct lens least = least_of(&c.name);
-        expect_no_image(c.name, c.image.len);
+        expect_pull(&c, &least, in_shape ? HARPTIMBER_NO_SUPERBLOCK : HARPTIMBER_OUT_OF_SHAPE);
+        give_room_back(&c);
+        expect_odd_room(&c, in_shape ? HARPTIMBER_NO_SUPERBLOCK : HARPTIMBER_OUT_OF_SHAPE);
+        turn++;
         lend_room(&c, &least);
         c.name.len++;
-        if (placement == BEFORE_GUARD && bytes[i % COUNT_OF(bytes)] < HARPTIMBER_NAME_BYTES_MOST && fails(faults(make_pull, &c)))
+        int is_read = in_shape && bytes < HARPTIMBER_NAME_BYTES_MOST; /* up to the byte that isn't there */
+        if (placement == BEFORE_GUARD && is_read && fails(faults(make_pull, &c)))
             printf("FAILED to notice a pull that leaves a path of %zu bytes\n", c.name.len - 1);
-        give_room_back(&c);
-        give_back(&c.name);
-        c.name = path_of(HARPTIMBER_NAMES_MOST + 1, bytes[i % COUNT_OF(bytes)]);
-        expect_pull(&c, &least, HARPTIMBER_OUT_OF_SHAPE);
         give_room_back(&c);
         give_back(&c.name);
         give_back(&c.image);

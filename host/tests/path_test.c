@@ -1,6 +1,6 @@
 /*
- * Pulls of paths from C, of one name to eight: the answer, the other numbers and every lent byte, with rooms that are just enough
- * and one byte short; what is out of shape; what ends a path on the way; and compares by the lists.
+ * Pulls of paths from C, of one name to eight: the answer, the other numbers and every lent byte, with rooms that are
+ * just enough and one byte short; what is out of shape; what ends a path on the way; and compares by the lists.
  */
 #include <stdlib.h>
 
@@ -116,15 +116,16 @@ static void expect(const char *what, size_t value, uint32_t answer, int listed)
     uint32_t count = answer == HARPTIMBER_DATA ? SIZE : 0;
     int numbers = got.answer == answer && got.byte_count == count;
     if (fails(numbers && listed && buffer_is(answer, count)))
-        printf("FAILED %s %zu: answer %" PRIu32 " and %" PRIu32 " bytes, expected %" PRIu32 " and %" PRIu32 "; lists of %" PRIu32
-               " and %" PRIu32 " %s; buffer %s\n",
+        printf("FAILED %s %zu: answer %" PRIu32 " and %" PRIu32 " bytes, expected %" PRIu32 " and %" PRIu32
+               "; lists of %" PRIu32 " and %" PRIu32 " %s; buffer %s\n",
                what, value, got.answer, got.byte_count, answer, count, got.node_count, got.block_count,
                listed ? "as expected" : "other", buffer_is(answer, count) ? "as expected" : "other");
 }
 
 static int nothing_listed(void)
 {
-    return lists(nodes, sizeof nodes, got.node_count, NULL, 0) && lists(blocks, sizeof blocks, got.block_count, NULL, 0);
+    return lists(nodes, sizeof nodes, got.node_count, NULL, 0) &&
+           lists(blocks, sizeof blocks, got.block_count, NULL, 0);
 }
 
 /* Every count of names, short and as long as they can be, with just enough room and a byte less of each list. */
@@ -218,7 +219,8 @@ static void test_dots(void)
     expect("no entry of . in directory", 1, HARPTIMBER_NO_NAME, rests_on(2, 1, 0));
     put_name(1, 5, ".", number_of(1));
     put_name(1, 6, "..", number_of(0));
-    static const char *const paths[] = {"aaa/./bbb", "aaa/../aaa/bbb", "aaa/./././././bbb", "aaa/../aaa/../aaa/../aaa/bbb"};
+    static const char *const paths[] = {"aaa/./bbb", "aaa/../aaa/bbb", "aaa/./././././bbb",
+                                        "aaa/../aaa/../aaa/../aaa/bbb"};
     for (size_t i = 0; i < COUNT_OF(paths); i++) {
         pull(paths[i], 0);
         expect("path with dots", i, HARPTIMBER_DATA, rests_on(2, 1, 1));

@@ -58,14 +58,15 @@ static inline void expect_compared(uint32_t address, size_t at, uint32_t answer)
 {
     uint8_t *byte = fresh + (size_t)address * BLOCK + at;
     *byte ^= 1;
-    struct harptimber_compared compared = harptimber_compare(card, sizeof card, fresh, sizeof fresh, nodes, sizeof nodes,
-                                                             got.node_count, blocks, sizeof blocks, got.block_count);
+    struct harptimber_compared compared =
+        harptimber_compare(card, sizeof card, fresh, sizeof fresh, nodes, sizeof nodes, got.node_count, blocks,
+                           sizeof blocks, got.block_count);
     *byte ^= 1;
     uint32_t kind = answer == HARPTIMBER_CHANGED ? HARPTIMBER_BLOCK_DIFFERS : 0;
     uint32_t number = answer == HARPTIMBER_CHANGED ? address : 0;
     if (fails(compared.answer == answer && compared.side == 0 && compared.kind == kind && compared.number == number))
-        printf("FAILED compare with byte %zu of block %" PRIu32 " changed: answer %" PRIu32 ", kind %" PRIu32 ", number %" PRIu32
-               "; expected %" PRIu32 "\n",
+        printf("FAILED compare with byte %zu of block %" PRIu32 " changed: answer %" PRIu32 ", kind %" PRIu32
+               ", number %" PRIu32 "; expected %" PRIu32 "\n",
                at, address, compared.answer, compared.kind, compared.number, answer);
 }
 

@@ -134,8 +134,8 @@ static inline void clear_entries(const struct entries *entries)
 }
 
 /*
- * An entry that leads to an inode, and says that its name has so many bytes. Of its slots only the first one's bit is set, and as
- * much of the name is written as there are slots for.
+ * An entry that leads to an inode, and says that its name has so many bytes. Of its slots only the first one's bit is
+ * set, and as much of the name is written as there are slots for.
  */
 static inline void put_entry(const struct entries *entries, size_t slot, uint32_t inode, const char *name, size_t len)
 {
@@ -148,7 +148,7 @@ static inline void put_entry(const struct entries *entries, size_t slot, uint32_
     memcpy(entries->bytes + entries->names_at + 8 * slot, name, name_len < room ? name_len : room);
 }
 
-/* The file, with these inline flags; each byte of its contents is another than the one before, up to its end or the room's. */
+/* The file, with these inline flags; each byte of its contents is another than the one before, as far as there is room. */
 static inline void put_file(uint8_t flags, uint64_t size)
 {
     enum { ROOM = 3688 };

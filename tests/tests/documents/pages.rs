@@ -187,49 +187,44 @@ fn inline_inodes() {
 /// The first version that takes paths.
 const TAKES_PATHS: &str = "0.8.0";
 
-/// How many names a path has, what room that needs, and since when there are any.
+/// How many names a path has, and since when there are several.
 #[test]
 fn paths_of_names() {
-    let [nodes, blocks] = [nodes_most(NAMES_MOST), blocks_most(NAMES_MOST)];
-    let [nodes, blocks] = [nodes, blocks].map(|most| with_commas(most as usize));
-    let of_names = "at most 175k + 4 nodes and 233k + 5 blocks";
     for (page, words) in [
         (
             "README.md",
-            "one to eight names with single slashes between them".to_string(),
-        ),
-        ("README.md", of_names.to_string()),
-        (
-            "docs/C-API.md",
-            format!("From {TAKES_PATHS} on a path may have up to eight names"),
-        ),
-        (
-            "docs/C-API.md",
-            "room for 175k + 4 node numbers and 233k + 5 blocks".to_string(),
-        ),
-        (
-            "docs/C-API.md",
-            format!("Lists of {nodes} numbers (`HARPTIMBER_NODES_BYTES`) and of {blocks} "),
-        ),
-        (
-            "host/include/harptimber.h",
-            format!("Before {TAKES_PATHS} a path of several names"),
-        ),
-        (
-            "host/include/harptimber.h",
-            "at most 175k + 4 for k names".to_string(),
+            "one to eight names with single slashes between them",
         ),
         (
             "host/harptimber.1",
-            "one to eight names with single slashes between them".to_string(),
+            "one to eight names with single slashes between them",
         ),
         (
             "host/harptimber.1",
-            "or up to seven directories further down".to_string(),
+            "or up to seven directories further down",
         ),
+        ("host/include/harptimber.h", "A path is one to eight names"),
     ] {
-        expect_words(page, &words);
+        expect_words(page, words);
     }
+    let since = format!("From {TAKES_PATHS} on a path may have up to eight names");
+    expect_words("docs/C-API.md", &since);
+    let before = format!("Before {TAKES_PATHS} a path of several names");
+    expect_words("host/include/harptimber.h", &before);
+}
+
+/// What room that needs.
+#[test]
+fn rooms_of_paths() {
+    let [nodes, blocks] = [nodes_most(NAMES_MOST), blocks_most(NAMES_MOST)];
+    let [nodes, blocks] = [nodes, blocks].map(|most| with_commas(most as usize));
+    let always = format!("Lists of {nodes} numbers (`HARPTIMBER_NODES_BYTES`) and of {blocks} ");
+    let needed = "room for 175k + 4 node numbers and 233k + 5 blocks";
+    let most = "at most 175k + 4 nodes and 233k + 5 blocks";
+    expect_words("docs/C-API.md", &always);
+    expect_words("docs/C-API.md", needed);
+    expect_words("README.md", most);
+    expect_words("host/include/harptimber.h", "at most 175k + 4 for k names");
 }
 
 /// The indented lines of the README's part on C.

@@ -92,21 +92,8 @@ pub(crate) fn expect_listing_of(
     let line: Vec<&dyn Word> = [&"ls" as &dyn Word, &path].into_iter().chain(of).collect();
     let ran = run(&line).expect(status);
     assert_eq!(ran.err, "", "of {ran:?}");
-    let names = counted(expected.len(), "name");
-    let all = if problems.is_empty() {
-        ""
-    } else {
-        ", perhaps not all"
-    };
-    let told = if expected.is_empty() {
-        ""
-    } else {
-        "; size, name, and what a pull of block 0 answers"
-    };
-    let of = directory.map_or("the root directory".to_string(), |directory| {
-        format!("the directory {}", in_words(directory))
-    });
-    let mut words = format!("{}: {names} in {of}{all}{told}\n", path.display());
+    let head = head_of(directory, expected.len(), problems.is_empty());
+    let mut words = format!("{}: {head}\n", path.display());
     words.extend(expected.iter().map(Expected::line));
     words.extend(
         problems
@@ -120,14 +107,30 @@ pub(crate) fn expect_listing_of(
         Some(directory) => expect_name(&json, directory),
         None => assert!(json.get("name").is_none(), "{json:?}"),
     }
-    let names = json["names"].list();
-    assert_eq!(names.len(), expected.len(), "names in {json:?}");
-    names
-        .iter()
-        .zip(&expected)
-        .for_each(|(json, name)| name.expect(json));
+    expect_rows(&json, &expected);
     let said: Vec<&str> = json["problems"].list().iter().map(Json::text).collect();
     assert_eq!(said, problems, "in {json:?}");
+}
+
+/// The first line, behind the image.
+fn head_of(directory: Option<&[u8]>, count: usize, complete: bool) -> String {
+    let of = directory.map_or("the root directory".to_string(), |directory| {
+        format!("the directory {}", in_words(directory))
+    });
+    let all = if complete { "" } else { ", perhaps not all" };
+    let told = match count {
+        0 => "",
+        _ => "; size, name, and what a pull of block 0 answers",
+    };
+    format!("{} in {of}{all}{told}", counted(count, "name"))
+}
+
+fn expect_rows(json: &Json, expected: &[Expected]) {
+    let names = json["names"].list();
+    assert_eq!(names.len(), expected.len(), "names in {json:?}");
+    for (json, name) in names.iter().zip(expected) {
+        name.expect(json);
+    }
 }
 
 fn listed(ran: &Ran, path: &Path) -> Json {
