@@ -5,7 +5,7 @@ use harptimber_tests::cards::directory::Dentry;
 use harptimber_tests::cards::folders::Shape;
 use harptimber_tests::cards::image::Image;
 use harptimber_tests::cards::layout::footer;
-use harptimber_tests::cards::layout::inode::I_SIZE;
+use harptimber_tests::cards::layout::inode::{I_DIR_LEVEL, I_SIZE};
 use harptimber_tests::cards::layout::nat::BLOCK_ADDR;
 use harptimber_tests::cards::on_disk::OnDisk;
 use harptimber_tests::cards::random_files::{any_target, RandomFiles, Target};
@@ -171,6 +171,42 @@ fn missing() {
     let shown = in_words(&stage.path());
     let line = format!("{shown}: gone: 4,096 bytes on the kept card; {on_new}\n");
     assert!(gone.starts_with(&line), "no '{line}' in '{gone}'");
+}
+
+/// A folder that isn't read any more: the reason is its own, and it has no size that would be the file's.
+#[test]
+fn unread_folder() {
+    let stage = Stage::new(3);
+    let (path, [kept_size, new_size]) = (stage.path(), ["kept_size", "new_size"]);
+    let disk = stage.with_number(stage.folders.inode_block(1), I_DIR_LEVEL, 31);
+    let [kept, new] = [stage.disk.path(), disk.path()];
+    let why = format!(
+        "{} isn't read: its directory level is 31, over 30",
+        stage.directory(1)
+    );
+    let answer = "an inode of a kind that isn't read (answer 12)";
+    for (cards, size, other, words) in [
+        (
+            [&kept, &new],
+            kept_size,
+            new_size,
+            "no longer readable: 4,096 bytes on the kept card; on the new card",
+        ),
+        (
+            [&new, &kept],
+            new_size,
+            kept_size,
+            "readable now: 4,096 bytes on the new card; on the kept card",
+        ),
+    ] {
+        let ran = run(&[&"compare", cards[0], cards[1], &path]).expect(1);
+        let line = format!("{}: {words}: {answer}: {why}\n", in_words(&path));
+        assert!(ran.words().starts_with(&line), "no '{line}' in {ran:?}");
+        let json = run(&[&"compare", &"--json", cards[0], cards[1], &path]).expect(1);
+        let json = json.json();
+        assert_eq!(json[size].number(), 4096, "{json:?}");
+        assert!(json.get(other).is_none(), "{json:?}");
+    }
 }
 
 /// The numbers of the directories on a target's path.
