@@ -17,7 +17,8 @@ enum { PATH_ROOM = HARPTIMBER_PATH_BYTES_MOST + 1 + HARPTIMBER_NAME_BYTES_MOST +
 struct ls {
     const struct card *card;
     const char *path;  /* null for the root directory */
-    uint32_t answer;   /* 0 if there is something to list; else why not */
+    uint32_t answer;   /* the library's, */
+    bool is_found;     /* which says why there is nothing to list, if there isn't */
     bool is_directory; /* else a file: the listing has the walk to it, and no names */
     struct listing listing;
     char below[PATH_ROOM]; /* the path of a name in the directory */
@@ -209,10 +210,10 @@ static bool find(struct ls *ls)
 {
     struct walk walk = walk_begin(ls->card);
     ls->answer = ask(ls);
-    bool opens = !is_before_walk(ls->answer);
-    if (!opens || (ls->path != NULL && !walk_path(&walk, ls->path, strlen(ls->path))))
+    ls->is_found = !is_before_walk(ls->answer) &&
+                   (ls->path == NULL || walk_path(&walk, ls->path, strlen(ls->path)));
+    if (!ls->is_found)
         return true;
-    ls->answer = HARPTIMBER_DATA;
     ls->listing.walk = walk;
     const uint8_t *inode = walk_node(&walk, walk_number(&walk), walk_number(&walk), 0);
     ls->is_directory = ls->path == NULL || (inode != NULL && disk_inode_of(inode).mode >> 12 == DISK_DIRECTORY);
@@ -223,12 +224,12 @@ static enum status list_and_tell(const struct request *request, struct ls *ls)
 {
     if (!find(ls))
         return REFUSED;
-    bool settled = card_is_settled(ls->card), found = ls->answer == HARPTIMBER_DATA;
-    if (settled && found)
+    bool settled = card_is_settled(ls->card);
+    if (settled && ls->is_found)
         (request->json ? show_json : show_words)(ls);
     else if (settled)
         (request->json ? json_refusal : words_refusal)(ls);
-    bool complete = found && listing_is_complete(&ls->listing);
+    bool complete = ls->is_found && listing_is_complete(&ls->listing);
     listing_free(&ls->listing);
     return settled && complete && card_is_settled(ls->card) ? DONE : REFUSED;
 }

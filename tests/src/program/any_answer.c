@@ -29,11 +29,11 @@ struct harptimber_entry harptimber_node_lookup(const uint8_t *image, size_t imag
     return (struct harptimber_entry){.answer = answer()};
 }
 
-struct harptimber_pulled harptimber_pull(const uint8_t *image, size_t image_len, const uint8_t *name, size_t name_len,
+struct harptimber_pulled harptimber_pull(const uint8_t *image, size_t image_len, const uint8_t *path, size_t path_len,
                                          uint32_t index, uint8_t *block, size_t block_len, uint8_t *nodes, size_t nodes_len,
                                          uint8_t *blocks, size_t blocks_len)
 {
-    (void)image, (void)image_len, (void)name, (void)name_len, (void)index, (void)block, (void)block_len;
+    (void)image, (void)image_len, (void)path, (void)path_len, (void)index, (void)block, (void)block_len;
     (void)nodes, (void)nodes_len, (void)blocks, (void)blocks_len;
     return (struct harptimber_pulled){.answer = answer()};
 }

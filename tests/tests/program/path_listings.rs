@@ -12,8 +12,14 @@ use harptimber_tests::cards::layout::inode::*;
 use harptimber_tests::cards::layout::nat::BLOCK_ADDR;
 use harptimber_tests::cards::layout::Field;
 use harptimber_tests::cards::on_disk::OnDisk;
-use harptimber_tests::program::page::{expect_head, expect_name, in_words};
-use harptimber_tests::program::run;
+use harptimber_tests::cards::random::pick;
+use harptimber_tests::cards::random_files::{any_target, RandomFiles};
+use harptimber_tests::cards::random_trees::random_trees;
+use harptimber_tests::cards::walk_damage::strike_block;
+use harptimber_tests::program::card::pulled;
+use harptimber_tests::program::page::{expect_head, expect_name, in_words, meaning};
+use harptimber_tests::program::special_build::SpecialBuild;
+use harptimber_tests::program::{run, Words};
 use harptimber_tests::tools::published::{self, contents, LONGEST_INLINE};
 use harptimber_tests::trial::Random;
 
@@ -200,4 +206,61 @@ fn published() {
         let dots = format!("roads/wet/../wet/./{name}").into_bytes();
         assert_eq!(&run(&[&"cat", &image, &dots]).expect(0).out, bytes);
     }
+}
+
+/// Where the library says something that the walk doesn't come to, that is told, and no reason.
+#[test]
+fn library_against_walk() {
+    let build = SpecialBuild::with_any_answer();
+    let stage = Stage::new(2);
+    let path = stage.path();
+    for answer in [0, 1, 2, 3, 10, 12, 14] {
+        let any_answer = [("ANY_ANSWER", &*answer.to_string())];
+        let ran = build.run_with(&any_answer, &[&"ls", &stage.disk.path(), &path]);
+        let ran = ran.expect(2);
+        let line = format!(
+            "{}: {} (answer {answer})\n",
+            in_words(&path),
+            meaning("pull", answer)
+        );
+        assert_eq!(ran.words(), line);
+    }
+}
+
+/// Whatever the damage is, the listings and the compares of a path keep to the images' bytes.
+#[test]
+fn damaged_under_sanitizers() {
+    let build = SpecialBuild::sanitized();
+    let mut random = Random::new(76);
+    let mut statuses = [0; 5];
+    for _ in 0..3 {
+        let RandomFiles { mut card, targets } = random_trees(&mut random);
+        let kept = OnDisk::new(card.image.clone());
+        for _ in 0..12 {
+            let target = any_target(&targets, &mut random);
+            let on_way = pulled(&card.image, &target.name, target.index).blocks();
+            strike_block(&mut card.image, pick(&mut random, &on_way), &mut random);
+            let fresh = OnDisk::new(card.image.clone());
+            card.image.undo(0);
+            let ends = (0..target.name.len()).filter(|&at| target.name[at] == b'/');
+            for end in ends.chain([target.name.len()]) {
+                let part = &target.name[..end];
+                let ran = build.run(&[&"ls", &"--", &fresh.path(), &part]);
+                statuses[ran.status as usize] += 1;
+            }
+            let [kept, new] = [&kept, &fresh].map(OnDisk::path);
+            let line: Words = &[
+                &"compare",
+                &"--index",
+                &target.index,
+                &"--",
+                &kept,
+                &new,
+                &target.name,
+            ];
+            statuses[build.run(line).status as usize] += 1;
+        }
+    }
+    assert!(statuses[..3].iter().all(|&count| count > 5), "{statuses:?}");
+    assert_eq!(statuses[3..], [0, 0], "{statuses:?}");
 }
