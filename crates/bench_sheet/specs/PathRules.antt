@@ -61,13 +61,11 @@ pathRules =
     ∷ (List.map nodesMost (1 ∷ 2 ∷ 3 ∷ 8 ∷ []) is (179 ∷ 354 ∷ 529 ∷ 1404 ∷ []))
     ∷ (List.map blocksMost (1 ∷ 2 ∷ 3 ∷ 8 ∷ []) is (238 ∷ 471 ∷ 704 ∷ 1869 ∷ []))
     ∷ ((lent 2 4096 1416 1884 ∷ lent 2 4096 1415 1884 ∷ lent 2 4096 1416 1883 ∷ []) is (1 ∷ 0 ∷ 0 ∷ []))
-    -- one name, two and three, each sought in the directory that the one before it led to
+    -- one name, and two, each sought in the directory that the one before it led to
     ∷ (pulls 4 dot is (1 ∷ 3 ∷ 4 ∷ 4096 ∷ 4097 ∷ []))
     ∷ (pulls 5 (again 1 dot) is (1 ∷ 3 ∷ 4 ∷ 5 ∷ 4096 ∷ 4097 ∷ 4098 ∷ []))
-    ∷ (pulls 6 (again 2 dot) is (1 ∷ 3 ∷ 4 ∷ 5 ∷ 6 ∷ 4096 ∷ 4097 ∷ 4098 ∷ 4099 ∷ []))
     -- "Each name but the last must be a directory, else 12", and the last a regular file
     ∷ (pulls 4 (again 1 dot) is (12 ∷ 3 ∷ 4 ∷ 4096 ∷ 4097 ∷ []))
-    ∷ (pulls 5 (again 2 dot) is (12 ∷ 3 ∷ 4 ∷ 5 ∷ 4096 ∷ 4097 ∷ 4098 ∷ []))
     ∷ (pulls 6 (again 1 dot) is (12 ∷ 3 ∷ 4 ∷ 5 ∷ 4096 ∷ 4097 ∷ 4098 ∷ []))
     -- 2 is "no such name", of a name on the way too: here ".."
     ∷ (pulls 5 (46 ∷ 46 ∷ 47 ∷ 46 ∷ []) is (2 ∷ 3 ∷ 4096 ∷ []))
