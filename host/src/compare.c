@@ -93,8 +93,9 @@ static size_t find_ground(struct comparison *c, uint32_t index, const struct har
     struct ground ground = {.kind = verdict->kind, .number = verdict->number};
     size_t i = ground_with(c, ground.kind, ground.number);
     if (i == c->ground_count) {
-        ground.role = walk_role(c->kept, c->path, index, verdict);
-        bool is_contents = ground.role.node == 0 && (ground.role.owner.is_file || !ground.role.is_met);
+        struct role role = walk_role(c->kept, c->path, index, verdict);
+        bool is_contents = role.is_met && role.owner.is_file && role.node == 0;
+        ground.role = role;
         ground.number = ground.kind == HARPTIMBER_BLOCK_DIFFERS && is_contents ? 0 : ground.number;
         i = ground_with(c, ground.kind, ground.number);
     }

@@ -18,7 +18,7 @@ enum fate {
 /* Something that changed, which blocks rest on: the first difference of each, as the library names it. */
 struct ground {
     uint32_t kind, number; /* the number is 0 where it is the block's own data */
-    struct role role;      /* of the node or the block that differs, on the kept card */
+    struct role role;      /* of the node or the block that differs, on the kept card, if the walk meets it */
 };
 
 /* In a byte's place: the file ends before it. */

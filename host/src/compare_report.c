@@ -7,7 +7,7 @@
 #include "text.h"
 #include "words.h"
 
-/* What a node is to the pull: 'the file's inode', 'a node of the root directory'. */
+/* What a node is to the pull: 'the file's inode', 'the inode of roads', 'a node of the root directory'. */
 static void show_node_role(FILE *out, const struct role *role)
 {
     if (role->place == 0) {
@@ -63,6 +63,8 @@ void show_ground(FILE *out, const struct comparison *c, const struct run *run)
         fputs("the main area lies elsewhere", out);
     else if (ground->number == 0)
         fprintf(out, "the file's data changed%s", run->fate == DIFFERENT ? "" : ", but only behind its end");
+    else if (!ground->role.is_met)
+        fprintf(out, "the card's block %" PRIu32 " changed", ground->number);
     else
         show_block_difference(out, c, ground);
 }

@@ -28,10 +28,13 @@ void show_owner(FILE *out, const struct owner *owner)
 
 void show_owners_inode(FILE *out, const struct owner *owner)
 {
-    bool is_named = !owner->is_file && owner->len != 0; /* names may end in anything, so that none gets an 's */
-    fputs(is_named ? "the inode of " : "", out);
-    show_owner(out, owner);
-    fputs(is_named ? "" : "'s inode", out);
+    if (owner->is_file || owner->len == 0) {
+        show_owner(out, owner);
+        fputs("'s inode", out);
+    } else { /* names may end in anything, so that none gets an 's */
+        fputs("the inode of ", out);
+        show_bytes(out, owner->path, owner->len);
+    }
 }
 
 /* 'node 77 (place 1 of the file)'. */

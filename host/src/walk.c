@@ -339,12 +339,22 @@ struct stop walk_pull(const struct card *card, const char *path, size_t len, uin
     return walk.stop;
 }
 
+/* Whether all of the path leads to a directory, which stopped the walk. */
+static bool is_at_directory(const struct walk *walk)
+{
+    const struct stop *stop = &walk->stop;
+    return stop->answer == HARPTIMBER_KIND_NOT_READ && stop->owner.is_file &&
+           disk_inode_of(disk_block(walk->card, stop->address)).mode >> 12 == DISK_DIRECTORY;
+}
+
 struct role walk_role(const struct card *card, const char *path, uint32_t index,
                       const struct harptimber_compared *difference)
 {
     struct walk walk = walk_begin(card);
     walk.sought = difference;
     walk_on(&walk, path, strlen(path), index);
+    if (is_at_directory(&walk))
+        walk.role.owner.is_file = false;
     return walk.role;
 }
 

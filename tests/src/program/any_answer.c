@@ -1,14 +1,21 @@
 /*
  * Linked into a build of the program in place of the library: every call answers ANY_ANSWER, whatever it is given. A segment
- * report lists the numbers in ANY_LIST, and has ANY_VALID valid blocks, if they are there.
+ * report lists the numbers in ANY_LIST, and has ANY_VALID valid blocks, if they are there. If ANY_VERDICT is there, a compare
+ * answers that, with ANY_KIND and ANY_NUMBER.
  */
 #include <stdlib.h>
 
 #include "harptimber.h"
 
+static uint32_t number_in(const char *variable)
+{
+    const char *number = getenv(variable);
+    return number == NULL ? 0 : (uint32_t)strtoul(number, NULL, 10);
+}
+
 static uint32_t answer(void)
 {
-    return (uint32_t)strtoul(getenv("ANY_ANSWER"), NULL, 10);
+    return number_in("ANY_ANSWER");
 }
 
 struct harptimber_hashed harptimber_name_hash(const uint8_t *name, size_t name_len)
@@ -44,15 +51,17 @@ struct harptimber_compared harptimber_compare(const uint8_t *kept, size_t kept_l
 {
     (void)kept, (void)kept_len, (void)fresh, (void)fresh_len, (void)nodes, (void)nodes_len, (void)node_count;
     (void)blocks, (void)blocks_len, (void)block_count;
-    return (struct harptimber_compared){.answer = answer()};
+    return (struct harptimber_compared){.answer = getenv("ANY_VERDICT") == NULL ? answer() : number_in("ANY_VERDICT"),
+                                        .kind = number_in("ANY_KIND"),
+                                        .number = number_in("ANY_NUMBER")};
 }
 
 struct harptimber_segments harptimber_segment_report(const uint8_t *image, size_t image_len, uint8_t *list, size_t list_len)
 {
     (void)image, (void)image_len, (void)list_len;
     struct harptimber_segments segments = {.answer = answer()};
-    const char *valid = getenv("ANY_VALID"), *rest = getenv("ANY_LIST");
-    segments.valid_blocks = valid == NULL ? 0 : (uint32_t)strtoul(valid, NULL, 10);
+    segments.valid_blocks = number_in("ANY_VALID");
+    const char *rest = getenv("ANY_LIST");
     while (rest != NULL && *rest != '\0') {
         char *behind;
         unsigned long number = strtoul(rest, &behind, 10);

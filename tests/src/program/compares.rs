@@ -41,8 +41,8 @@ pub(crate) struct Run {
 /// A directory on the kept image.
 struct Directory {
     ino: u32,
-    /// In words.
-    name: String,
+    /// The path that leads there, in words; empty for the root.
+    path: String,
     /// Its blocks that a pull past the end reads, nodes or not, beside those of the directories before it.
     blocks: Vec<u32>,
 }
@@ -52,12 +52,23 @@ impl Directory {
     fn of(kept: &Image, path: &[u8], names: usize, ino: u32) -> Directory {
         let part = |names: usize| path.split(|&byte| byte == b'/').take(names);
         let part = |names: usize| part(names).collect::<Vec<_>>().join(&b'/');
-        let name = match names {
-            0 => "the root directory".to_string(),
-            _ => format!("the directory {}", in_words(&part(names))),
-        };
         let blocks = pulled(kept, &part(names + 1), u32::MAX).blocks();
-        Directory { ino, name, blocks }
+        let path = in_words(&part(names));
+        Directory { ino, path, blocks }
+    }
+
+    fn in_words(&self) -> String {
+        match &*self.path {
+            "" => "the root directory".to_string(),
+            path => format!("the directory {path}"),
+        }
+    }
+
+    fn inode_in_words(&self) -> String {
+        match &*self.path {
+            "" => "the root directory's inode".to_string(),
+            path => format!("the inode of {path}"),
+        }
     }
 }
 
@@ -248,7 +259,9 @@ impl Expected<'_> {
                 let of_card = |node| format!(" changed in {node}{place}");
                 let content = self.content(number).map(|content| match content {
                     Content::Node(nid) => of_card(format!("{} (node {nid}", self.owner(nid))),
-                    Content::Entries(of) => format!(" in {} (the card's block {number})", of.name),
+                    Content::Entries(of) => {
+                        format!(" in {} (the card's block {number})", of.in_words())
+                    }
                 });
                 vec![content.unwrap_or("the file's data changed".to_string())]
             }
@@ -279,14 +292,8 @@ impl Expected<'_> {
         match (directories.find(|directory| directory.ino == of), of == nid) {
             (None, true) => "the file's inode".to_string(),
             (None, false) => "a node of the file".to_string(),
-            (
-                Some(Directory {
-                    ino: ROOT, name, ..
-                }),
-                true,
-            ) => format!("{name}'s inode"),
-            (Some(Directory { name, .. }), true) => format!("the inode of {name}"),
-            (Some(Directory { name, .. }), false) => format!("a node of {name}"),
+            (Some(directory), true) => directory.inode_in_words(),
+            (Some(directory), false) => format!("a node of {}", directory.in_words()),
         }
     }
 

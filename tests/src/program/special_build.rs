@@ -30,7 +30,7 @@ impl SpecialBuild {
         })
     }
 
-    /// With a library whose calls all answer the number in ANY_ANSWER.
+    /// With a library whose calls all answer the number in ANY_ANSWER, and what else any_answer.c says.
     pub fn with_any_answer() -> Arc<SpecialBuild> {
         static BUILT: Shared<SpecialBuild> = Shared::empty();
         BUILT.get(|| SpecialBuild::of("any_answer.c", None, |_| ()))

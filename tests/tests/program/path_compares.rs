@@ -1,6 +1,6 @@
 //! `harptimber compare` of files in folders: what changed on the way is named by its directory.
 
-use harptimber_tests::cards::card::{Card, Passage, ROOT};
+use harptimber_tests::cards::card::{Card, Node, Passage, ROOT};
 use harptimber_tests::cards::directory::Dentry;
 use harptimber_tests::cards::folders::Shape;
 use harptimber_tests::cards::image::Image;
@@ -12,11 +12,22 @@ use harptimber_tests::cards::random_files::{any_target, RandomFiles, Target};
 use harptimber_tests::cards::random_trees::random_trees;
 use harptimber_tests::program::card::pulled;
 use harptimber_tests::program::compares::Expected;
+use harptimber_tests::program::json::Json;
 use harptimber_tests::program::page::{expect_head, expect_name, in_words};
+use harptimber_tests::program::special_build::SpecialBuild;
 use harptimber_tests::program::{run, Words};
 use harptimber_tests::trial::Random;
 
 use crate::paths::{name_in, Stage, EIGHT};
+
+/// What is said to have changed, with what stands before it in words: of block 0, or of a refusal.
+fn told(json: &Json) -> (String, &'static str) {
+    let (changed, start) = match json["runs"].list().first() {
+        Some(run) => (run, "  block 0: "),
+        None => (&json["end"], "  "),
+    };
+    (changed["difference"].text().to_string(), start)
+}
 
 /// What a compare of a path says that changed, in words and as JSON.
 fn difference(stage: &Stage, fresh: &OnDisk, path: &[u8]) -> String {
@@ -25,9 +36,9 @@ fn difference(stage: &Stage, fresh: &OnDisk, path: &[u8]) -> String {
     let json = json.json();
     expect_head(&json, "compare", 16);
     expect_name(&json, path);
-    let difference = json["runs"].list()[0]["difference"].text().to_string();
+    let (difference, start) = told(&json);
     let ran = run(&[&"compare", &kept, &new, &path]).expect(1);
-    let line = format!("  block 0: {difference}\n");
+    let line = format!("\n{start}{difference}\n");
     assert!(ran.words().ends_with(&line), "no '{line}' in {ran:?}");
     difference
 }
@@ -48,17 +59,64 @@ fn nodes() {
             0 => stage.inode(nth),
             _ => format!("a node of {}", stage.directory(nth)),
         };
-        let said = difference(&stage, &marked(&stage, node.block), &path);
-        let place = format!("(node {}, the card's block {})", node.nid, node.block);
-        let end = format!(" changed in {whose} {place}");
-        assert!(said.starts_with("place and marks ("), "{said}");
-        assert!(said.ends_with(&end), "no '{end}' in '{said}'");
-        let (table, at) = stage.folders.card.entry_place(node.nid);
-        let moved = u64::from(stage.folders.data);
-        let fresh = stage.with_number(table, BLOCK_ADDR.moved(at), moved);
-        let start = format!("node {} ({whose}) has another table entry: ", node.nid);
-        let said = difference(&stage, &fresh, &path);
-        assert!(said.starts_with(&start), "no '{start}' in '{said}'");
+        expect_node(&stage, &path, node, &whose);
+    }
+}
+
+/// A node's mark, and where it is.
+fn expect_node(stage: &Stage, path: &[u8], node: Node, whose: &str) {
+    let said = difference(stage, &marked(stage, node.block), path);
+    let place = format!("(node {}, the card's block {})", node.nid, node.block);
+    let end = format!(" changed in {whose} {place}");
+    assert!(said.starts_with("place and marks ("), "{said}");
+    assert!(said.ends_with(&end), "no '{end}' in '{said}'");
+    let (table, at) = stage.folders.card.entry_place(node.nid);
+    let moved = u64::from(stage.folders.data);
+    let fresh = stage.with_number(table, BLOCK_ADDR.moved(at), moved);
+    let start = format!("node {} ({whose}) has another table entry: ", node.nid);
+    let said = difference(stage, &fresh, path);
+    assert!(said.starts_with(&start), "no '{start}' in '{said}'");
+}
+
+/// A file on the way isn't called a directory, nor a directory at the path's end a file.
+#[test]
+fn other_kinds() {
+    let stage = Stage::new(3);
+    let below = [&stage.path()[..], b"x"].join(&b'/');
+    let inodes = stage.folders.inodes();
+    for (path, names) in [
+        (stage.folders.path_of(1), 1),
+        (stage.folders.path_of(2), 2),
+        (below, 3),
+    ] {
+        let nid = inodes[names];
+        let block = stage.folders.card.inode_block(nid);
+        expect_node(&stage, &path, Node { nid, block }, &stage.inode(names));
+    }
+}
+
+/// Where the program's walk doesn't come to a block that the library says differs, nothing is said of what it is.
+#[test]
+fn library_against_walk() {
+    let build = SpecialBuild::with_any_answer();
+    let stage = Stage::new(2);
+    let (path, fresh) = (stage.path(), stage.changed(|_| ()));
+    let [kept, new] = [&stage.disk, &fresh].map(OnDisk::path);
+    for answer in ["0", "1", "10"] {
+        let variables = [
+            ("ANY_ANSWER", answer),
+            ("ANY_VERDICT", "16"),
+            ("ANY_KIND", "3"),
+            ("ANY_NUMBER", "77"),
+        ];
+        let line: Words = &[&"compare", &"--json", &"--index=0", &kept, &new, &path];
+        let ran = build.run_with(&variables, line).expect(1);
+        let (difference, start) = told(&ran.json());
+        assert_eq!(difference, "the card's block 77 changed");
+        let line: Words = &[&"compare", &"--index=0", &kept, &new, &path];
+        let ran = build.run_with(&variables, line).expect(1);
+        let line = format!("\n{start}{difference}\n");
+        assert!(ran.words().ends_with(&line), "no '{line}' in {ran:?}");
     }
 }
 

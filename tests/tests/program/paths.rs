@@ -80,10 +80,11 @@ impl Stage {
         }
     }
 
+    /// The inode that so many names lead to, in words. What it is isn't said.
     pub fn inode(&self, nth: usize) -> String {
         match nth {
             0 => "the root directory's inode".to_string(),
-            _ => format!("the inode of {}", self.directory(nth)),
+            _ => format!("the inode of {}", in_words(&self.folders.path_of(nth))),
         }
     }
 
