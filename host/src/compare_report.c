@@ -358,9 +358,10 @@ static void words_not_both(const struct comparison *c)
 static void words_refusal(const struct comparison *c)
 {
     const struct card *card = c->side == HARPTIMBER_FRESH ? c->new : c->kept;
+    struct asked asked = pull_of(card, c->path, 0);
     show(stdout, c->side == NO_SIDE ? c->path : card->path);
     printf(": ");
-    show_answer(stdout, c->refusal, harptimber_answer_words(c->refusal), card, c->path);
+    show_asked(stdout, c->refusal, harptimber_answer_words(c->refusal), &asked);
     printf("\n");
 }
 

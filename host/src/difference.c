@@ -208,17 +208,12 @@ void show_node_fields(FILE *out, const uint8_t *before, const uint8_t *now)
         show_name(&v, "other bytes");
 }
 
-enum { MOST_NAME_BYTES = 255 };
-
 static void show_entry_name(FILE *out, const struct dentry *entry)
 {
-    char name[MOST_NAME_BYTES + 1] = "";
-    if (entry->name == NULL) {
+    if (entry->name == NULL)
         fprintf(out, "a malformed one in slot %" PRIu32, entry->slot);
-        return;
-    }
-    memcpy(name, entry->name, entry->len);
-    show_bytes(out, name, entry->len);
+    else
+        show_bytes(out, (const char *)entry->name, entry->len);
 }
 
 /* An entry that is in both versions: where it leads, or its name. */

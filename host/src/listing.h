@@ -5,7 +5,7 @@
 #include "walk.h"
 
 struct listed {
-    char name[256]; /* with zero bytes behind it, and perhaps in it */
+    char name[HARPTIMBER_NAME_BYTES_MOST + 1]; /* with zero bytes behind it, and perhaps in it */
     uint32_t len, inode;
 };
 

@@ -64,8 +64,7 @@ static struct row row_at(struct ls *ls, size_t i)
 /* A damaged directory may have names with a slash, by which a pull would take another way. */
 static bool is_no_name(const struct ls *ls, const struct row *row)
 {
-    return ls->is_directory &&
-           harptimber_name_hash((const uint8_t *)row->name, row->len).answer == HARPTIMBER_OUT_OF_SHAPE;
+    return ls->is_directory && !is_name(row->name, row->len);
 }
 
 static struct told tell_of(struct ls *ls, const struct row *row)
@@ -77,7 +76,7 @@ static struct told tell_of(struct ls *ls, const struct row *row)
     told.inode = walk_node(&ls->listing.walk, row->inode, row->inode, 0);
     if (is_no_name(ls, row)) {
         told.answer = HARPTIMBER_OUT_OF_SHAPE;
-        told.asked = (struct asked){.name = row->name, .len = row->len};
+        told.asked = (struct asked){.path = row->name, .len = row->len};
         return told;
     }
     told.answer = harptimber_pull(card->bytes, card->len, (const uint8_t *)row->path, row->path_len, 0, block,
@@ -215,9 +214,9 @@ static bool find(struct ls *ls)
     if (!ls->is_found)
         return true;
     ls->listing.walk = walk;
-    const uint8_t *inode = walk_node(&walk, walk_number(&walk), walk_number(&walk), 0);
+    const uint8_t *inode = walk_node(&ls->listing.walk, walk_number(&walk), walk_number(&walk), 0);
     ls->is_directory = ls->path == NULL || (inode != NULL && disk_inode_of(inode).mode >> 12 == DISK_DIRECTORY);
-    return !ls->is_directory || listing_read(&ls->listing, &ls->listing.walk);
+    return !ls->is_directory || listing_read(&ls->listing, &walk);
 }
 
 static enum status list_and_tell(const struct request *request, struct ls *ls)

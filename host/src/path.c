@@ -1,6 +1,5 @@
 #include "path.h"
 
-#include <stdbool.h>
 #include <string.h>
 
 #include "harptimber.h"
@@ -22,21 +21,25 @@ static bool has_byte(const char *name, size_t len, char byte)
     return memchr(name, byte, len) != NULL;
 }
 
-static bool is_name(const char *name, size_t len)
+bool is_name(const char *name, size_t len)
 {
-    return len >= 1 && len <= HARPTIMBER_NAME_BYTES_MOST && !has_byte(name, len, '/') && !has_byte(name, len, '\0');
+    return harptimber_name_hash((const uint8_t *)name, len).answer != HARPTIMBER_OUT_OF_SHAPE;
 }
 
-/* What is wrong with a name, behind what it is called. */
+static void show_too_many(FILE *out, size_t count, const char *unit, int most)
+{
+    fputs(" has ", out);
+    show_count(out, count, unit);
+    fprintf(out, "; at most %d are possible", most);
+}
+
+/* What is wrong with what is no name, behind what it is called. */
 static void show_fault_of(FILE *out, const char *name, size_t len)
 {
-    if (len > HARPTIMBER_NAME_BYTES_MOST) {
-        fputs(" has ", out);
-        show_count(out, len, "byte");
-        fputs("; at most 255 are possible", out);
-    } else {
+    if (len > HARPTIMBER_NAME_BYTES_MOST)
+        show_too_many(out, len, "byte", HARPTIMBER_NAME_BYTES_MOST);
+    else
         fputs(len == 0 ? " is empty" : has_byte(name, len, '/') ? " has a slash" : " has a zero byte", out);
-    }
 }
 
 void show_name_fault(FILE *out, const char *name, size_t len)
@@ -62,7 +65,7 @@ static void show_bad_name(FILE *out, const char *path, size_t len)
     show_fault_of(out, path + at, end - at);
 }
 
-/* The slash that a path has too much, in words; null if it has none. */
+/* Which slash is one too many, in words; null if none is. */
 static const char *bad_slash(const char *path, size_t len)
 {
     if (path[0] == '/')
@@ -92,9 +95,8 @@ void show_path_fault(FILE *out, const char *path, size_t len)
     } else if (slash != NULL) {
         fprintf(out, "the path %s", slash);
     } else if (names > HARPTIMBER_NAMES_MOST) {
-        fputs("the path has ", out);
-        show_count(out, names, "name");
-        fprintf(out, "; at most %d are possible", HARPTIMBER_NAMES_MOST);
+        fputs("the path", out);
+        show_too_many(out, names, "name", HARPTIMBER_NAMES_MOST);
     } else {
         (names == 1 ? show_name_fault : show_bad_name)(out, path, len);
     }

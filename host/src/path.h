@@ -2,6 +2,7 @@
 #ifndef PATH_H
 #define PATH_H
 
+#include <stdbool.h>
 #include <stddef.h>
 #include <stdio.h>
 
@@ -10,6 +11,9 @@ size_t path_next(size_t len);
 
 /* Where the name ends that starts at `at`. */
 size_t path_name_end(const char *path, size_t len, size_t at);
+
+/* Whether the library takes it for a single name. */
+bool is_name(const char *name, size_t len);
 
 /* Prints why a path is out of shape; nothing if it is in shape. */
 void show_path_fault(FILE *out, const char *path, size_t len);

@@ -11,7 +11,7 @@ static const uint32_t NO_ANSWER = UINT32_MAX;
 /* A bucket has 4 blocks from hash level 31 on, but no directory has a block as far as that. */
 enum { BUCKET_BLOCKS = 2 };
 
-enum { SLOT_BYTES = 8, ENTRY_BYTES = 11, MOST_NAME_BYTES = 255 };
+enum { SLOT_BYTES = 8, ENTRY_BYTES = 11 };
 
 struct walk walk_begin(const struct card *card)
 {
@@ -173,7 +173,7 @@ bool dentry_from(const struct dentries *dentries, uint32_t slot, struct dentry *
         return false;
     const uint8_t *entry = dentries->bytes + dentries->entries_at + (size_t)ENTRY_BYTES * slot;
     *dentry = (struct dentry){.slot = slot, .hash = disk32(entry), .inode = disk32(entry + 4), .len = disk16(entry + 8)};
-    if (dentry->len >= 1 && dentry->len <= MOST_NAME_BYTES && slots_of(dentry->len) <= dentries->slots - slot)
+    if (dentry->len >= 1 && dentry->len <= HARPTIMBER_NAME_BYTES_MOST && slots_of(dentry->len) <= dentries->slots - slot)
         dentry->name = dentries->bytes + dentries->names_at + (size_t)SLOT_BYTES * slot;
     return true;
 }

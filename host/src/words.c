@@ -96,16 +96,16 @@ static bool show_disk(FILE *out, const struct card *card)
     return true;
 }
 
-/* Why a call is out of shape. With neither card nor name it is place's, which has nothing else to refuse. */
+/* Why a call is out of shape. With neither card nor path it is place's, which has nothing else to refuse. */
 static void show_out_of_shape(FILE *out, const struct asked *asked)
 {
     if (asked->card != NULL && !length_is_in_shape(asked->card)) {
         show_bad_length(out, asked->card);
         show_disk(out, asked->card);
-    } else if (asked->name == NULL) {
+    } else if (asked->path == NULL) {
         fputs(asked->card == NULL ? "A has to be 873 or 923" : "", out);
     } else {
-        (asked->card == NULL ? show_name_fault : show_path_fault)(out, asked->name, asked->len);
+        (asked->card == NULL ? show_name_fault : show_path_fault)(out, asked->path, asked->len);
     }
 }
 
@@ -141,7 +141,7 @@ static void show_unopened(FILE *out, const struct card *card, uint32_t answer)
 /* A walk that stops elsewhere than the library found no reason. */
 static void show_pull_reason(FILE *out, uint32_t answer, const struct asked *asked)
 {
-    struct stop stop = walk_pull(asked->card, asked->name, asked->len, asked->index);
+    struct stop stop = walk_pull(asked->card, asked->path, asked->len, asked->index);
     if (stop.answer == answer)
         show_stop(out, &stop, asked->card);
 }
@@ -158,13 +158,13 @@ static void show_reason(FILE *out, uint32_t answer, const struct asked *asked)
 
 struct asked pull_of(const struct card *card, const char *path, uint32_t index)
 {
-    return (struct asked){.card = card, .name = path, .len = strlen(path), .is_pull = true, .index = index};
+    return (struct asked){.card = card, .path = path, .len = strlen(path), .is_pull = true, .index = index};
 }
 
 /* A call that is no pull. */
 static struct asked call_of(const struct card *card, const char *name)
 {
-    return (struct asked){.card = card, .name = name, .len = name == NULL ? 0 : strlen(name)};
+    return (struct asked){.card = card, .path = name, .len = name == NULL ? 0 : strlen(name)};
 }
 
 static char *reason_of_asked(uint32_t answer, const struct asked *asked)

@@ -17,7 +17,7 @@ const char *card_meaning_of(uint32_t answer);
 /* A call of the library, as far as its words need it. */
 struct asked {
     const struct card *card; /* null if the call takes none */
-    const char *name;        /* a pull's path, or the name to hash; null if the call takes neither */
+    const char *path;        /* a pull's, or the one name to hash; null if the call takes neither */
     size_t len;              /* its bytes */
     bool is_pull;
     uint32_t index;
