@@ -34,8 +34,9 @@ const struct command commands[] = {
      "a directory's names, and what a pull of block 0 answers",
      "List the names in the directory PATH of the card IMAGE, without PATH in the root directory: each\n"
      "file's size in bytes, its name, and what a pull of its block 0 answers. That is 3 for an empty file,\n"
-     "and 12 for a directory or a link. '.' and '..' are left out. A PATH that is no directory is listed\n"
-     "alone.\n",
+     "and 12 for a directory or a link. '.' is left out where it leads to the directory itself, and '..'\n"
+     "where it leads to the one before it on the path, or in the root directory to itself. A PATH that is\n"
+     "no directory is listed alone.\n",
      "  0  all names\n"
      "  2  names may be missing, since the directory is damaged, or there is no such PATH, or the card\n"
      "     can't be read\n",

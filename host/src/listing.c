@@ -74,13 +74,21 @@ static bool add_name(struct listing *listing, const struct dentry *dentry)
     return true;
 }
 
-/* A directory's entries for itself, and for the one that it is in and that is on the path too. */
-static bool is_dots(const struct walk *walk, const struct dentry *dentry)
+/* The directory before this one, where the path first comes to it; the root's is itself. */
+static uint32_t parent_of(const struct walk *walk)
 {
     uint32_t i = 0;
-    while (i < walk->names && walk->inodes[i] != dentry->inode)
+    while (walk->inodes[i] != walk_number(walk))
         i++;
-    return walk->inodes[i] == dentry->inode && dentry->len <= 2 && memcmp(dentry->name, "..", dentry->len) == 0;
+    return walk->inodes[i == 0 ? 0 : i - 1];
+}
+
+/* A directory's entries for itself and for the one that it is in. */
+static bool is_dots(const struct walk *walk, const struct dentry *dentry)
+{
+    if (dentry->len > 2 || memcmp(dentry->name, "..", dentry->len) != 0)
+        return false;
+    return dentry->inode == (dentry->len == 1 ? walk_number(walk) : parent_of(walk));
 }
 
 /* The entries up to the first one that is malformed, which hides the others. */

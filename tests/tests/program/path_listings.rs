@@ -7,6 +7,7 @@ use std::process::Command;
 use harptimber_tests::cards::card::ROOT;
 use harptimber_tests::cards::directory::Dentry;
 use harptimber_tests::cards::folders::Shape;
+use harptimber_tests::cards::image::Image;
 use harptimber_tests::cards::layout::dentry::NAME_LEN;
 use harptimber_tests::cards::layout::inode::*;
 use harptimber_tests::cards::layout::nat::BLOCK_ADDR;
@@ -106,35 +107,68 @@ fn too_deep() {
     expect_unlisted(&disk, &below, 4, deep);
 }
 
-/// Dots are left out where they lead to a directory on the path, and no elsewhere.
+/// A directory in a directory in the root, with a file.
+fn three() -> Stage {
+    let shapes = [Shape::PLAIN, Shape::INLINE, Shape::PLAIN];
+    Stage::with(&shapes.map(|shape| (shape, name_in(shape, 1))))
+}
+
+/// Dots in one of these directories that lead to these inodes.
+fn put_dots(image: &mut Image, stage: &Stage, nth: usize, own: u32, parent: u32) {
+    let slots = stage.folders.folders[nth].linked.of();
+    image.put_dentry(slots, 100, &Dentry::new(b".", own));
+    image.put_dentry(slots, 102, &Dentry::new(b"..", parent));
+}
+
+/// A dot is left out where it leads to the directory itself, two where they lead to the one before it. All others are listed.
 #[test]
 fn dots() {
-    let shapes = [Shape::PLAIN, Shape::INLINE, Shape::PLAIN];
-    let stage = Stage::with(&shapes.map(|shape| (shape, name_in(shape, 1))));
-    let [_, middle, last] = [0, 1, 2].map(|nth| stage.folders.folders[nth].ino);
-    let name = stage.folders.folders[2].name.clone();
-    let file = || Expected::new(&name, 4096, 0, "");
-    let slots = stage.folders.folders[2].linked.of();
-    let part = stage.folders.path_of(2);
-    for (own, parent, listed) in [
-        (last, middle, vec![file()]),
-        (last, last, vec![file()]),
-        (middle, ROOT, vec![file()]),
-        (
-            stage.folders.ino,
-            stage.folders.ino,
-            vec![
-                file(),
-                Expected::new(b".", 4096, 0, ""),
-                Expected::new(b"..", 4096, 0, ""),
-            ],
-        ),
+    let stage = three();
+    let inodes = stage.folders.inodes();
+    let size = |ino| {
+        let inode = stage.folders.card.inode_block(ino);
+        stage.disk.image.get(inode, I_SIZE)
+    };
+    let row = |name: &[u8], ino| match ino == stage.folders.ino {
+        true => Expected::new(name, size(ino), 0, ""),
+        false => folder(name, size(ino)),
+    };
+    for nth in 0..3 {
+        let part = stage.folders.path_of(nth);
+        let (itself, before) = (inodes[nth], inodes[nth.saturating_sub(1)]);
+        for (&own, &parent) in inodes
+            .iter()
+            .flat_map(|own| inodes.iter().map(move |parent| (own, parent)))
+        {
+            let mut listed = vec![row(&stage.folders.folders[nth].name, inodes[nth + 1])];
+            listed.extend((own != itself).then(|| row(b".", own)));
+            listed.extend((parent != before).then(|| row(b"..", parent)));
+            let disk = stage.changed(|image| put_dots(image, &stage, nth, own, parent));
+            expect_listing_of(&disk.path(), (nth > 0).then_some(&part[..]), listed, &[]);
+        }
+    }
+}
+
+/// Behind dots too, those of a directory are left out.
+#[test]
+fn behind_dots() {
+    let stage = three();
+    let inodes = stage.folders.inodes();
+    let [first, second] = [0, 1].map(|nth| &stage.folders.folders[nth].name[..]);
+    let size = stage.disk.image.get(stage.folders.inode_block(2), I_SIZE);
+    let disk = stage.changed(|image| {
+        put_dots(image, &stage, 1, inodes[1], inodes[0]);
+        put_dots(image, &stage, 2, inodes[2], inodes[1]);
+    });
+    for path in [
+        vec![first, b"."],
+        vec![first, b".", b"."],
+        vec![first, b"..", first],
+        vec![first, second, b".."],
+        vec![first, second, b"..", b"."],
     ] {
-        let disk = stage.changed(|image| {
-            image.put_dentry(slots, 100, &Dentry::new(b".", own));
-            image.put_dentry(slots, 102, &Dentry::new(b"..", parent));
-        });
-        expect_listing_of(&disk.path(), Some(&part), listed, &[]);
+        let listed = vec![folder(second, size)];
+        expect_listing_of(&disk.path(), Some(&path.join(&b'/')), listed, &[]);
     }
 }
 
