@@ -220,8 +220,8 @@ pub fn shared_card() -> Arc<ProgramCard> {
 }
 
 /// A pull by the reference.
-pub fn pulled(image: &Image, name: &[u8], index: u32) -> Outcome {
-    let call = Call::new(image, name, index);
+pub fn pulled(image: &Image, path: &[u8], index: u32) -> Outcome {
+    let call = Call::new(image, path, index);
     Outcome::of(reference_pull, &call, call.least())
 }
 

@@ -99,17 +99,17 @@ impl<'a> Expected<'a> {
     /// Of a path through directories with these numbers on the kept image, the root first.
     pub fn along(
         cards: [&'a Image; 2],
-        name: &[u8],
+        path: &[u8],
         directories: &[u32],
         index: Option<u32>,
     ) -> Expected<'a> {
         let numbered = directories.iter().enumerate();
         let mut expected = Expected {
             cards,
-            there: cards.map(|card| pulled(card, name, u32::MAX).pulled.answer),
-            sizes: cards.map(|card| size(card, name, directories)),
+            there: cards.map(|card| pulled(card, path, u32::MAX).pulled.answer),
+            sizes: cards.map(|card| size(card, path, directories)),
             directories: numbered
-                .map(|(names, &ino)| Directory::of(cards[0], name, names, ino))
+                .map(|(names, &ino)| Directory::of(cards[0], path, names, ino))
                 .collect(),
             index,
             answer: 15,
@@ -118,8 +118,8 @@ impl<'a> Expected<'a> {
             end: None,
         };
         for index in index.map_or(0..=u32::MAX, |index| index..=index) {
-            let kept = pulled(cards[0], name, index);
-            let run = expected.run(name, index, &kept);
+            let kept = pulled(cards[0], path, index);
+            let run = expected.run(path, index, &kept);
             if kept.pulled.answer > 1 {
                 expected.end = Some((kept.pulled.answer, run));
                 break;
@@ -130,9 +130,9 @@ impl<'a> Expected<'a> {
         expected
     }
 
-    fn run(&self, name: &[u8], index: u32, kept: &Outcome) -> Run {
+    fn run(&self, path: &[u8], index: u32, kept: &Outcome) -> Run {
         let compared = compared(self.cards, kept);
-        let new = pulled(self.cards[1], name, index);
+        let new = pulled(self.cards[1], path, index);
         let blocks = [block(kept), block(&new)];
         let fate = match compared.answer {
             15 => Fate::Same,
@@ -171,7 +171,7 @@ impl<'a> Expected<'a> {
         }
     }
 
-    /// A name on neither image comes first; a whole file ends with the first block past the end, which is no refusal.
+    /// A path on neither image comes first; a whole file ends with the first block past the end, which is no refusal.
     fn judge(&mut self) {
         let refused = self.end.as_ref().map(|(kept, _)| *kept);
         let refused = refused.filter(|&kept| self.index.is_some() || kept != 3);
@@ -213,8 +213,8 @@ impl<'a> Expected<'a> {
 }
 
 /// A file's size, by its inode, the only one that is looked up beside the directories'; none if it isn't there.
-fn size(image: &Image, name: &[u8], directories: &[u32]) -> Option<u64> {
-    let outcome = pulled(image, name, u32::MAX);
+fn size(image: &Image, path: &[u8], directories: &[u32]) -> Option<u64> {
+    let outcome = pulled(image, path, u32::MAX);
     let nodes = outcome.nodes().into_iter();
     let nodes = nodes.filter(|nid| !directories.contains(nid));
     let blocks = nodes.map(|nid| node_lookup(image.bytes(), nid).expect("an entry").1);
@@ -320,7 +320,7 @@ enum Content<'a> {
 
 /// As JSON.
 impl Expected<'_> {
-    /// The object of a single name, or one in the list of several.
+    /// The object of a single path, or one in the list of several.
     pub fn expect_json(&self, json: &Json) {
         let counts = ["same", "changed", "same_bytes", "differ"].map(|key| json[key].number());
         let [same, same_bytes, differ] =

@@ -309,9 +309,9 @@ fn random() {
 fn expect_compared(cards: [&OnDisk; 2], target: &Target, directories: &[u32]) -> i32 {
     let images = cards.map(|card| &card.image);
     let [kept, new] = cards.map(OnDisk::path);
-    let name = &target.name;
+    let path = &target.name;
     let index = Some(target.index);
-    let expected = Expected::along(images, name, directories, index);
+    let expected = Expected::along(images, path, directories, index);
     let line: Words = &[
         &"compare",
         &"--index",
@@ -319,13 +319,13 @@ fn expect_compared(cards: [&OnDisk; 2], target: &Target, directories: &[u32]) ->
         &"--",
         &kept,
         &new,
-        name,
+        path,
     ];
     expected.expect_words(run(line).expect(expected.status).words(), true);
     let status = expected.status;
-    if is_short(images, name) {
-        let expected = Expected::along(images, name, directories, None);
-        let line: Words = &[&"compare", &"--json", &"--", &kept, &new, name];
+    if is_short(images, path) {
+        let expected = Expected::along(images, path, directories, None);
+        let line: Words = &[&"compare", &"--json", &"--", &kept, &new, path];
         let json = run(line).expect(expected.status).json();
         expect_head(&json, "compare", expected.answer);
         expected.expect_json(&json);

@@ -132,7 +132,7 @@ fn first_answer_that_applies() {
     pulls.finish(3 * (8 * 15 + 36 * 10), &every_answer);
 }
 
-/// Each fault by itself, and with each that comes later.
+/// Each fault by itself, and with one that comes later.
 #[test]
 fn faults_of_each_folder() {
     let mut pulls = Pulls::new("pull with one fault or two");
@@ -145,7 +145,10 @@ fn faults_of_each_folder() {
             image.set(block, field, value);
             pulls.expect(image, &path, INDEX, answer);
             image.undo(0);
-            let later = &stops[nth..];
+            let later = &stops[nth + 1..];
+            if later.is_empty() {
+                continue;
+            }
             let (_, other, other_field, other_value) = pick(&mut pulls.trial.random, later);
             image.set(other, other_field, other_value);
             image.set(block, field, value);
