@@ -1,6 +1,6 @@
 //! `harptimber compare` of files in folders: what changed on the way is named by its directory.
 
-use harptimber_tests::cards::card::{Card, Node, Passage, ROOT};
+use harptimber_tests::cards::card::{Node, Passage, ROOT};
 use harptimber_tests::cards::directory::Dentry;
 use harptimber_tests::cards::folders::Shape;
 use harptimber_tests::cards::image::Image;
@@ -8,6 +8,7 @@ use harptimber_tests::cards::layout::footer;
 use harptimber_tests::cards::layout::inode::{I_DIR_LEVEL, I_SIZE};
 use harptimber_tests::cards::layout::nat::BLOCK_ADDR;
 use harptimber_tests::cards::on_disk::OnDisk;
+use harptimber_tests::cards::random::pick;
 use harptimber_tests::cards::random_files::{any_target, RandomFiles, Target};
 use harptimber_tests::cards::random_trees::random_trees;
 use harptimber_tests::program::card::pulled;
@@ -15,7 +16,7 @@ use harptimber_tests::program::compares::Expected;
 use harptimber_tests::program::json::Json;
 use harptimber_tests::program::page::{expect_head, expect_name, in_words};
 use harptimber_tests::program::special_build::SpecialBuild;
-use harptimber_tests::program::{run, Words};
+use harptimber_tests::program::{run, Ran, Words};
 use harptimber_tests::trial::Random;
 
 use crate::paths::{name_in, Stage, EIGHT};
@@ -268,9 +269,9 @@ fn unread_folder() {
 }
 
 /// The numbers of the directories on a target's path.
-fn directories(card: &Card, target: &Target) -> Vec<u32> {
+fn directories(image: &Image, target: &Target) -> Vec<u32> {
     let inodes = &target.inodes[..target.inodes.len() - 1];
-    let number = |&block: &u32| card.image.get(block, footer::NID) as u32;
+    let number = |&block: &u32| image.get(block, footer::NID) as u32;
     inodes.iter().map(number).collect()
 }
 
@@ -280,51 +281,72 @@ fn is_short(cards: [&Image; 2], path: &[u8]) -> bool {
     cards.into_iter().all(is_past)
 }
 
-/// Random folders, of which a block on the way to a file is changed somewhere.
-#[test]
-fn random() {
-    let mut random = Random::new(74);
-    let mut statuses = [0; 5];
-    for _ in 0..6 {
+/// Cards of random folders, on each of which a block on the way to a file is changed twelve times.
+pub(crate) fn with_changes(
+    seed: u64,
+    cards: usize,
+    change: impl Fn(&mut Image, u32, &mut Random),
+    mut test: impl FnMut([&OnDisk; 2], &Target),
+) {
+    let mut random = Random::new(seed);
+    for _ in 0..cards {
         let RandomFiles { mut card, targets } = random_trees(&mut random);
         let kept = OnDisk::new(card.image.clone());
         for _ in 0..12 {
             let target = any_target(&targets, &mut random);
             let on_way = pulled(&card.image, &target.name, target.index).blocks();
-            let block = on_way[random.below(on_way.len() as u64) as usize];
-            let at = [100, 500, 3000, 4090][random.below(4) as usize];
-            let old = card.image.block(block)[at];
-            card.image.put("byte", block, at, &[old ^ 1]);
-            let fresh = OnDisk::new(card.image.clone());
-            statuses
-                [expect_compared([&kept, &fresh], target, &directories(&card, target)) as usize] +=
-                1;
+            let block = pick(&mut random, &on_way);
+            change(&mut card.image, block, &mut random);
+            test([&kept, &OnDisk::new(card.image.clone())], target);
             card.image.undo(0);
         }
     }
-    assert!(statuses[1] > 40, "{statuses:?}");
 }
 
-/// Compares a target's block, and all of its file unless that is long. Returns the block's status.
-fn expect_compared(cards: [&OnDisk; 2], target: &Target, directories: &[u32]) -> i32 {
-    let images = cards.map(|card| &card.image);
+/// Compares a target's block.
+pub(crate) fn compare_block(
+    run: impl Fn(Words) -> Ran,
+    cards: [&OnDisk; 2],
+    target: &Target,
+) -> Ran {
     let [kept, new] = cards.map(OnDisk::path);
-    let path = &target.name;
-    let index = Some(target.index);
-    let expected = Expected::along(images, path, directories, index);
-    let line: Words = &[
+    run(&[
         &"compare",
         &"--index",
         &target.index,
         &"--",
         &kept,
         &new,
-        path,
-    ];
-    expected.expect_words(run(line).expect(expected.status).words(), true);
+        &target.name,
+    ])
+}
+
+/// Random folders with another byte on the way to a file.
+#[test]
+fn random() {
+    let mut statuses = [0; 5];
+    let change = |image: &mut Image, block: u32, random: &mut Random| {
+        let at = pick(random, &[100, 500, 3000, 4090]);
+        let old = image.block(block)[at];
+        image.put("byte", block, at, &[old ^ 1]);
+    };
+    with_changes(74, 6, change, |cards, target| {
+        statuses[expect_compared(cards, target) as usize] += 1;
+    });
+    assert!(statuses[1] > 40, "{statuses:?}");
+}
+
+/// Compares a target's block, and all of its file unless that is long. Returns the block's status.
+fn expect_compared(cards: [&OnDisk; 2], target: &Target) -> i32 {
+    let images = cards.map(|card| &card.image);
+    let (path, directories) = (&target.name, directories(images[0], target));
+    let expected = Expected::along(images, path, &directories, Some(target.index));
+    let ran = compare_block(run, cards, target).expect(expected.status);
+    expected.expect_words(ran.words(), true);
     let status = expected.status;
     if is_short(images, path) {
-        let expected = Expected::along(images, path, directories, None);
+        let expected = Expected::along(images, path, &directories, None);
+        let [kept, new] = cards.map(OnDisk::path);
         let line: Words = &[&"compare", &"--json", &"--", &kept, &new, path];
         let json = run(line).expect(expected.status).json();
         expect_head(&json, "compare", expected.answer);

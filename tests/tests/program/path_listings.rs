@@ -13,18 +13,15 @@ use harptimber_tests::cards::layout::inode::*;
 use harptimber_tests::cards::layout::nat::BLOCK_ADDR;
 use harptimber_tests::cards::layout::Field;
 use harptimber_tests::cards::on_disk::OnDisk;
-use harptimber_tests::cards::random::pick;
-use harptimber_tests::cards::random_files::{any_target, RandomFiles};
-use harptimber_tests::cards::random_trees::random_trees;
 use harptimber_tests::cards::walk_damage::strike_block;
-use harptimber_tests::program::card::pulled;
 use harptimber_tests::program::page::{expect_head, expect_name, in_words, meaning};
+use harptimber_tests::program::run;
 use harptimber_tests::program::special_build::SpecialBuild;
-use harptimber_tests::program::{run, Words};
 use harptimber_tests::tools::published::{self, contents, LONGEST_INLINE};
 use harptimber_tests::trial::Random;
 
 use crate::ls::{expect_listing_of, published_file, Expected};
+use crate::path_compares::{compare_block, with_changes};
 use crate::paths::{expect_unlisted, name_in, Stage, EIGHT};
 
 /// A directory as it is listed in the one around it.
@@ -265,36 +262,17 @@ fn library_against_walk() {
 #[test]
 fn damaged_under_sanitizers() {
     let build = SpecialBuild::sanitized();
-    let mut random = Random::new(76);
     let mut statuses = [0; 5];
-    for _ in 0..3 {
-        let RandomFiles { mut card, targets } = random_trees(&mut random);
-        let kept = OnDisk::new(card.image.clone());
-        for _ in 0..12 {
-            let target = any_target(&targets, &mut random);
-            let on_way = pulled(&card.image, &target.name, target.index).blocks();
-            strike_block(&mut card.image, pick(&mut random, &on_way), &mut random);
-            let fresh = OnDisk::new(card.image.clone());
-            card.image.undo(0);
-            let ends = (0..target.name.len()).filter(|&at| target.name[at] == b'/');
-            for end in ends.chain([target.name.len()]) {
-                let part = &target.name[..end];
-                let ran = build.run(&[&"ls", &"--", &fresh.path(), &part]);
-                statuses[ran.status as usize] += 1;
-            }
-            let [kept, new] = [&kept, &fresh].map(OnDisk::path);
-            let line: Words = &[
-                &"compare",
-                &"--index",
-                &target.index,
-                &"--",
-                &kept,
-                &new,
-                &target.name,
-            ];
-            statuses[build.run(line).status as usize] += 1;
+    with_changes(76, 3, strike_block, |cards, target| {
+        let ends = (0..target.name.len()).filter(|&at| target.name[at] == b'/');
+        for end in ends.chain([target.name.len()]) {
+            let part = &target.name[..end];
+            let ran = build.run(&[&"ls", &"--", &cards[1].path(), &part]);
+            statuses[ran.status as usize] += 1;
         }
-    }
+        let ran = compare_block(|words| build.run(words), cards, target);
+        statuses[ran.status as usize] += 1;
+    });
     assert!(statuses[..3].iter().all(|&count| count > 5), "{statuses:?}");
     assert_eq!(statuses[3..], [0, 0], "{statuses:?}");
 }
