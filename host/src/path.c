@@ -26,43 +26,49 @@ bool is_name(const char *name, size_t len)
     return harptimber_name_hash((const uint8_t *)name, len).answer != HARPTIMBER_OUT_OF_SHAPE;
 }
 
-static void show_too_many(FILE *out, size_t count, const char *unit, int most)
+static void show_too_many(FILE *out, const char *called, size_t count, const char *unit, int most)
 {
-    fputs(" has ", out);
+    fprintf(out, "%s has ", called);
     show_count(out, count, unit);
     fprintf(out, "; at most %d are possible", most);
 }
 
-/* What is wrong with what is no name, behind what it is called. */
-static void show_fault_of(FILE *out, const char *name, size_t len)
+/* What else than its length is wrong with a name; null if nothing is. */
+static const char *fault_in(const char *name, size_t len)
 {
+    if (len == 0)
+        return "is empty";
+    if (has_byte(name, len, '/'))
+        return "has a slash";
+    return has_byte(name, len, '\0') ? "has a zero byte" : NULL;
+}
+
+static void show_fault_of(FILE *out, const char *called, const char *name, size_t len)
+{
+    const char *fault = fault_in(name, len);
     if (len > HARPTIMBER_NAME_BYTES_MOST)
-        show_too_many(out, len, "byte", HARPTIMBER_NAME_BYTES_MOST);
-    else
-        fputs(len == 0 ? " is empty" : has_byte(name, len, '/') ? " has a slash" : " has a zero byte", out);
+        show_too_many(out, called, len, "byte", HARPTIMBER_NAME_BYTES_MOST);
+    else if (fault != NULL)
+        fprintf(out, "%s %s", called, fault);
 }
 
 void show_name_fault(FILE *out, const char *name, size_t len)
 {
-    if (is_name(name, len))
-        return;
-    fputs("the name", out);
-    show_fault_of(out, name, len);
+    show_fault_of(out, "the name", name, len);
 }
 
 /* The first of several names that isn't one. */
 static void show_bad_name(FILE *out, const char *path, size_t len)
 {
+    char called[sizeof "name 8 of the path" + 10];
     size_t at = 0, end = path_name_end(path, len, at);
     int which = 1;
     for (; end < len && is_name(path + at, end - at); which++) {
         at = path_next(end);
         end = path_name_end(path, len, at);
     }
-    if (is_name(path + at, end - at))
-        return;
-    fprintf(out, "name %d of the path", which);
-    show_fault_of(out, path + at, end - at);
+    snprintf(called, sizeof called, "name %d of the path", which);
+    show_fault_of(out, called, path + at, end - at);
 }
 
 /* Which slash is one too many, in words; null if none is. */
@@ -90,14 +96,12 @@ void show_path_fault(FILE *out, const char *path, size_t len)
 {
     const char *slash = len == 0 ? NULL : bad_slash(path, len);
     size_t names = count_names(path, len);
-    if (len == 0) {
+    if (len == 0)
         fputs("the path is empty", out);
-    } else if (slash != NULL) {
+    else if (slash != NULL)
         fprintf(out, "the path %s", slash);
-    } else if (names > HARPTIMBER_NAMES_MOST) {
-        fputs("the path", out);
-        show_too_many(out, names, "name", HARPTIMBER_NAMES_MOST);
-    } else {
+    else if (names > HARPTIMBER_NAMES_MOST)
+        show_too_many(out, "the path", names, "name", HARPTIMBER_NAMES_MOST);
+    else
         (names == 1 ? show_name_fault : show_bad_name)(out, path, len);
-    }
 }
