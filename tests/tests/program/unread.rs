@@ -103,7 +103,7 @@ fn expect_unread(image: Image, expected: &[&str], reason: &str) {
         let json = json.expect(2).json();
         expect_json(&json, command, expected, reason);
         let side = json.get("side").map(Json::number);
-        assert_eq!(side, (command == "compare").then_some(number as u64 - 5));
+        assert_eq!(side, (command == "compare").then(|| number as u64 - 5));
         let ran = run(&[&[&command as _], words].concat()).expect(2);
         expect_words(&ran, reason);
         let named = path.to_str().unwrap();
