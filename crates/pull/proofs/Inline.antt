@@ -26,7 +26,7 @@ use Rattle.pull.specs.declared.Pulled.{Pulled}
 use Rattle.pull.specs.Walk.{Block, atFile, fileWalk, namedFileWalk, pullWalk}
 use Rattle.pull.specs.Pull.{Lent, callInShape, written, pullRun, pulled}
 use Rattle.pull.proofs.Cases.{file-past, file-inline}
-use Rattle.pull.proofs.Results.{call-opens}
+use Rattle.pull.proofs.Results.{write, call-opens}
 
 -- all of an inline file
 abbrev pub inlineAll : List ℕ → Outcome Block
@@ -81,7 +81,7 @@ module _ (image path : List ℕ) (index : ℕ) (lent : Lent) (shape : callInShap
   unfolding pullRun pullWalk namedFileWalk pathWalk fileWalk run
   inline-pulled =
       call-opens image path index lent (Opened v) shape opens
-      ∙ ap (λ (r : Ran (Outcome Block)). written r lent)
+      ∙ write lent
       (run-then (imageView image v) empty (pathWalk (boundsOf v) path) (fileWalk (boundsOf v) index) led
       ∙ run-then (imageView image v) s (inodeWalk (boundsOf v) ino) (atFile (boundsOf v) index ino) node
       ∙ ap (run (imageView image v) t) (inline-file (boundsOf v) index ino inode regular own))

@@ -25,7 +25,7 @@ use Rattle.path_lookup.proofs.Names.{names-one, path-joined, other-kind}
 use Rattle.pull.specs.Walk.{Block, fileWalk, namedFileWalk, pullWalk}
 use Rattle.pull.specs.Pull.{Lent, Result, lentInShape, callInShape, refusedPull, written, pullRun, pulledFrom, pulled}
 use Rattle.pull.specs.OneName.{nameWalk, nameInShape, namePulledFrom, namePulled}
-use Rattle.pull.proofs.Results.{call-refused, call-opens}
+use Rattle.pull.proofs.Results.{write, call-refused, call-opens}
 
 -- ---- "a one-name path answers as before"
 module _ (path : List ℕ) (one : List·Memᴰ slash path → ⊥) where
@@ -59,7 +59,7 @@ module _ (path : List ℕ) (one : List·Memᴰ slash path → ⊥) where
       rw (one-shape image lent) (ap (λ (r : Result). choose (nameInShape image path lent) r (refusedPull 4 lent)) (go (openedImage image)))
     where
       go : (o : Opening) → pulledFrom (cardOf image) o path index lent ≡ namePulledFrom (cardOf image) o path index lent
-      go (Opened v) = ap (λ (r : Ran (Outcome Block)). written r lent) (one-run (cardOf image) v index)
+      go (Opened v) = write lent (one-run (cardOf image) v index)
       go (Refused answer) = refl
 
 -- ---- "an empty part or a ninth is 4": the lent memory stays as it was, and all counts are 0
@@ -85,7 +85,7 @@ module _ (image p q : List ℕ) (index : ℕ) (lent : Lent) (shape : callInShape
   unfolding pullRun pullWalk namedFileWalk pathWalk
   joined =
       call-opens image (p ++ slash ∷ q) index lent (Opened v) shape opens
-      ∙ ap (λ (r : Ran (Outcome Block)). written r lent)
+      ∙ write lent
       (run-first (imageView image v) empty empty (pathWalk m (p ++ slash ∷ q)) (andThen (pathWalk m p) (namesWalk m (partsOf q))) (fileWalk m index)
       (path-joined (imageView image v) m empty p q)
       ∙ run-assoc (imageView image v) empty (pathWalk m p) (namesWalk m (partsOf q)) (fileWalk m index))
@@ -93,14 +93,12 @@ module _ (image p q : List ℕ) (index : ℕ) (lent : Lent) (shape : callInShape
   -- p leads to an inode number: the path answers as the rest of it does from there, and what was listed on the way stays listed
   pub answers-from : {ino : ℕ} {s : Seen} → run (imageView image v) empty (pathWalk m p) ≡ ran (ok ino) s
       → pulled image (p ++ slash ∷ q) index lent ≡ written (run (imageView image v) s (namedFileWalk m (partsOf q) index ino)) lent
-  answers-from led =
-      joined ∙ ap (λ (r : Ran (Outcome Block)). written r lent) (run-then (imageView image v) empty (pathWalk m p) (namedFileWalk m (partsOf q) index) led)
+  answers-from led = joined ∙ write lent (run-then (imageView image v) empty (pathWalk m p) (namedFileWalk m (partsOf q) index) led)
 
   -- p stops: so does the path
   pub stops-on-the-way : {answer : ℕ} {s : Seen} → run (imageView image v) empty (pathWalk m p) ≡ ran (stop answer) s
       → pulled image (p ++ slash ∷ q) index lent ≡ written (ran (stop answer) s) lent
-  stops-on-the-way led =
-      joined ∙ ap (λ (r : Ran (Outcome Block)). written r lent) (run-stop (imageView image v) empty (pathWalk m p) (namedFileWalk m (partsOf q) index) led)
+  stops-on-the-way led = joined ∙ write lent (run-stop (imageView image v) empty (pathWalk m p) (namedFileWalk m (partsOf q) index) led)
 
   -- "Each name but the last must be a directory, else 12": p leads to an inode that is none
   pub through-another-kind : {ino : ℕ} {inode : List ℕ} {s t : Seen} → run (imageView image v) empty (pathWalk m p) ≡ ran (ok ino) s
@@ -108,7 +106,7 @@ module _ (image p q : List ℕ) (index : ℕ) (lent : Lent) (shape : callInShape
       → pulled image (p ++ slash ∷ q) index lent ≡ written (ran (stop 12) t) lent
   unfolding namedFileWalk namesWalk
   through-another-kind {ino = ino} {s = s} {t = t} led read other =
-      answers-from led ∙ ap (λ (r : Ran (Outcome Block)). written r lent) (go (partsOf q) (some-part q))
+      answers-from led ∙ write lent (go (partsOf q) (some-part q))
     where
       go : (names : List (List ℕ)) → 1 ≤ length names → run (imageView image v) s (namedFileWalk m names index ino) ≡ ran (stop 12) t
       go [] some = absurd (omega arith)

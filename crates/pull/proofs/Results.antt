@@ -15,7 +15,7 @@ use Rattle.checkpoint.specs.Volume.{openedImage}
 use Rattle.path.specs.Path.{partCount, isPath, nameCount}
 use Rattle.path.proofs.Counting.{count-parts, count-some}
 use Rattle.walk.specs.declared.Counts.{Counts}
-use Rattle.walk.specs.Walk.{View, viewOf, Outcome, lists, none, Walked, Fits}
+use Rattle.walk.specs.Walk.{View, viewOf, Ran, Outcome, lists, none, Walked, Fits}
 use Rattle.walk.proofs.Fits.{fits-start}
 use Rattle.walk.proofs.Written.{left-value, left-counts, left-nodes, left-blocks}
 use Rattle.node.specs.Node.{Bounds, boundsOf}
@@ -68,6 +68,10 @@ module _ (card : Card) (v : Volume) (path : List ℕ) (index : ℕ) (lent : Lent
         numbers = record { answer = a i; «byte_count» = c i; «node_count» = both .0 i; «block_count» = both .1 i };
         memory = record { block = d i; nodes = ns i; blocks = bs i };
       }
+
+-- ---- two walks that come to the same, written
+pub write : {r q : Ran (Outcome Block)} (lent : Lent) → r ≡ q → written r lent ≡ written q lent
+write lent e = ap (λ (r : Ran (Outcome Block)). written r lent) e
 
 -- ---- the call
 module _ (image path : List ℕ) (index : ℕ) (lent : Lent) where
