@@ -14,7 +14,7 @@ use Rattle.checkpoint.specs.declared.Volume.{Volume}
 use Rattle.checkpoint.specs.declared.Opening.the-variants.{Opened}
 use Rattle.checkpoint.specs.Volume.{openedImage}
 use Rattle.place.specs.Place.{lastIndex}
-use Rattle.walk.specs.Walk.{imageView, Seen, empty, done, Ran, ran, run, Outcome, ok, stop}
+use Rattle.walk.specs.Walk.{imageView, Seen, empty, done, ran, run, Outcome, ok, stop}
 use Rattle.walk.proofs.Runs.{run-then}
 use Rattle.inode.specs.Inode.{inodeOf, hasInlineData, inlineStart, isRegular, addressesIn, isPast}
 use Rattle.inode.proofs.Inline.{inline-small, inline-first}

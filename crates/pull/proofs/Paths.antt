@@ -13,7 +13,7 @@ use Rattle.checkpoint.specs.declared.Opening.{Opening}
 use Rattle.checkpoint.specs.declared.Opening.the-variants.{Opened, Refused}
 use Rattle.checkpoint.specs.Volume.{openedImage}
 use Rattle.name_hash.specs.Name.{isName}
-use Rattle.walk.specs.Walk.{viewOf, imageView, Seen, empty, Ran, ran, run, Outcome, ok, stop, andThen}
+use Rattle.walk.specs.Walk.{viewOf, imageView, Seen, empty, ran, run, ok, stop, andThen}
 use Rattle.walk.proofs.Runs.{run-then, run-stop, run-first, run-assoc}
 use Rattle.inode.specs.Inode.{inodeOf, isDirectory}
 use Rattle.node.specs.Node.{Bounds, boundsOf, inodeWalk}
@@ -22,7 +22,7 @@ use Rattle.path.proofs.Parts.{some-part}
 use Rattle.path.proofs.Laws.{parts-one, empty-no-path, ninth-no-path}
 use Rattle.path_lookup.specs.Lookup.{rootIno, directoryWalk, namesWalk, pathWalk}
 use Rattle.path_lookup.proofs.Names.{names-one, path-joined, other-kind}
-use Rattle.pull.specs.Walk.{Block, fileWalk, namedFileWalk, pullWalk}
+use Rattle.pull.specs.Walk.{fileWalk, namedFileWalk, pullWalk}
 use Rattle.pull.specs.Pull.{Lent, Result, lentInShape, callInShape, refusedPull, written, pullRun, pulledFrom, pulled}
 use Rattle.pull.specs.OneName.{nameWalk, nameInShape, namePulledFrom, namePulled}
 use Rattle.pull.proofs.Results.{write, call-refused, call-opens}
