@@ -3,8 +3,4 @@ pub mod Volume004
 pub mod Sheet
 pub mod OpeningRules
 pub mod WalkRules
-pub mod InlineRules
-pub mod PathRules
-pub mod LevelRules
-pub mod SegmentRules
 pub mod CompareRules

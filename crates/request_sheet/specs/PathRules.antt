@@ -26,9 +26,9 @@ use Rattle.path.specs.Path.{slash, partsOf, partCount, areNames, isPath, nameCo
 use Rattle.path_lookup.specs.Lookup.{atDirectory, directoryWalk, namesWalk}
 use Rattle.pull.specs.Walk.{Block, contentWalk, atFile, fileWalk, namedFileWalk, pullWalk}
 use Rattle.pull.specs.Pull.{nodesMost, blocksMost, lentInShape, contentAnswer}
 use Rattle.bench_sheet.specs.Line.{Line, _is_, Holds}
 use Rattle.bench_sheet.specs.WalkRules.{main, lists, footed, inodeBlock, lent}
-use Rattle.bench_sheet.specs.InlineRules.{dotBlock}
+use Rattle.request_sheet.specs.InlineRules.{dotBlock}
 
 -- a name, and n more of it, parted by single slashes
 abbrev again : ℕ → List ℕ → List ℕ

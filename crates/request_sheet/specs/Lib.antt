@@ -1,0 +1,4 @@
+pub mod SegmentRules
+pub mod LevelRules
+pub mod InlineRules
+pub mod PathRules
