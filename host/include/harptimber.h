@@ -1,7 +1,8 @@
 /*
  * Harptimber: a proved library for reading F2FS cards. It pulls one block of a file, by its path, from a card
  * image, lists what the answer rested on, and says from those lists whether another image gives the
- * same answer. It also says which segments' valid counts are off.
+ * same answer. It writes the answer and what it rested on as a keep file, by which that is said without the
+ * old image. It also says which segments' valid counts are off.
  *
  * Link with -lharptimber, as `pkg-config --libs harptimber` says. A call keeps nothing for the next one
  * and touches only the memory that it is lent.
@@ -42,15 +43,23 @@ extern "C" {
 
 /* The version of this header, and of the library that is installed with it. */
 #define HARPTIMBER_VERSION_MAJOR 0
-#define HARPTIMBER_VERSION_MINOR 8
+#define HARPTIMBER_VERSION_MINOR 9
 #define HARPTIMBER_VERSION_PATCH 0
-#define HARPTIMBER_VERSION "0.8.0"
+#define HARPTIMBER_VERSION "0.9.0"
 
 /* The most that a pull of a path with k names, 1 to 8, rests on, and the bytes to lend for a list of that. */
 #define HARPTIMBER_NODES_MOST_OF(k) (175 * (k) + 4)
 #define HARPTIMBER_BLOCKS_MOST_OF(k) (233 * (k) + 5)
 #define HARPTIMBER_NODES_BYTES_OF(k) (4 * HARPTIMBER_NODES_MOST_OF(k))
 #define HARPTIMBER_BLOCKS_BYTES_OF(k) (4 * HARPTIMBER_BLOCKS_MOST_OF(k))
+
+/* The bytes of a keep file whose path has so many bytes, and whose pull listed so many nodes and blocks. */
+#define HARPTIMBER_KEEP_LENGTH_OF(path_len, node_count, block_count) \
+    (4140 + (path_len) + 16 * (node_count) + 4100 * (block_count))
+
+/* The most bytes of one for a path with k names, each of 255 bytes: 958,356k + 24,703. A room of that is never too small. */
+#define HARPTIMBER_KEEP_BYTES_OF(k) \
+    HARPTIMBER_KEEP_LENGTH_OF(256 * (k) - 1, HARPTIMBER_NODES_MOST_OF(k), HARPTIMBER_BLOCKS_MOST_OF(k))
 
 enum {
     /* Of what is asked: a card's blocks, and a path's names and bytes. */
@@ -65,6 +74,8 @@ enum {
     HARPTIMBER_BLOCKS_MOST = HARPTIMBER_BLOCKS_MOST_OF(HARPTIMBER_NAMES_MOST),
     HARPTIMBER_NODES_BYTES = HARPTIMBER_NODES_BYTES_OF(HARPTIMBER_NAMES_MOST),
     HARPTIMBER_BLOCKS_BYTES = HARPTIMBER_BLOCKS_BYTES_OF(HARPTIMBER_NAMES_MOST),
+    /* The bytes that are always enough for a keep file, 7,691,551: too many for a stack. */
+    HARPTIMBER_KEEP_BYTES = HARPTIMBER_KEEP_BYTES_OF(HARPTIMBER_NAMES_MOST),
     HARPTIMBER_SEGMENT_BLOCKS = 512,
     /*
      * The most main segments that a card has, 8,185, and the bytes to lend for a list of all of them, 32,740:
@@ -80,7 +91,7 @@ enum {
 
 /* What an answer number means, harptimber_answer_words says. */
 enum harptimber_answer {
-    HARPTIMBER_DATA = 0, /* also of the calls that read no file: done */
+    HARPTIMBER_DATA = 0, /* also of the calls that hand out no block: done */
     HARPTIMBER_HOLE = 1,
     HARPTIMBER_NO_NAME = 2, /* of any name on the path: the directory that the ones before it lead to hasn't it */
     HARPTIMBER_PAST_END = 3,
@@ -122,10 +133,12 @@ enum harptimber_answer {
     HARPTIMBER_DATA_OUTSIDE = 13,
     HARPTIMBER_MALFORMED_SLOT = 14,
     HARPTIMBER_SAME = 15,
-    HARPTIMBER_CHANGED = 16
+    HARPTIMBER_CHANGED = 16,
+    HARPTIMBER_NO_ROOM = 17,      /* of harptimber_keep alone */
+    HARPTIMBER_BAD_KEEP_FILE = 18 /* of the calls that read one; harptimber_keep_read says when */
 };
 
-/* An answer of a pull or a compare in words. */
+/* An answer in words. */
 static inline const char *harptimber_answer_words(uint32_t answer)
 {
     static const char *const words[] = {
@@ -145,7 +158,9 @@ static inline const char *harptimber_answer_words(uint32_t answer)
         /* 13 */ "a data address lies outside the main area",
         /* 14 */ "a directory entry is malformed",
         /* 15 */ "same",
-        /* 16 */ "changed"};
+        /* 16 */ "changed",
+        /* 17 */ "the room is too small for the keep file",
+        /* 18 */ "not a keep file, or a damaged one"};
     return answer < sizeof words / sizeof *words ? words[answer] : "unknown";
 }
 
@@ -253,9 +268,9 @@ enum harptimber_kind {
     HARPTIMBER_BLOCK_DIFFERS = 3  /* the bytes of a block */
 };
 
-/* The result of harptimber_compare. */
+/* The result of harptimber_compare and of harptimber_keep_compare. */
 struct harptimber_compared {
-    uint32_t answer; /* HARPTIMBER_SAME, HARPTIMBER_CHANGED, or 4 to 8 */
+    uint32_t answer; /* HARPTIMBER_SAME, HARPTIMBER_CHANGED, or 4 to 8; of a keep file also HARPTIMBER_BAD_KEEP_FILE */
     uint32_t side;   /* with 5 to 8: one of harptimber_side */
     uint32_t kind;   /* with 16: one of harptimber_kind */
     uint32_t number; /* with 16: the lowest node number or block that differs; 0 for the bounds */
@@ -290,6 +305,74 @@ struct harptimber_compared harptimber_compare(const uint8_t *kept, size_t kept_l
                                               size_t fresh_len, const uint8_t *nodes, size_t nodes_len,
                                               uint32_t node_count, const uint8_t *blocks,
                                               size_t blocks_len, uint32_t block_count);
+
+/* The result of harptimber_keep. */
+struct harptimber_kept {
+    uint32_t answer; /* HARPTIMBER_DATA, 4 to 8, or HARPTIMBER_NO_ROOM */
+    uint32_t length; /* with 0: how many bytes the keep file has */
+};
+
+/*
+ * Pulls block `index` of the file that a path leads to, as harptimber_pull does, and writes what that gave, and all that it
+ * rested on, as a keep file: from the room's first byte on, without gaps, HARPTIMBER_KEEP_LENGTH_OF bytes. Every pull
+ * is kept that comes past opening, those with 2, 3 and 9 to 14 too: with 0 this call says only that the file was written.
+ *
+ * 4 is answered for the image's length and for the path, then 5 to 8 as by a pull; then HARPTIMBER_NO_ROOM exactly if
+ * the file has more bytes than `room`. By all of these the room is untouched, and otherwise its bytes behind the file are.
+ * HARPTIMBER_KEEP_BYTES_OF(k) are always enough for k names.
+ *
+ * Numbers in a keep file have four bytes, the lowest first:
+ *   - the path's bytes p, the nodes n and the blocks b that are listed; where the nodes start, 4140 + p, where the
+ *     blocks do, 16n further on, and where the file ends, 4100b behind that;
+ *   - the path;
+ *   - the index, the pull's answer, and its byte count;
+ *   - 4,096 bytes: the pull's block with answer 0, else zeros;
+ *   - the main area's first block, and the first one behind it;
+ *   - of each node that the pull looked up its number, rising, and what the table says of it: 9, 0, 0 out of range, else
+ *     0, its inode and its address;
+ *   - of each block that it read its number, rising, and all of its 4,096 bytes.
+ */
+struct harptimber_kept harptimber_keep(const uint8_t *image, size_t image_len, const uint8_t *path, size_t path_len,
+                                       uint32_t index, uint8_t *room, size_t room_len);
+
+/* The result of harptimber_keep_read. */
+struct harptimber_keep_fields {
+    uint32_t answer;      /* HARPTIMBER_DATA or HARPTIMBER_BAD_KEEP_FILE */
+    uint32_t path_len;    /* how many bytes the path has */
+    uint32_t index;       /* which block of the file was pulled */
+    uint32_t pull_answer; /* what the pull answered, */
+    uint32_t byte_count;  /* and how many bytes of the block are the file's */
+    uint32_t main_start;  /* the main area's first block, */
+    uint32_t main_end;    /* and the first one behind it */
+    uint32_t node_count;  /* how many nodes are listed, at least 1 */
+    uint32_t block_count; /* how many blocks are */
+    uint32_t path_at;     /* where in the file the path starts, */
+    uint32_t block_at;    /* the pull's block of 4,096 bytes, */
+    uint32_t nodes_at;    /* the nodes, 16 bytes each, */
+    uint32_t blocks_at;   /* and the blocks, 4,100 bytes each */
+    uint32_t length;      /* how many bytes the file has: all that were lent */
+};
+
+/*
+ * What is in a keep file, and where. HARPTIMBER_BAD_KEEP_FILE is answered exactly if the file has fewer than 24 bytes; its
+ * length or one of the three places in its header isn't what the first three numbers give; it lists no node; its nodes or its
+ * blocks aren't strictly rising; what it has of a node's table entry is neither 9, 0, 0 nor 0 with two numbers; or a block
+ * lies outside the bounds of the main area. Nothing else is looked at: of a file that harptimber_keep didn't write,
+ * the path may be none, and index, answer, byte count and bounds any numbers.
+ */
+struct harptimber_keep_fields harptimber_keep_read(const uint8_t *file, size_t file_len);
+
+/*
+ * Whether the pull of a keep file gives the same on a new image: what harptimber_compare answers for the image that
+ * harptimber_keep wrote the file from, with the pull's lists. Of a file that it didn't write nothing is claimed, but that
+ * this call answers and stays inside what it is lent.
+ *
+ * HARPTIMBER_BAD_KEEP_FILE is answered first, as by harptimber_keep_read; then 4 for the new image's length, without a
+ * side; then 5 to 8 for the new image, with HARPTIMBER_FRESH; then HARPTIMBER_CHANGED with kind and number, or
+ * HARPTIMBER_SAME.
+ */
+struct harptimber_compared harptimber_keep_compare(const uint8_t *file, size_t file_len, const uint8_t *fresh,
+                                                   size_t fresh_len);
 
 /* The result of harptimber_segment_report. */
 struct harptimber_segments {

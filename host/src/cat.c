@@ -1,5 +1,6 @@
 /* cat: a whole file. */
 #include <inttypes.h>
+#include <string.h>
 #include <unistd.h>
 
 #include "json.h"
@@ -15,6 +16,7 @@ enum { PIECE = 64 * BLOCK_SIZE };
 struct cat {
     const struct request *request;
     const char *path;
+    size_t path_len;
     struct card card;
     struct output output;
     bool output_is_open;
@@ -29,7 +31,7 @@ struct cat {
 /* Opens the output, once it is known that there is something to write. */
 static bool open_output(struct cat *cat)
 {
-    if (!output_open(&cat->output, cat->request->output, &cat->card))
+    if (!output_open(&cat->output, cat->request->output, &cat->card.file))
         return false;
     cat->output_is_open = true;
     if (!isatty(cat->output.file))
@@ -53,7 +55,7 @@ static bool copy(struct cat *cat)
     for (;;) {
         struct lists lists;
         struct harptimber_pulled pulled =
-            card_pull(&cat->card, cat->path, cat->blocks, cat->piece + cat->waiting, &lists);
+            card_pull(&cat->card, cat->path, cat->path_len, cat->blocks, cat->piece + cat->waiting, &lists);
         cat->answer = pulled.answer;
         if (!is_block(pulled.answer))
             break;
@@ -78,6 +80,12 @@ static bool has_written(const struct cat *cat)
     return cat->output_is_open && (cat->answer == HARPTIMBER_PAST_END || !cat->output.waits);
 }
 
+/* The last pull. */
+static struct asked asked_by(const struct cat *cat)
+{
+    return pull_of(source_of_card(&cat->card), cat->path, cat->path_len, cat->blocks);
+}
+
 static void show_words(const struct cat *cat)
 {
     if (cat->answer == HARPTIMBER_PAST_END)
@@ -85,7 +93,7 @@ static void show_words(const struct cat *cat)
     show_subject(stderr, cat->card.path);
     show(stderr, cat->path);
     fprintf(stderr, ", block %" PRIu32 ": ", cat->blocks);
-    struct asked asked = pull_of(&cat->card, cat->path, cat->blocks);
+    struct asked asked = asked_by(cat);
     show_asked(stderr, cat->answer, harptimber_answer_words(cat->answer), &asked);
     fputs("; ", stderr);
     if (!has_written(cat)) {
@@ -100,8 +108,8 @@ static void show_json(const struct cat *cat)
 {
     bool whole = cat->answer == HARPTIMBER_PAST_END;
     uint32_t answer = whole ? HARPTIMBER_DATA : cat->answer;
-    FILE *out = output_is_standard(cat->request->output) ? stderr : stdout;
-    struct asked asked = pull_of(&cat->card, cat->path, cat->blocks);
+    FILE *out = output_beside(cat->request->output);
+    struct asked asked = asked_by(cat);
     struct json json = json_begin(out, "cat", answer, harptimber_answer_words(answer));
     json_asked(&json, answer, &asked);
     json_string(&json, "image", cat->card.path);
@@ -146,6 +154,7 @@ enum status run_cat(const struct request *request)
     static struct cat cat; /* large, so not on the stack */
     cat.request = request;
     cat.path = request->words[1];
+    cat.path_len = strlen(cat.path);
     enum status status = card_open(&cat.card, request, request->words[0]);
     if (status != DONE)
         return status;

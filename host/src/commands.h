@@ -23,7 +23,8 @@ struct command {
     const char *name;
     const char *words;    /* what follows the command, */
     int fewest, most;     /* and how many words that is */
-    unsigned takes;       /* options: bits of 1 << OUTPUT and so on */
+    unsigned takes;       /* options: bits of 1 << OUTPUT and so on, */
+    unsigned needs;       /* and those that it can't do without */
     const char *summary;  /* a line for the overview */
     const char *text;     /* its own page's words on what it does, in whole lines */
     const char *statuses; /* what it ends with, in whole lines; 3 is added */
@@ -38,5 +39,8 @@ const struct command *find_command(const char *name);
 
 /* How people write an option: its letter if it has one, else its name. */
 const char *option_word(const struct program_option *option, char *room, size_t len);
+
+/* The same with what follows it. */
+const char *option_words(const struct program_option *option, char *room, size_t len);
 
 #endif

@@ -1,9 +1,13 @@
-/* What a comparison of two cards found, for compare.c to fill in, and for words and JSON to be made from. */
+/*
+ * What a comparison found, for words and JSON to be made from. compare.c fills it in for two cards, check.c for a keep file, which is
+ * one block, and a card.
+ */
 #ifndef COMPARE_H
 #define COMPARE_H
 
 #include <stdio.h>
 
+#include "json.h"
 #include "request.h"
 #include "walk.h"
 
@@ -35,7 +39,7 @@ struct run {
     int before, now; /* and what it is */
 };
 
-/* What a card has under the path. */
+/* What a card has, or had, under the path. */
 struct holding {
     uint32_t answer;      /* of a pull past the end: 3 if the file can be read so far */
     const uint8_t *inode; /* its block; null if the pull doesn't come to it */
@@ -43,9 +47,11 @@ struct holding {
 
 struct comparison {
     const char *path;
+    size_t path_len;
     bool whole; /* every block was asked for */
-    const struct card *kept, *new;
-    struct holding had, has; /* on these cards */
+    struct source kept;
+    const struct card *new;
+    struct holding had, has; /* on these */
     bool refused;            /* a card doesn't open, or the path is bad: */
     uint32_t refusal, side;  /* the answer, 4 to 8, and whose it is */
     struct run *runs;
@@ -59,6 +65,24 @@ struct comparison {
 
 /* Beside the sides of harptimber_side: the path is at fault. */
 enum { NO_SIDE = 0 };
+
+/* What the library says of a block: what a pull on the kept card gave, and whether that still holds on the new one. */
+struct finding {
+    struct harptimber_pulled pulled;
+    const uint8_t *block; /* 4,096 bytes, if there is one */
+    struct harptimber_compared verdict;
+};
+
+/* Adds the block behind those that were added before. */
+void comparison_add(struct comparison *c, uint32_t index, const struct finding *found);
+
+/* Notes that a card doesn't open, or that the path is bad. */
+void comparison_refuse(struct comparison *c, uint32_t answer, uint32_t side);
+
+void comparison_free(struct comparison *c);
+
+/* What a card has under a path. */
+struct holding held_by(const struct card *card, const char *path, size_t path_len);
 
 bool is_changed(const struct run *run);
 
@@ -80,6 +104,9 @@ void compare_words(const struct comparison *c, bool details);
 
 /* One object: of a single path, or with a list of several. */
 void compare_json(const struct comparison *all, size_t count, bool several);
+
+/* What the object has for each path. */
+void json_comparison(struct json *json, const struct comparison *c);
 
 /* Prints what changed under a run. */
 void show_ground(FILE *out, const struct comparison *c, const struct run *run);

@@ -41,10 +41,10 @@ static void json_difference(struct json *json, const struct comparison *c, const
 }
 
 /* Why a card answers a pull so, if that gives no block. Of the file's end the sizes tell. */
-static void json_why(struct json *json, const char *key, const struct card *card, const char *path,
+static void json_why(struct json *json, const char *key, const struct comparison *c, struct source source,
                      const struct run *run, uint32_t answer)
 {
-    struct asked asked = pull_of(card, path, run->first);
+    struct asked asked = pull_of(source, c->path, c->path_len, run->first);
     if (!is_block(answer) && answer != HARPTIMBER_PAST_END)
         json_asked_as(json, key, answer, &asked);
 }
@@ -58,7 +58,7 @@ static void json_verdict(struct json *json, const struct comparison *c, const st
     json_number(json, "number", run->verdict.number);
     json_difference(json, c, run);
     json_number(json, "new_answer", run->answer);
-    json_why(json, "new_reason", c->new, c->path, run, run->answer);
+    json_why(json, "new_reason", c, source_of_card(c->new), run, run->answer);
 }
 
 /* A byte that differs; null behind the file's end. */
@@ -92,13 +92,13 @@ static void json_size(struct json *json, const char *key, const struct holding *
         json_number(json, key, held_bytes(holding));
 }
 
-/* What the object has for each path. */
-static void json_file(struct json *json, const struct comparison *c)
+void json_comparison(struct json *json, const struct comparison *c)
 {
-    struct asked asked = pull_of(c->side == HARPTIMBER_FRESH ? c->new : c->kept, c->path, c->end.first);
+    struct source source = c->side == HARPTIMBER_FRESH ? source_of_card(c->new) : c->kept;
+    struct asked asked = pull_of(source, c->path, c->path_len, c->end.first);
     if (compare_status(c) == REFUSED)
         json_asked(json, compare_answer(c), &asked);
-    json_name(json, c->path);
+    json_name_bytes(json, c->path, c->path_len);
     json_number(json, "status", compare_status(c));
     json_string(json, "verdict", verdict_of(c));
     json_size(json, "kept_size", &c->had);
@@ -117,7 +117,7 @@ static void json_file(struct json *json, const struct comparison *c)
         json_open(json, "end", '{');
         json_number(json, "index", c->end.first);
         json_number(json, "kept", c->last_answer);
-        json_why(json, "kept_reason", c->kept, c->path, &c->end, c->last_answer);
+        json_why(json, "kept_reason", c, c->kept, &c->end, c->last_answer);
         json_verdict(json, c, &c->end);
         json_close(json, '}');
     }
@@ -131,7 +131,7 @@ void compare_json(const struct comparison *all, size_t count, bool several)
         worst = compare_status(&all[i]) > compare_status(worst) ? &all[i] : worst;
     uint32_t answer = compare_answer(worst);
     struct json json = json_begin(stdout, "compare", answer, harptimber_answer_words(answer));
-    json_string(&json, "kept", all->kept->path);
+    json_string(&json, "kept", all->kept.card->path);
     json_string(&json, "new", all->new->path);
     if (several)
         json_open(&json, "files", '[');
@@ -140,7 +140,7 @@ void compare_json(const struct comparison *all, size_t count, bool several)
             json_open(&json, NULL, '{');
             json_answer(&json, compare_answer(&all[i]), harptimber_answer_words(compare_answer(&all[i])));
         }
-        json_file(&json, &all[i]);
+        json_comparison(&json, &all[i]);
         if (several)
             json_close(&json, '}');
     }

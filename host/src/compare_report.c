@@ -27,17 +27,21 @@ static void show_table_difference(FILE *out, const struct comparison *c, const s
         fputc(')', out);
     }
     fputs(" has another table entry: ", out);
-    show_entry(out, harptimber_node_lookup(c->kept->bytes, c->kept->len, ground->number));
+    show_entry(out, source_entry(&c->kept, ground->number));
     fputs(" before; ", out);
     show_entry(out, harptimber_node_lookup(c->new->bytes, c->new->len, ground->number));
     fputs(" now", out);
 }
 
-/* The main areas are alike where a block differs, so that it lies in both images. */
+/* The main areas are alike where a block differs, so that it is in both images. What it is, is known if the walk came to it. */
 static void show_block_difference(FILE *out, const struct comparison *c, const struct ground *ground)
 {
-    const uint8_t *before = disk_block(c->kept, ground->number), *now = disk_block(c->new, ground->number);
+    const uint8_t *before = source_block(&c->kept, ground->number), *now = disk_block(c->new, ground->number);
     const struct role *role = &ground->role;
+    if (!role->is_met || before == NULL || now == NULL) {
+        fprintf(out, "the card's block %" PRIu32 " changed", ground->number);
+        return;
+    }
     if (role->node == 0) {
         show_directory_entry(out, before, now);
         fputs(" in ", out);
@@ -63,17 +67,21 @@ void show_ground(FILE *out, const struct comparison *c, const struct run *run)
         fputs("the main area lies elsewhere", out);
     else if (ground->number == 0)
         fprintf(out, "the file's data changed%s", run->fate == DIFFERENT ? "" : ", but only behind its end");
-    else if (!ground->role.is_met)
-        fprintf(out, "the card's block %" PRIu32 " changed", ground->number);
     else
         show_block_difference(out, c, ground);
 }
 
-/* What a pull on a card answers that gives no block; `where` are the cards that answer so. */
-static void words_answer(const struct comparison *c, const struct card *card, const char *where, uint32_t index,
+/* A pull of the path, on the kept card or on the new one. */
+static struct asked pull_by(const struct comparison *c, struct source source, uint32_t index)
+{
+    return pull_of(source, c->path, c->path_len, index);
+}
+
+/* What a pull answers that gives no block; `where` are the cards that answer so. */
+static void words_answer(const struct comparison *c, struct source source, const char *where, uint32_t index,
                          uint32_t answer)
 {
-    struct asked asked = pull_of(card, c->path, index);
+    struct asked asked = pull_by(c, source, index);
     printf("on %s: ", where);
     show_asked(stdout, answer, harptimber_answer_words(answer), &asked);
 }
@@ -85,7 +93,7 @@ static void words_kept(const struct comparison *c, uint32_t index, uint32_t answ
 
 static void words_new(const struct comparison *c, uint32_t index, uint32_t answer)
 {
-    words_answer(c, c->new, "the new card", index, answer);
+    words_answer(c, source_of_card(c->new), "the new card", index, answer);
 }
 
 /* So much of a list is shown. */
@@ -294,8 +302,9 @@ static void words_end(const struct comparison *c)
 static void words_both(const struct comparison *c)
 {
     uint64_t before = held_bytes(&c->had), now = held_bytes(&c->has);
+    bool resized = before != now && c->had.inode != NULL && c->has.inode != NULL;
     bool empty = c->whole && compared_blocks(c) == 0 && c->last_answer == HARPTIMBER_PAST_END;
-    if (before != now) {
+    if (resized) {
         printf("%s%s from ", c->whole ? "" : "the file has ", now > before ? "grown" : "shrunk");
         show_number(stdout, before);
         printf(" to ");
@@ -318,16 +327,20 @@ static void words_both(const struct comparison *c)
 static void words_one(const struct comparison *c, const char *what, const struct holding *there, uint32_t answer)
 {
     bool kept = there == &c->had;
-    printf("%s%s: ", c->whole ? "" : "the file is ", what);
-    show_count(stdout, held_bytes(there), "byte");
-    printf(" on the %s card; ", kept ? "kept" : "new");
+    printf("%s%s", c->whole ? "" : "the file is ", what);
+    if (there->inode != NULL) {
+        printf(": ");
+        show_count(stdout, held_bytes(there), "byte");
+        printf(" on the %s card", kept ? "kept" : "new");
+    }
+    printf("; ");
     (kept ? words_new : words_kept)(c, UINT32_MAX, answer);
 }
 
 /* Of a path that neither card has. On each another name may be the missing one. */
 static void words_neither(const struct comparison *c)
 {
-    struct asked kept = pull_of(c->kept, c->path, 0), new = pull_of(c->new, c->path, 0);
+    struct asked kept = pull_by(c, c->kept, 0), new = pull_by(c, source_of_card(c->new), 0);
     printf("on neither card");
     if (same_reason(HARPTIMBER_NO_NAME, &kept, &new)) {
         printf(": ");
@@ -357,8 +370,8 @@ static void words_not_both(const struct comparison *c)
 /* A card that doesn't open, or a bad path. */
 static void words_refusal(const struct comparison *c)
 {
-    const struct card *card = c->side == HARPTIMBER_FRESH ? c->new : c->kept;
-    struct asked asked = pull_of(card, c->path, 0);
+    const struct card *card = c->side == HARPTIMBER_FRESH ? c->new : c->kept.card;
+    struct asked asked = pull_by(c, source_of_card(card), 0);
     show(stdout, c->side == NO_SIDE ? c->path : card->path);
     printf(": ");
     show_asked(stdout, c->refusal, harptimber_answer_words(c->refusal), &asked);
@@ -371,7 +384,7 @@ void compare_words(const struct comparison *c, bool details)
         words_refusal(c);
         return;
     }
-    show(stdout, c->path);
+    show_bytes(stdout, c->path, c->path_len);
     if (!c->whole)
         printf(", block %" PRIu32, c->run_count == 0 ? c->end.first : c->runs[0].first);
     printf(": ");

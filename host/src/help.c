@@ -2,7 +2,7 @@
 
 #include <string.h>
 
-enum { COMMAND_WIDTH = 29, OPTION_WIDTH = 20, ROOM = 64 };
+enum { COMMAND_WIDTH = 31, OPTION_WIDTH = 20, ROOM = 64 };
 
 /* A line on an option: '  -o, --output=FILE  TEXT'. */
 static void show_option(FILE *out, char letter, const char *name, const char *value, const char *text)
@@ -23,14 +23,27 @@ static void show_options(FILE *out, unsigned taken)
     show_option(out, 'h', "help", NULL, "print this page");
 }
 
+/* A command as it is called: with the options of these bits, in brackets those that it can do without. Returns how many bytes that is. */
+static int show_call(FILE *out, const struct command *command, unsigned shown)
+{
+    int len = fprintf(out, "%s", command->name);
+    for (unsigned i = 0; i < OPTION_COUNT; i++) {
+        char words[ROOM];
+        bool needed = (command->needs >> i & 1) != 0;
+        if ((shown >> i & 1) != 0)
+            len += fprintf(out, needed ? " %s" : " [%s]", option_words(&options[i], words, sizeof words));
+    }
+    return len + fprintf(out, " %s", command->words);
+}
+
 void show_overview(FILE *out)
 {
     fputs("Usage: harptimber COMMAND [OPTION].. WORD..\n"
-          "Read blocks of an F2FS card image, and say whether another still gives the same.\n\n", out);
+          "Read or keep blocks of an F2FS card image, and say whether another still gives the same.\n\n", out);
     for (size_t i = 0; i < command_count; i++) {
-        char line[ROOM];
-        snprintf(line, sizeof line, "%s %s", commands[i].name, commands[i].words);
-        fprintf(out, "  %-*s  %s\n", COMMAND_WIDTH, line, commands[i].summary);
+        fputs("  ", out);
+        int len = show_call(out, &commands[i], commands[i].needs);
+        fprintf(out, "%*s  %s\n", COMMAND_WIDTH - len, "", commands[i].summary);
     }
     fputs("\nOptions, of which each command takes some:\n", out);
     show_options(out, ~0U);
@@ -43,15 +56,9 @@ void show_overview(FILE *out)
 
 void show_page(FILE *out, const struct command *command)
 {
-    fprintf(out, "Usage: harptimber %s", command->name);
-    for (unsigned i = 0; i < OPTION_COUNT; i++) {
-        char word[ROOM];
-        const char *value = options[i].value;
-        if ((command->takes >> i & 1) != 0)
-            fprintf(out, " [%s%s%s]", option_word(&options[i], word, sizeof word), value == NULL ? "" : " ",
-                    value == NULL ? "" : value);
-    }
-    fprintf(out, " %s\n%s\n", command->words, command->text);
+    fputs("Usage: harptimber ", out);
+    show_call(out, command, command->takes);
+    fprintf(out, "\n%s\n", command->text);
     show_options(out, command->takes);
     const char *behind = strstr(command->statuses, "  4  "); /* 3 is every command's, and its place before 4 */
     int before = (int)(behind == NULL ? strlen(command->statuses) : (size_t)(behind - command->statuses));

@@ -34,7 +34,7 @@ static void read_info(struct info *info, const struct card *card)
         disk_label(info->superblock, info->label);
     }
     if (opening->answer != HARPTIMBER_DATA)
-        partitions_read(&info->partitions, card->map, card->file_len);
+        partitions_read(&info->partitions, card->file.bytes, card->file.len);
 }
 
 /* Packs are looked at once a copy of the superblock says where they are. */
@@ -139,7 +139,7 @@ static void info_words(const struct info *info)
     const struct opening *opening = &info->opening;
     show(stdout, info->card->path);
     printf(opening->answer == HARPTIMBER_DATA ? ": " : ": can't be read: ");
-    show_with_reason(stdout, opening->answer, card_meaning_of(opening->answer), info->reason);
+    show_with_reason(stdout, opening->answer, whole_meaning_of(opening->answer), info->reason);
     printf("\n");
     if (info->superblock != NULL)
         words_volume(info);
@@ -236,7 +236,7 @@ static void json_partitions(struct json *json, const struct partitions *partitio
 static void info_json(const struct info *info)
 {
     const struct opening *opening = &info->opening;
-    struct json json = json_begin(stdout, "info", opening->answer, card_meaning_of(opening->answer));
+    struct json json = json_begin(stdout, "info", opening->answer, whole_meaning_of(opening->answer));
     if (info->reason != NULL)
         json_string(&json, "reason", info->reason);
     json_causes(&json, opening->causes);

@@ -62,10 +62,10 @@ void json_flag(struct json *json, const char *key, bool flag)
 }
 
 /* Prints a text's first character, in UTF-8 whatever its bytes are, and returns how many it has. */
-static size_t put_character(FILE *out, const char *text)
+static size_t put_character(FILE *out, const char *text, size_t text_len)
 {
     uint32_t character;
-    size_t len = utf8_read(text, &character);
+    size_t len = utf8_read(text, text_len, &character);
     if (len == 0) {
         fputs("\xEF\xBF\xBD", out);
         return 1;
@@ -83,7 +83,7 @@ static void put_string(struct json *json, const char *key, const char *text, siz
 {
     json_open(json, key, '"');
     for (size_t at = 0; at < len;)
-        at += put_character(json->out, text + at);
+        at += put_character(json->out, text + at, len - at);
     json_close(json, '"');
 }
 
@@ -110,4 +110,10 @@ void json_name_bytes(struct json *json, const char *name, size_t len)
 void json_name(struct json *json, const char *name)
 {
     json_name_bytes(json, name, strlen(name));
+}
+
+void json_part(struct json *json, const char *members)
+{
+    lead(json, NULL);
+    fputs(members, json->out);
 }

@@ -32,7 +32,10 @@ void json_answer(struct json *json, uint32_t answer, const char *meaning);
 /* A name, or a path, which has the same key: as text, and its exact bytes in hexadecimal. */
 void json_name(struct json *json, const char *name);
 
-/* The same for a name that may have zero bytes, and has one more behind its end. */
+/* The same for a name that may have zero bytes. */
 void json_name_bytes(struct json *json, const char *name, size_t len);
+
+/* Members that were put together before, at least one. */
+void json_part(struct json *json, const char *members);
 
 #endif

@@ -31,7 +31,7 @@ static void add_stop(struct listing *listing)
 {
     FILE *out = open_problem(listing);
     if (out != NULL) {
-        show_stop(out, &listing->walk.stop, listing->walk.card);
+        show_stop(out, &listing->walk.stop, &listing->walk.source);
         fclose(out);
     }
     go_on(listing);
@@ -92,12 +92,12 @@ static bool is_dots(const struct walk *walk, const struct dentry *dentry)
 }
 
 /* The entries up to the first one that is malformed, which hides the others. */
-static void list_entries(struct listing *listing, const struct dentries *dentries, uint32_t address, uint32_t index)
+static void list_entries(struct listing *listing, const struct dentries *dentries, uint32_t index)
 {
     struct dentry dentry;
     for (uint32_t slot = 0; dentry_from(dentries, slot, &dentry); slot = dentry.slot + slots_of(dentry.len)) {
         if (dentry.name == NULL) {
-            stop_at_malformed(&listing->walk, dentries, &dentry, address, index);
+            stop_at_malformed(&listing->walk, dentries, &dentry, index);
             add_stop(listing);
             return;
         }
@@ -128,7 +128,7 @@ static void list_address(struct listing *listing, uint32_t address, uint32_t ind
     }
     listing->seen[address / 8] |= bit;
     struct dentries dentries = dentries_of_block(block);
-    list_entries(listing, &dentries, address, index);
+    list_entries(listing, &dentries, index);
 }
 
 /* How many blocks, and how many nodes, hang below a node: height 1 holds addresses, the others numbers of nodes. */
@@ -193,7 +193,7 @@ static void list_directory(struct listing *listing)
         add_stop(listing);
     } else if (is_inline(&inode)) {
         struct dentries dentries = dentries_of_inode(directory);
-        list_entries(listing, &dentries, listing->walk.stop.address, 0);
+        list_entries(listing, &dentries, 0);
     } else {
         list_blocks(listing, directory);
     }
@@ -210,9 +210,10 @@ bool listing_read(struct listing *listing, const struct walk *walk)
 {
     *listing = (struct listing){.walk = *walk};
     listing->walk.owner.is_file = false;
-    listing->seen = calloc(walk->card->len / BLOCK_SIZE / 8 + 1, 1);
+    const struct card *card = walk->source.card;
+    listing->seen = calloc(card->len / BLOCK_SIZE / 8 + 1, 1);
     if (listing->seen == NULL) {
-        complain(walk->card->path, "%s", strerror(ENOMEM));
+        complain(card->path, "%s", strerror(ENOMEM));
         return false;
     }
     list_directory(listing);

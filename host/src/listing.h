@@ -24,7 +24,7 @@ struct listing {
     uint8_t *seen;
 };
 
-/* Reads the directory that a walk has come to. Returns false, with a message, if there is no memory for it. */
+/* Reads the directory that a walk on a card has come to. Returns false, with a message, if there is no memory for it. */
 bool listing_read(struct listing *listing, const struct walk *walk);
 
 bool listing_is_complete(const struct listing *listing);

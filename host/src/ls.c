@@ -69,19 +69,16 @@ static bool is_no_name(const struct ls *ls, const struct row *row)
 
 static struct told tell_of(struct ls *ls, const struct row *row)
 {
-    const struct card *card = ls->card;
     uint8_t block[BLOCK_SIZE];
     struct lists lists;
-    struct told told = {.asked = {card, row->path, row->path_len, true, 0}};
+    struct told told = {.asked = pull_of(source_of_card(ls->card), row->path, row->path_len, 0)};
     told.inode = walk_node(&ls->listing.walk, row->inode, row->inode, 0);
     if (is_no_name(ls, row)) {
         told.answer = HARPTIMBER_OUT_OF_SHAPE;
         told.asked = (struct asked){.path = row->name, .len = row->len};
         return told;
     }
-    told.answer = harptimber_pull(card->bytes, card->len, (const uint8_t *)row->path, row->path_len, 0, block,
-                                  sizeof block, lists.nodes, sizeof lists.nodes, lists.blocks,
-                                  sizeof lists.blocks).answer;
+    told.answer = card_pull(ls->card, row->path, row->path_len, 0, block, &lists).answer;
     return told;
 }
 
@@ -170,7 +167,9 @@ static void show_json(struct ls *ls)
 /* What the answer is about, for its reason: a pull past the end, or without a path the card. */
 static struct asked asked_by(const struct ls *ls)
 {
-    return ls->path == NULL ? (struct asked){.card = ls->card} : pull_of(ls->card, ls->path, UINT32_MAX);
+    struct source source = source_of_card(ls->card);
+    return ls->path == NULL ? (struct asked){.source = source}
+                            : pull_of(source, ls->path, strlen(ls->path), UINT32_MAX);
 }
 
 static void json_refusal(struct ls *ls)
@@ -201,13 +200,13 @@ static uint32_t ask(const struct ls *ls)
     struct lists lists;
     if (ls->path == NULL)
         return harptimber_node_lookup(ls->card->bytes, ls->card->len, DISK_ROOT).answer;
-    return card_pull(ls->card, ls->path, UINT32_MAX, block, &lists).answer;
+    return card_pull(ls->card, ls->path, strlen(ls->path), UINT32_MAX, block, &lists).answer;
 }
 
 /* Finds what there is to list. Returns false, with a message, if there is no memory for it. */
 static bool find(struct ls *ls)
 {
-    struct walk walk = walk_begin(ls->card);
+    struct walk walk = walk_begin(source_of_card(ls->card));
     ls->answer = ask(ls);
     ls->is_found = !is_before_walk(ls->answer) &&
                    (ls->path == NULL || walk_path(&walk, ls->path, strlen(ls->path)));

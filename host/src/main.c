@@ -19,15 +19,20 @@ struct given {
     bool help, version;
 };
 
-/* Says which option the command doesn't take, if there is one. */
+/* Says which option the command doesn't take, or lacks, if there is one. */
 static bool takes_all(const struct command *command, unsigned given)
 {
-    char word[32];
-    for (unsigned i = 0; i < OPTION_COUNT; i++)
+    char words[32];
+    for (unsigned i = 0; i < OPTION_COUNT; i++) {
         if (((given & ~command->takes) >> i & 1) != 0) {
-            complain(command->name, "takes no %s", option_word(&options[i], word, sizeof word));
+            complain(command->name, "takes no %s", option_word(&options[i], words, sizeof words));
             return false;
         }
+        if (((command->needs & ~given) >> i & 1) != 0) {
+            complain(command->name, "needs %s", option_words(&options[i], words, sizeof words));
+            return false;
+        }
+    }
     return true;
 }
 

@@ -12,11 +12,16 @@ bool output_is_standard(const char *word)
     return word == NULL || strcmp(word, "-") == 0;
 }
 
-/* Why an open file can't be the output; null if it can. */
-static const char *judge(const struct card *card, const struct stat *info)
+FILE *output_beside(const char *word)
 {
-    if (card_is(card, info))
-        return "is the card image itself";
+    return word != NULL && output_is_standard(word) ? stderr : stdout;
+}
+
+/* Why an open file can't be the output; null if it can. */
+static const char *judge(const struct mapping *read, const struct stat *info)
+{
+    if (mapping_is(read, info))
+        return read->itself;
     return S_ISBLK(info->st_mode) ? "is a block device" : NULL; /* which may hold the card */
 }
 
@@ -40,12 +45,12 @@ static const char *make(struct output *output, const struct stat *old)
 }
 
 /* Makes the open file ready, or one that is to replace it. Returns why not, or null. */
-static const char *prepare(struct output *output, const struct card *card)
+static const char *prepare(struct output *output, const struct mapping *read)
 {
     struct stat info;
     if (fstat(output->file, &info) != 0)
         return strerror(errno);
-    const char *why = judge(card, &info);
+    const char *why = judge(read, &info);
     if (why != NULL || output->file == STDOUT_FILENO || !S_ISREG(info.st_mode))
         return why;
     if (has_words(&info))
@@ -54,7 +59,7 @@ static const char *prepare(struct output *output, const struct card *card)
     return make(output, &info);
 }
 
-bool output_open(struct output *output, const char *word, const struct card *card)
+bool output_open(struct output *output, const char *word, const struct mapping *read)
 {
     bool standard = output_is_standard(word);
     *output = (struct output){.path = standard ? "standard output" : word, .file = STDOUT_FILENO};
@@ -62,7 +67,7 @@ bool output_open(struct output *output, const char *word, const struct card *car
         output->file = open(word, O_WRONLY | O_NOCTTY | O_CLOEXEC);
     const char *why;
     if (output->file >= 0)
-        why = prepare(output, card);
+        why = prepare(output, read);
     else
         why = errno == ENOENT ? make(output, NULL) : strerror(errno);
     if (why == NULL)
@@ -108,4 +113,15 @@ void output_drop(struct output *output)
         whole_drop(&output->whole);
     else
         output_close(output);
+}
+
+bool output_all(const char *word, const struct mapping *read, const uint8_t *bytes, size_t len)
+{
+    struct output output;
+    if (!output_open(&output, word, read))
+        return false;
+    if (output_write(&output, bytes, len))
+        return output_close(&output);
+    output_drop(&output);
+    return false;
 }

@@ -22,9 +22,9 @@ bool part_read(struct part *part, const struct request *request)
 /* A volume has whole blocks: what is left behind the last one is no part of it. */
 static bool take(struct card *card, uint64_t first, uint64_t len)
 {
-    uint64_t rest = card->file_len - first;
+    uint64_t rest = card->file.len - first;
     len = len < rest ? len : rest;
-    card->bytes = card->map + first;
+    card->bytes = card->file.bytes + first;
     card->len = (size_t)(len - len % BLOCK_SIZE);
     return true;
 }
@@ -32,9 +32,9 @@ static bool take(struct card *card, uint64_t first, uint64_t len)
 static bool take_partition(struct card *card, uint32_t number)
 {
     struct partitions partitions;
-    partitions_read(&partitions, card->map, card->file_len);
+    partitions_read(&partitions, card->file.bytes, card->file.len);
     const struct partition *partition = partitions_find(&partitions, number);
-    if (partition != NULL && partition->first < card->file_len)
+    if (partition != NULL && partition->first < card->file.len)
         return take(card, partition->first, partition->len);
     show_subject(stderr, card->path);
     if (partition != NULL) {
@@ -53,9 +53,9 @@ bool part_take(struct card *card, const struct part *part)
         return take_partition(card, part->partition);
     if (!part->by_offset)
         return true;
-    if (part->offset < card->file_len)
+    if (part->offset < card->file.len)
         return take(card, part->offset, HARPTIMBER_CARD_BYTES_MOST);
     char there[NUMBER_ROOM];
-    complain(card->path, "has no byte %" PRIu64 ": it has %s bytes", part->offset, number_text(there, card->file_len));
+    complain(card->path, "has no byte %" PRIu64 ": it has %s bytes", part->offset, number_text(there, card->file.len));
     return false;
 }

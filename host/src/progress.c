@@ -19,7 +19,7 @@ static bool has_block(const struct card *card, const char *path, uint32_t index)
 {
     uint8_t block[BLOCK_SIZE];
     struct lists lists;
-    return card_pull(card, path, index, block, &lists).answer != HARPTIMBER_PAST_END;
+    return card_pull(card, path, strlen(path), index, block, &lists).answer != HARPTIMBER_PAST_END;
 }
 
 /* How many blocks a large file has; 0 for others. By bisection, since no call says it. */

@@ -50,20 +50,24 @@ static void show_node(FILE *out, const struct stop *stop)
     fputc(')', out);
 }
 
-static void show_main_area(FILE *out, const struct card *card)
+void show_main_area(FILE *out, const struct source *source)
 {
-    struct walk walk = walk_begin(card);
-    fprintf(out, "; the main area is blocks %" PRIu64 " to %" PRIu64, walk.main_first, walk.main_end - 1);
+    uint64_t first, end;
+    source_bounds(source, &first, &end);
+    if (first < end)
+        fprintf(out, "the main area is blocks %" PRIu64 " to %" PRIu64, first, end - 1);
+    else
+        fputs("the main area has no blocks", out);
 }
 
-static void show_no_node(FILE *out, const struct stop *stop, const struct card *card)
+static void show_no_node(FILE *out, const struct stop *stop, const struct source *source)
 {
-    struct harptimber_entry entry = harptimber_node_lookup(card->bytes, card->len, stop->node);
+    struct harptimber_entry entry = source_entry(source, stop->node);
     show_node(out, stop);
     fputs(entry.answer == HARPTIMBER_DATA ? " isn't in use" : " is out of range", out);
 }
 
-static void show_outside(FILE *out, const struct stop *stop, const struct card *card)
+static void show_outside(FILE *out, const struct stop *stop, const struct source *source)
 {
     if (stop->answer == HARPTIMBER_NODE_OUTSIDE) {
         show_node(out, stop);
@@ -71,15 +75,15 @@ static void show_outside(FILE *out, const struct stop *stop, const struct card *
         fprintf(out, "block %" PRIu32 " of ", stop->index);
         show_owner(out, &stop->owner);
     }
-    fprintf(out, " has address %" PRIu32, stop->address);
-    show_main_area(out, card);
+    fprintf(out, " has address %" PRIu32 "; ", stop->address);
+    show_main_area(out, source);
 }
 
 /* Which of its numbers make a node block another one's. */
-static void show_foreign(FILE *out, const struct stop *stop, const struct card *card)
+static void show_foreign(FILE *out, const struct stop *stop, const struct source *source)
 {
-    const uint8_t *node = disk_block(card, stop->address);
-    struct harptimber_entry entry = harptimber_node_lookup(card->bytes, card->len, stop->node);
+    const uint8_t *node = source_block(source, stop->address);
+    struct harptimber_entry entry = source_entry(source, stop->node);
     const struct {
         const char *what;
         uint32_t found, wanted;
@@ -152,9 +156,9 @@ static void show_unread(FILE *out, const struct disk_inode *inode, enum unread w
         fprintf(out, "its directory level is %u, over %d", (unsigned)inode->dir_level, DISK_MOST_DIR_LEVEL);
 }
 
-static void show_kind(FILE *out, const struct stop *stop, const struct card *card)
+static void show_kind(FILE *out, const struct stop *stop, const struct source *source)
 {
-    struct disk_inode inode = disk_inode_of(disk_block(card, stop->address));
+    struct disk_inode inode = disk_inode_of(source_block(source, stop->address));
     const struct owner *owner = &stop->owner;
     enum unread why = unread_by(&inode, owner->is_file);
     if (why == UNREAD_KIND && owner->len != 0 && !owner->is_file) {
@@ -190,9 +194,9 @@ static void show_no_name(FILE *out, const struct stop *stop)
 }
 
 /* How long the file is. */
-static void show_end(FILE *out, const struct stop *stop, const struct card *card)
+static void show_end(FILE *out, const struct stop *stop, const struct source *source)
 {
-    const uint8_t *inode = disk_block(card, stop->address);
+    const uint8_t *inode = source_block(source, stop->address);
     uint64_t size = disk_inode_of(inode).size;
     if (size == 0) {
         fputs("it is empty", out);
@@ -207,20 +211,20 @@ static void show_end(FILE *out, const struct stop *stop, const struct card *card
         fprintf(out, ", but no place for a block behind %" PRIu32, last_index_of(inode));
 }
 
-void show_stop(FILE *out, const struct stop *stop, const struct card *card)
+void show_stop(FILE *out, const struct stop *stop, const struct source *source)
 {
     if (stop->answer == HARPTIMBER_NO_NAME)
         show_no_name(out, stop);
     else if (stop->answer == HARPTIMBER_PAST_END)
-        show_end(out, stop, card);
+        show_end(out, stop, source);
     else if (stop->answer == HARPTIMBER_NO_NODE)
-        show_no_node(out, stop, card);
+        show_no_node(out, stop, source);
     else if (stop->answer == HARPTIMBER_NODE_OUTSIDE || stop->answer == HARPTIMBER_DATA_OUTSIDE)
-        show_outside(out, stop, card);
+        show_outside(out, stop, source);
     else if (stop->answer == HARPTIMBER_FOREIGN_NODE)
-        show_foreign(out, stop, card);
+        show_foreign(out, stop, source);
     else if (stop->answer == HARPTIMBER_KIND_NOT_READ)
-        show_kind(out, stop, card);
+        show_kind(out, stop, source);
     else if (stop->answer == HARPTIMBER_MALFORMED_SLOT)
         show_malformed(out, stop);
 }

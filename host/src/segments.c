@@ -148,7 +148,7 @@ static void show_words(const struct report *report)
     uint32_t answer = report->told.answer, count = report->told.count;
     show(stdout, report->card.path);
     printf(": ");
-    show_with_reason(stdout, answer, card_meaning_of(answer), report->reason);
+    show_with_reason(stdout, answer, whole_meaning_of(answer), report->reason);
     if (answer != HARPTIMBER_DATA) {
         printf("\n");
         return;
@@ -187,7 +187,7 @@ static void json_off(struct json *json, const struct report *report)
 static void show_json(const struct report *report)
 {
     uint32_t answer = report->told.answer;
-    struct json json = json_begin(stdout, "segments", answer, card_meaning_of(answer));
+    struct json json = json_begin(stdout, "segments", answer, whole_meaning_of(answer));
     if (report->reason != NULL)
         json_string(&json, "reason", report->reason);
     json_causes(&json, report->causes);

@@ -4,7 +4,7 @@
 #include <stdarg.h>
 #include <string.h>
 
-size_t utf8_read(const char *text, uint32_t *character)
+size_t utf8_read(const char *text, size_t text_len, uint32_t *character)
 {
     /* For each number of bytes: how the first one looks, and the lowest character that needs so many. */
     static const struct {
@@ -15,12 +15,12 @@ size_t utf8_read(const char *text, uint32_t *character)
     size_t len = 1;
     while (len <= 4 && (lead & forms[len - 1].mask) != forms[len - 1].bits)
         len++;
-    if (len > 4)
+    if (len > 4 || len > text_len)
         return 0;
     uint32_t value = lead & (uint8_t)~forms[len - 1].mask;
     for (size_t i = 1; i < len; i++) {
         uint8_t next = (uint8_t)text[i];
-        if ((next & 0xC0) != 0x80) /* the 0 at the text's end too */
+        if ((next & 0xC0) != 0x80)
             return 0;
         value = value << 6 | (next & 0x3F);
     }
@@ -53,7 +53,7 @@ int show_bytes(FILE *out, const char *text, size_t len)
     int printed = len == 0 ? fprintf(out, "''") : 0;
     for (size_t at = 0; at < len;) {
         uint32_t character = 0;
-        size_t bytes = utf8_read(text + at, &character);
+        size_t bytes = utf8_read(text + at, len - at, &character);
         printed += show_character(out, text + at, bytes, character);
         at += bytes == 0 ? 1 : bytes;
     }

@@ -7,8 +7,8 @@
 #include <stdint.h>
 #include <stdio.h>
 
-/* Reads a text's first character. Returns how many bytes it has, 0 if they aren't UTF-8. */
-size_t utf8_read(const char *text, uint32_t *character);
+/* Reads the first character of a text that has at least one byte. Returns how many bytes it has, 0 if they aren't UTF-8. */
+size_t utf8_read(const char *text, size_t text_len, uint32_t *character);
 
 /* Whether a terminal would act on a character instead of showing it. */
 bool is_control(uint32_t character);
@@ -19,7 +19,7 @@ bool is_control(uint32_t character);
  */
 int show(FILE *out, const char *text);
 
-/* The same for a text that may have zero bytes, and has one more behind its end. */
+/* The same for a text that may have zero bytes. */
 int show_bytes(FILE *out, const char *text, size_t len);
 
 /*

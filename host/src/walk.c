@@ -2,25 +2,17 @@
 
 #include <string.h>
 
-#include "opening.h"
 #include "path.h"
-
-/* What the library never answers. */
-static const uint32_t NO_ANSWER = UINT32_MAX;
 
 /* A bucket has 4 blocks from hash level 31 on, but no directory has a block as far as that. */
 enum { BUCKET_BLOCKS = 2 };
 
 enum { SLOT_BYTES = 8, ENTRY_BYTES = 11 };
 
-struct walk walk_begin(const struct card *card)
+struct walk walk_begin(struct source source)
 {
-    struct walk walk = {.card = card, .inodes = {DISK_ROOT}};
-    const uint8_t *superblock = opening_superblock(card);
-    if (superblock != NULL) {
-        walk.main_first = disk_area_first(superblock, DISK_MAIN);
-        walk.main_end = disk_area_end(superblock, DISK_MAIN);
-    }
+    struct walk walk = {.source = source, .inodes = {DISK_ROOT}};
+    source_bounds(&source, &walk.main_first, &walk.main_end);
     return walk;
 }
 
@@ -50,19 +42,22 @@ static void meet(struct walk *walk, enum harptimber_kind kind, uint32_t number, 
 
 const uint8_t *walk_node(struct walk *walk, uint32_t number, uint32_t inode, uint32_t place)
 {
-    struct harptimber_entry entry = harptimber_node_lookup(walk->card->bytes, walk->card->len, number);
+    struct harptimber_entry entry = source_entry(&walk->source, number);
     struct stop at = {.owner = walk->owner, .node = number, .inode = inode, .place = place, .address = entry.address};
     meet(walk, HARPTIMBER_NODE_DIFFERS, number, number, place);
     meet(walk, HARPTIMBER_BLOCK_DIFFERS, entry.address, number, place);
-    const uint8_t *node = disk_block(walk->card, entry.address);
+    const uint8_t *node = source_block(&walk->source, entry.address);
     if (entry.answer != HARPTIMBER_DATA && entry.answer != HARPTIMBER_NO_NODE)
-        at.answer = NO_ANSWER; /* not on a card that opens */
+        at.answer = NO_ANSWER; /* not on a card that opens, nor by a keep file that was written as one */
     else if (entry.answer == HARPTIMBER_NO_NODE || entry.address == 0)
         at.answer = HARPTIMBER_NO_NODE;
-    else if (node == NULL || !is_main(walk, entry.address))
+    else if (!is_main(walk, entry.address))
         at.answer = HARPTIMBER_NODE_OUTSIDE;
+    else if (node == NULL)
+        at.answer = NO_ANSWER;
     else if (entry.inode != inode || !belongs(node, &at))
         at.answer = HARPTIMBER_FOREIGN_NODE;
+    walk->address = entry.address;
     walk->stop = at;
     return at.answer == HARPTIMBER_DATA ? node : NULL;
 }
@@ -71,12 +66,15 @@ const uint8_t *walk_address(struct walk *walk, uint32_t address, uint32_t index)
 {
     if (address == 0 || address == UINT32_MAX)
         return NULL;
-    const uint8_t *block = disk_block(walk->card, address);
+    const uint8_t *block = source_block(&walk->source, address);
     meet(walk, HARPTIMBER_BLOCK_DIFFERS, address, 0, 0);
+    walk->address = address;
     if (block != NULL && is_main(walk, address))
         return block;
-    walk->stop = (struct stop){
-        .answer = HARPTIMBER_DATA_OUTSIDE, .owner = walk->owner, .index = index, .address = address};
+    walk->stop = (struct stop){.answer = is_main(walk, address) ? NO_ANSWER : (uint32_t)HARPTIMBER_DATA_OUTSIDE,
+                               .owner = walk->owner,
+                               .index = index,
+                               .address = address};
     return NULL;
 }
 
@@ -178,14 +176,13 @@ bool dentry_from(const struct dentries *dentries, uint32_t slot, struct dentry *
     return true;
 }
 
-void stop_at_malformed(struct walk *walk, const struct dentries *dentries, const struct dentry *dentry,
-                       uint32_t address, uint32_t index)
+void stop_at_malformed(struct walk *walk, const struct dentries *dentries, const struct dentry *dentry, uint32_t index)
 {
     walk->stop = (struct stop){
         .answer = HARPTIMBER_MALFORMED_SLOT,
         .owner = walk->owner,
         .index = index,
-        .address = address,
+        .address = walk->address,
         .is_inline = dentries->is_inline,
         .slot = dentry->slot,
         .len = dentry->len,
@@ -207,8 +204,7 @@ static bool seek_among(struct walk *walk, struct search *search, const struct de
     struct dentry dentry;
     for (uint32_t slot = 0; dentry_from(dentries, slot, &dentry); slot = dentry.slot + slots_of(dentry.len)) {
         if (dentry.name == NULL) {
-            size_t at = (size_t)(dentries->bytes - walk->card->bytes);
-            stop_at_malformed(walk, dentries, &dentry, (uint32_t)(at / BLOCK_SIZE), index);
+            stop_at_malformed(walk, dentries, &dentry, index);
             return true;
         }
         search->inode = dentry.inode;
@@ -332,9 +328,9 @@ static void walk_on(struct walk *walk, const char *path, size_t len, uint32_t in
         walk_file(walk, inode, index);
 }
 
-struct stop walk_pull(const struct card *card, const char *path, size_t len, uint32_t index)
+struct stop walk_pull(struct source source, const char *path, size_t len, uint32_t index)
 {
-    struct walk walk = walk_begin(card);
+    struct walk walk = walk_begin(source);
     walk_on(&walk, path, len, index);
     return walk.stop;
 }
@@ -344,24 +340,24 @@ static bool is_at_directory(const struct walk *walk)
 {
     const struct stop *stop = &walk->stop;
     return stop->answer == HARPTIMBER_KIND_NOT_READ && stop->owner.is_file &&
-           disk_inode_of(disk_block(walk->card, stop->address)).mode >> 12 == DISK_DIRECTORY;
+           disk_inode_of(source_block(&walk->source, stop->address)).mode >> 12 == DISK_DIRECTORY;
 }
 
-struct role walk_role(const struct card *card, const char *path, uint32_t index,
+struct role walk_role(struct source source, const char *path, size_t len, uint32_t index,
                       const struct harptimber_compared *difference)
 {
-    struct walk walk = walk_begin(card);
+    struct walk walk = walk_begin(source);
     walk.sought = difference;
-    walk_on(&walk, path, strlen(path), index);
+    walk_on(&walk, path, len, index);
     if (is_at_directory(&walk))
         walk.role.owner.is_file = false;
     return walk.role;
 }
 
-const uint8_t *walk_inode(const struct card *card, const char *path, uint32_t answer)
+const uint8_t *walk_inode(struct source source, const char *path, size_t len, uint32_t answer)
 {
     if (answer != HARPTIMBER_PAST_END && answer != HARPTIMBER_KIND_NOT_READ)
         return NULL;
-    struct stop stop = walk_pull(card, path, strlen(path), UINT32_MAX);
-    return stop.answer == answer && stop.owner.is_file ? disk_block(card, stop.address) : NULL;
+    struct stop stop = walk_pull(source, path, len, UINT32_MAX);
+    return stop.answer == answer && stop.owner.is_file ? source_block(&source, stop.address) : NULL;
 }

@@ -1,12 +1,13 @@
 /*
  * A pull's walk through a card's nodes, made once more in C: to say where it stopped, to name what it met, and to
  * list directories. Nothing of this is proved. A pull's answer is the library's, and where this doesn't stop with the
- * same, nothing is said of it.
+ * same, nothing is said of it. It may go by a keep file as well as by the card that this was written from.
  */
 #ifndef WALK_H
 #define WALK_H
 
 #include "disk.h"
+#include "source.h"
 
 /* Whose nodes and blocks a walk is at: those of a directory on the path, or of what all of the path leads to. */
 struct owner {
@@ -36,9 +37,10 @@ struct role {
 };
 
 struct walk {
-    const struct card *card;
+    struct source source;
     uint64_t main_first, main_end;
     struct owner owner;
+    uint32_t address; /* the card's block that was read last */
     uint32_t names;                              /* so many of the path's were followed, */
     uint32_t inodes[HARPTIMBER_NAMES_MOST + 1]; /* from the root directory's inode to these */
     struct stop stop;
@@ -46,8 +48,8 @@ struct walk {
     struct role role;
 };
 
-/* On a card that opens; it starts in the root directory. */
-struct walk walk_begin(const struct card *card);
+/* On a card that opens, or by a keep file; it starts in the root directory. */
+struct walk walk_begin(struct source source);
 
 /* A node's block, if it is the one asked for; null where the walk stops. */
 const uint8_t *walk_node(struct walk *walk, uint32_t number, uint32_t inode, uint32_t place);
@@ -62,14 +64,14 @@ bool walk_path(struct walk *walk, const char *path, size_t len);
 uint32_t walk_number(const struct walk *walk);
 
 /* Walks as a pull does, to its end or to where it stops. */
-struct stop walk_pull(const struct card *card, const char *path, size_t len, uint32_t index);
+struct stop walk_pull(struct source source, const char *path, size_t len, uint32_t index);
 
-/* What a compare found to differ is to the pull on this card. */
-struct role walk_role(const struct card *card, const char *path, uint32_t index,
+/* What a compare found to differ is to this pull. */
+struct role walk_role(struct source source, const char *path, size_t len, uint32_t index,
                       const struct harptimber_compared *difference);
 
 /* The inode's block of a file, by a walk past its end, if a pull there answers so; null if that doesn't come so far. */
-const uint8_t *walk_inode(const struct card *card, const char *path, uint32_t answer);
+const uint8_t *walk_inode(struct source source, const char *path, size_t len, uint32_t answer);
 
 /* How many addresses, or numbers of nodes, a node has that is no inode. */
 enum { NODE_SLOTS = 1018 };
@@ -116,8 +118,7 @@ bool dentry_from(const struct dentries *dentries, uint32_t slot, struct dentry *
 /* How many slots a name needs. */
 uint32_t slots_of(uint32_t len);
 
-/* Stops at a malformed entry of these, in this block of the card, which is this one of the directory, or its inode. */
-void stop_at_malformed(struct walk *walk, const struct dentries *dentries, const struct dentry *dentry,
-                       uint32_t address, uint32_t index);
+/* Stops at a malformed entry of these, in the block that was read last, which is this one of the directory, or its inode. */
+void stop_at_malformed(struct walk *walk, const struct dentries *dentries, const struct dentry *dentry, uint32_t index);
 
 #endif

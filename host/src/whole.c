@@ -178,10 +178,10 @@ const char *whole_begin(struct whole *whole, const char *path, const struct stat
     return why;
 }
 
-/* Whether what was written has arrived, as far as closing a file tells. */
+/* Whether what was written has arrived: on the medium, and as far as closing a file tells. */
 static bool has_arrived(int file)
 {
-    int copy = dup(file);
+    int copy = fsync(file) == 0 ? dup(file) : -1;
     return copy >= 0 && close(copy) == 0;
 }
 
@@ -198,10 +198,26 @@ static bool name_file(struct whole *whole)
     return true;
 }
 
+/* Puts the name on the medium too. Where that fails, a cut may leave what was there before. */
+static void settle_name(const struct whole *whole)
+{
+    int folder = openat(whole->folder, ".", O_RDONLY | O_DIRECTORY | O_CLOEXEC);
+    if (folder < 0)
+        return;
+    fsync(folder);
+    close(folder);
+}
+
+/* A name is given only to bytes that have arrived, so that a cut at any time leaves the old file or the new one, whole. */
 const char *whole_end(struct whole *whole)
 {
+    bool arrived = has_arrived(whole->file);
+    int error = errno;
     sigset_t before = hold_signals();
-    const char *why = has_arrived(whole->file) && name_file(whole) ? NULL : strerror(errno);
+    bool named = arrived && name_file(whole);
+    const char *why = named ? NULL : strerror(arrived ? errno : error);
+    if (named)
+        settle_name(whole);
     whole_drop(whole);
     let_signals(before);
     return why;

@@ -1,4 +1,7 @@
-/* A file that is there under its name only once it is whole. Until then what the name had before stays. */
+/*
+ * A file that is there under its name only once it is whole, also if the power fails. Until then what the name had before
+ * stays.
+ */
 #ifndef WHOLE_H
 #define WHOLE_H
 

@@ -4,6 +4,7 @@
 #include <stdlib.h>
 #include <string.h>
 
+#include "keep_fault.h"
 #include "opening.h"
 #include "partitions.h"
 #include "path.h"
@@ -26,7 +27,7 @@ const char *lookup_meaning_of(uint32_t answer)
     }
 }
 
-const char *card_meaning_of(uint32_t answer)
+const char *whole_meaning_of(uint32_t answer)
 {
     return answer == HARPTIMBER_DATA ? "can be read" : harptimber_answer_words(answer);
 }
@@ -49,7 +50,7 @@ static void show_shorter(FILE *out, const struct card *card)
 /* Says how long it is: the whole file, or what options chose of it. */
 static void show_bad_length(FILE *out, const struct card *card)
 {
-    fputs(card->len == card->file_len ? "the image has " : "the chosen part has ", out);
+    fputs(card->len == card->file.len ? "the image has " : "the chosen part has ", out);
     if (card->len % BLOCK_SIZE != 0) {
         show_count(out, card->len, "byte");
         fputs(", which isn't a whole number of 4,096-byte blocks", out);
@@ -83,7 +84,7 @@ static bool is_taken(const struct partitions *partitions, const struct card *car
 static bool show_disk(FILE *out, const struct card *card)
 {
     struct partitions partitions;
-    partitions_read(&partitions, card->map, card->file_len);
+    partitions_read(&partitions, card->file.bytes, card->file.len);
     if (partitions.table == NULL || is_taken(&partitions, card))
         return false;
     fputs("; ", out);
@@ -99,13 +100,14 @@ static bool show_disk(FILE *out, const struct card *card)
 /* Why a call is out of shape. With neither card nor path it is place's, which has nothing else to refuse. */
 static void show_out_of_shape(FILE *out, const struct asked *asked)
 {
-    if (asked->card != NULL && !length_is_in_shape(asked->card)) {
-        show_bad_length(out, asked->card);
-        show_disk(out, asked->card);
+    const struct card *card = asked->source.card;
+    if (card != NULL && !length_is_in_shape(card)) {
+        show_bad_length(out, card);
+        show_disk(out, card);
     } else if (asked->path == NULL) {
-        fputs(asked->card == NULL ? "A has to be 873 or 923" : "", out);
+        fputs(card == NULL ? "A has to be 873 or 923" : "", out);
     } else {
-        (asked->card == NULL ? show_name_fault : show_path_fault)(out, asked->path, asked->len);
+        (card == NULL ? show_name_fault : show_path_fault)(out, asked->path, asked->len);
     }
 }
 
@@ -141,30 +143,41 @@ static void show_unopened(FILE *out, const struct card *card, uint32_t answer)
 /* A walk that stops elsewhere than the library found no reason. */
 static void show_pull_reason(FILE *out, uint32_t answer, const struct asked *asked)
 {
-    struct stop stop = walk_pull(asked->card, asked->path, asked->len, asked->index);
+    struct stop stop = walk_pull(asked->source, asked->path, asked->len, asked->index);
     if (stop.answer == answer)
-        show_stop(out, &stop, asked->card);
+        show_stop(out, &stop, &asked->source);
 }
 
+/* No pull is kept that was refused before its walk. If a keep file says so all the same, nothing is known of why. */
 static void show_reason(FILE *out, uint32_t answer, const struct asked *asked)
 {
-    if (answer == HARPTIMBER_OUT_OF_SHAPE)
+    const struct keep_file *keep = asked->source.keep;
+    if (keep != NULL && answer == HARPTIMBER_BAD_KEEP_FILE)
+        show_keep_fault(out, keep->bytes, keep->len);
+    else if (keep != NULL && is_before_walk(answer))
+        return;
+    else if (answer == HARPTIMBER_OUT_OF_SHAPE)
         show_out_of_shape(out, asked);
-    else if (answer >= HARPTIMBER_NO_SUPERBLOCK && answer <= HARPTIMBER_UNREADABLE)
-        show_unopened(out, asked->card, answer);
+    else if (is_before_walk(answer))
+        show_unopened(out, asked->source.card, answer);
     else if (asked->is_pull && !is_block(answer))
         show_pull_reason(out, answer, asked);
 }
 
-struct asked pull_of(const struct card *card, const char *path, uint32_t index)
+struct asked pull_of(struct source source, const char *path, size_t len, uint32_t index)
 {
-    return (struct asked){.card = card, .path = path, .len = strlen(path), .is_pull = true, .index = index};
+    return (struct asked){.source = source, .path = path, .len = len, .is_pull = true, .index = index};
 }
 
-/* A call that is no pull. */
+struct asked reading_of(const struct keep_file *keep)
+{
+    return (struct asked){.source = source_of_keep(keep)};
+}
+
+/* A call on a card, or with a name, that is no pull. */
 static struct asked call_of(const struct card *card, const char *name)
 {
-    return (struct asked){.card = card, .path = name, .len = name == NULL ? 0 : strlen(name)};
+    return (struct asked){.source = source_of_card(card), .path = name, .len = name == NULL ? 0 : strlen(name)};
 }
 
 static char *reason_of_asked(uint32_t answer, const struct asked *asked)
@@ -242,9 +255,9 @@ void json_asked(struct json *json, uint32_t answer, const struct asked *asked)
 {
     struct opening opening;
     json_asked_as(json, "reason", answer, asked);
-    if (answer != HARPTIMBER_UNREADABLE)
+    if (answer != HARPTIMBER_UNREADABLE || asked->source.card == NULL)
         return;
-    opening_read(&opening, asked->card);
+    opening_read(&opening, asked->source.card);
     json_causes(json, opening.causes);
 }
 

@@ -5,26 +5,29 @@
 #include <stdint.h>
 #include <stdio.h>
 
-#include "card.h"
 #include "json.h"
+#include "source.h"
 
 /* What an answer number means for node and place, which read no file. */
 const char *lookup_meaning_of(uint32_t answer);
 
-/* What it means for info and segments, which are about a card as a whole. */
-const char *card_meaning_of(uint32_t answer);
+/* What it means for info and segments, which are about a card as a whole, and for show, which is about a keep file. */
+const char *whole_meaning_of(uint32_t answer);
 
 /* A call of the library, as far as its words need it. */
 struct asked {
-    const struct card *card; /* null if the call takes none */
-    const char *path;        /* a pull's, or the one name to hash; null if the call takes neither */
-    size_t len;              /* its bytes */
+    struct source source; /* the card; or the keep file that is read, or has what the pull gave; neither if there is none */
+    const char *path;     /* a pull's, or the one name to hash; null if the call takes neither */
+    size_t len;           /* its bytes */
     bool is_pull;
     uint32_t index;
 };
 
 /* A pull of a file's block. */
-struct asked pull_of(const struct card *card, const char *path, uint32_t index);
+struct asked pull_of(struct source source, const char *path, size_t len, uint32_t index);
+
+/* The reading of a keep file. */
+struct asked reading_of(const struct keep_file *keep);
 
 /* Whether two calls with this answer have one and the same reason. */
 bool same_reason(uint32_t answer, const struct asked *one, const struct asked *other);

@@ -7,13 +7,14 @@
  *     put OFFSET BYTES                       damages it
  *     undo                                   takes the damage back
  *     pull PATH INDEX ANSWER KEPT FRESH      a pull's answer, and those of compares with the sound image
- *                                            that have the damaged one as the kept and as the new one
+ *                                            that have the damaged one as the kept and as the new one; also by
+ *                                            its keep file, which is written and read again
  *     node NUMBER ANSWER
  *     segments COUNT ANSWER                  a segment report with room in its list for so many main segments,
  *                                            which is just enough, with a little more, and with less
  *     cut LEN PATH INDEX ANSWER              a pull and a report from the first bytes of the image
  *     plant SLICE PATH INDEX                 a pull of data with that slice shorter than the call is told,
- *                                            which has to end in a fault
+ *                                            which has to end in a fault; room and file are a keep file's
  *     plant_report SLICE                     the same for a report that lists a segment
  *     unset                                  a compare with lists that were never written, for valgrind
  *
@@ -36,7 +37,7 @@
 
 /* What a call is lent and told, and what it returned. Each call takes some of it; the name is a pull's path. */
 struct call {
-    struct slice image, fresh, name, block, nodes, blocks, list;
+    struct slice image, fresh, name, block, nodes, blocks, list, room, file;
     uint32_t index, node_count, block_count;
     struct harptimber_pulled pulled;
     struct harptimber_compared compared;
@@ -44,6 +45,8 @@ struct call {
     struct harptimber_hashed hashed;
     struct harptimber_place place;
     struct harptimber_segments segments;
+    struct harptimber_kept kept;
+    struct harptimber_keep_fields fields;
 };
 
 static size_t line_number; /* of the script; 0 outside */
@@ -88,10 +91,29 @@ static void make_report(void *with)
     c->segments = harptimber_segment_report(c->image.bytes, c->image.len, c->list.bytes, c->list.len);
 }
 
+static void make_keep(void *with)
+{
+    struct call *c = with;
+    c->kept = harptimber_keep(c->image.bytes, c->image.len, c->name.bytes, c->name.len, c->index, c->room.bytes, c->room.len);
+}
+
+static void make_keep_read(void *with)
+{
+    struct call *c = with;
+    c->fields = harptimber_keep_read(c->file.bytes, c->file.len);
+}
+
+static void make_keep_compare(void *with)
+{
+    struct call *c = with;
+    c->compared = harptimber_keep_compare(c->file.bytes, c->file.len, c->fresh.bytes, c->fresh.len);
+}
+
 /* Says where a call went wrong, and which slice was left if one was. */
 static void say(const char *what, const struct call *c, int faulted)
 {
-    const struct slice *slices[] = {&c->image, &c->fresh, &c->name, &c->block, &c->nodes, &c->blocks, &c->list};
+    const struct slice *slices[] = {&c->image, &c->fresh,  &c->name, &c->block, &c->nodes,
+                                    &c->blocks, &c->list, &c->room, &c->file};
     printf("FAILED %s, line %zu of the script, slices %s guard pages", what, line_number,
            placement == BEHIND_GUARD ? "behind" : "before");
     for (size_t i = 0; faulted && i < COUNT_OF(slices); i++) {
@@ -176,6 +198,8 @@ static void give_room_back(struct call *c)
     give_back(&c->blocks);
 }
 
+static unsigned turn; /* so that pulls take turns in what else is tried with them */
+
 /* A pull. What its answer leaves untouched can't be written. */
 static void expect_pull(struct call *c, const struct lens *lens, uint32_t answer)
 {
@@ -245,11 +269,20 @@ static void look_up_nodes(const struct call *pull)
     }
 }
 
-/* Whether a report's list is as it was behind what was listed. On the heap it was never written. */
-static int rest_stays(const struct call *c)
+/* A slice that is filled; but not on the heap, where valgrind sees what was never written. */
+static struct slice lend_filled(const char *name, size_t len)
 {
-    for (size_t i = 4 * c->segments.count; placement != ON_HEAP && i < c->list.len; i++)
-        if (c->list.bytes[i] != PATTERN)
+    struct slice s = lend(name, len);
+    if (placement != ON_HEAP && len != 0)
+        memset(s.bytes, PATTERN, len);
+    return s;
+}
+
+/* Whether such a slice is as it was from some byte on. */
+static int rest_stays(const struct slice *s, size_t at)
+{
+    for (; placement != ON_HEAP && at < s->len; at++)
+        if (s->bytes[at] != PATTERN)
             return 0;
     return 1;
 }
@@ -257,15 +290,13 @@ static int rest_stays(const struct call *c)
 /* A report with so many bytes lent for its list. What is refused can't write to them. */
 static void expect_report(struct slice image, size_t list_len, uint32_t answer)
 {
-    struct call c = {.image = image, .list = lend("segment list", list_len)};
-    if (placement != ON_HEAP && list_len != 0)
-        memset(c.list.bytes, PATTERN, list_len);
+    struct call c = {.image = image, .list = lend_filled("segment list", list_len)};
     if (refused(answer))
         seal(&c.list);
     if (stays_inside("segment report", make_report, &c)) {
         expect("segment report", &c, c.segments.answer, answer);
         use(c.list.bytes, 4 * c.segments.count);
-        if (fails(rest_stays(&c)))
+        if (fails(rest_stays(&c.list, 4 * c.segments.count)))
             say("segment report, which writes behind its count", &c, 0);
     }
     give_back(&c.list);
@@ -282,8 +313,6 @@ static void expect_reports(struct slice image, size_t count, uint32_t answer)
     expect_report(image, 0, if_short);
     expect_report(image, count == 0 ? 3 : least_list - 1, if_short);
 }
-
-static unsigned turn; /* so that pulls take turns in what else is tried with them */
 
 static void expect_odd_room(struct call *c, uint32_t answer)
 {
@@ -311,6 +340,66 @@ static void expect_odd_compare(const struct call *pull, struct slice fresh, uint
     else if (too_many && !refused(answer))
         answer = HARPTIMBER_OUT_OF_SHAPE;
     expect_compare(pull, fresh, beyond, answer);
+}
+
+/* A keep with so many bytes lent for the file. Unless it is written, it can't be. Returns whether it was. */
+static int expect_keep(struct call *c, size_t room_len, uint32_t answer)
+{
+    c->room = lend_filled("room", room_len);
+    if (answer != HARPTIMBER_DATA)
+        seal(&c->room);
+    c->kept = (struct harptimber_kept){.answer = ANY}; /* if it ends in a fault */
+    if (stays_inside("keep", make_keep, c)) {
+        expect("keep", c, c->kept.answer, answer);
+        use(c->room.bytes, c->kept.length);
+        if (fails(rest_stays(&c->room, c->kept.length)))
+            say("keep, which writes behind the file", c, 0);
+    }
+    return c->kept.answer == HARPTIMBER_DATA;
+}
+
+/* Reads a keep file of these bytes, and compares it with an image. */
+static void expect_file(const uint8_t *bytes, size_t len, struct slice fresh, uint32_t read, uint32_t answer)
+{
+    struct call c = {.file = copied("keep file", bytes, len), .fresh = fresh};
+    if (stays_inside("read of a keep file", make_keep_read, &c))
+        expect("read of a keep file", &c, c.fields.answer, read);
+    if (stays_inside("compare of a keep file", make_keep_compare, &c))
+        expect("compare of a keep file", &c, c.compared.answer, answer);
+    give_back(&c.file);
+}
+
+/* The same of a file that was cut, or in which a number is FFFFFFFF: of its header, of its bounds and of each list's last entry. */
+static void expect_odd_file(uint8_t *bytes, const struct harptimber_pulled *pulled, size_t len, struct slice fresh)
+{
+    size_t bounds = len - 4100 * (size_t)pulled->block_count - 16 * (size_t)pulled->node_count - 8;
+    const size_t cuts[] = {0, 1, 23, 24, 25, bounds, len - 1};
+    const size_t places[] = {0, 4, 8, 12, 16, 20, bounds, bounds + 4, bounds + 8 + 16 * (size_t)(pulled->node_count - 1), len - 4100};
+    size_t cut = cuts[turn % COUNT_OF(cuts)], place = places[turn % COUNT_OF(places)];
+    expect_file(bytes, cut, fresh, HARPTIMBER_BAD_KEEP_FILE, HARPTIMBER_BAD_KEEP_FILE);
+    memset(bytes + place, 0xFF, 4);
+    expect_file(bytes, len, fresh, place < 24 ? HARPTIMBER_BAD_KEEP_FILE : ANY, place < 24 ? HARPTIMBER_BAD_KEEP_FILE : ANY);
+}
+
+/* The keep file of what a pull gave, in a room of just its length and in others, and how it compares with an image. */
+static void expect_keeps(const struct call *pull, struct slice fresh, uint32_t answer)
+{
+    struct call c = {.image = pull->image, .name = pull->name, .index = pull->index};
+    uint32_t pulled = pull->pulled.answer, if_short = refused(pulled) ? pulled : (uint32_t)HARPTIMBER_NO_ROOM;
+    size_t len = HARPTIMBER_KEEP_LENGTH_OF(c.name.len, pull->pulled.node_count, pull->pulled.block_count);
+    const size_t less[] = {0, 1, 24, BLOCK_SIZE, len - 1};
+    if (pulled == ANY) /* it ended in a fault */
+        return;
+    expect_keep(&c, less[turn % COUNT_OF(less)], if_short);
+    give_back(&c.room);
+    expect_keep(&c, len + turn % 4 + 1, refused(pulled) ? pulled : (uint32_t)HARPTIMBER_DATA);
+    give_back(&c.room);
+    if (expect_keep(&c, len, refused(pulled) ? pulled : (uint32_t)HARPTIMBER_DATA)) {
+        expect_file(c.room.bytes, len, fresh, HARPTIMBER_DATA, answer);
+        expect_file(c.room.bytes, len, c.image, HARPTIMBER_DATA, HARPTIMBER_SAME);
+        expect_odd_file(c.room.bytes, &pull->pulled, len, fresh);
+    }
+    give_back(&c.room);
 }
 
 static const struct beyond nothing;
@@ -354,12 +443,14 @@ static void run_pull(struct slice name, uint32_t index, uint32_t answer, uint32_
     expect_compare(&c, sound, &nothing, as_kept);
     expect_compare(&c, damaged, &nothing, with_itself(answer));
     expect_odd_compare(&c, sound, as_kept);
+    expect_keeps(&c, sound, as_kept);
     look_up_nodes(&c);
     give_room_back(&c);
     expect_odd_room(&c, answer);
     c.image = sound;
     expect_pull(&c, &least, ANY);
     expect_compare(&c, damaged, &nothing, as_fresh);
+    expect_keeps(&c, damaged, as_fresh);
     give_room_back(&c);
     turn++;
 }
@@ -375,10 +466,12 @@ static void run_cut(size_t len, struct slice name, uint32_t index, uint32_t answ
     expect_pull(&c, &least, answer);
     look_up_nodes(&c);
     expect_compare(&c, damaged, &nothing, ANY);
+    expect_keeps(&c, damaged, ANY);
     give_room_back(&c);
     c.image = damaged;
     expect_pull(&c, &least, ANY);
     expect_compare(&c, cut, &nothing, ANY);
+    expect_keeps(&c, cut, ANY);
     give_room_back(&c);
     give_back(&cut);
 }
@@ -410,6 +503,22 @@ static void expect_noticed(const char *which, void (*make)(void *), struct call 
         printf("FAILED to notice a call that leaves the %s\n", which);
 }
 
+/* A keep file that is told to be longer than it is, or to have a longer room. It is compared with its own image, to the last byte. */
+static void run_plant_keep(const char *which, struct call *c)
+{
+    size_t len = HARPTIMBER_KEEP_LENGTH_OF(c->name.len, c->pulled.node_count, c->pulled.block_count);
+    if (!expect_keep(c, len, HARPTIMBER_DATA))
+        return;
+    c->fresh = c->image;
+    if (strcmp(which, "file") == 0) {
+        c->file = shorter(&c->room, len - 1);
+        expect_noticed(which, make_keep_compare, c);
+    } else {
+        c->room = shorter(&c->room, len - 1);
+        expect_noticed(which, make_keep, c);
+    }
+}
+
 /* A pull that is told more than there is of one slice. */
 static void run_plant(const char *which, struct slice name, uint32_t index)
 {
@@ -418,6 +527,10 @@ static void run_plant(const char *which, struct slice name, uint32_t index)
     expect_pull(&c, &least, HARPTIMBER_DATA);
     if (c.pulled.answer != HARPTIMBER_DATA)
         return;
+    if (strcmp(which, "room") == 0 || strcmp(which, "file") == 0) {
+        run_plant_keep(which, &c);
+        return;
+    }
     struct {
         struct slice *slice;
         const char *name;
@@ -731,6 +844,24 @@ static void expect_null(const char *what, void (*make)(void *), struct call *c, 
     *slice = lent;
 }
 
+/* The same for keep files. A room at null is tried with cards that open, too, in a script's pulls. */
+static void test_keep_nulls(struct call *c)
+{
+    /* As short as a keep file can be: one node, that is out of range. */
+    static const uint8_t least_file[HARPTIMBER_KEEP_LENGTH_OF(0, 1, 0)] = {
+        [4] = 1, [12] = 4140 & 255, [13] = 4140 >> 8, [16] = 4156 & 255, [17] = 4156 >> 8, [20] = 4156 & 255, [21] = 4156 >> 8, [4144] = 9};
+    c->room = lend("room", HARPTIMBER_KEEP_BYTES_OF(1));
+    c->file = copied("keep file", least_file, sizeof least_file);
+    expect_null("keep", make_keep, c, &c->image, &c->kept.answer, HARPTIMBER_OUT_OF_SHAPE);
+    expect_null("keep", make_keep, c, &c->name, &c->kept.answer, HARPTIMBER_OUT_OF_SHAPE);
+    expect_null("keep", make_keep, c, &c->room, &c->kept.answer, HARPTIMBER_NO_SUPERBLOCK);
+    expect_null("read of a keep file", make_keep_read, c, &c->file, &c->fields.answer, HARPTIMBER_BAD_KEEP_FILE);
+    expect_null("compare of a keep file", make_keep_compare, c, &c->file, &c->compared.answer, HARPTIMBER_BAD_KEEP_FILE);
+    expect_null("compare of a keep file", make_keep_compare, c, &c->fresh, &c->compared.answer, HARPTIMBER_OUT_OF_SHAPE);
+    give_back(&c->room);
+    give_back(&c->file);
+}
+
 /* No bytes at null, for each slice of each call. Cards that open have such lists too, in a script's pulls. */
 static void test_nulls(void)
 {
@@ -752,6 +883,7 @@ static void test_nulls(void)
     expect_null("segment report", make_report, &c, &c.image, &c.segments.answer, HARPTIMBER_OUT_OF_SHAPE);
     expect_null("segment report", make_report, &c, &c.list, &c.segments.answer, HARPTIMBER_NO_SUPERBLOCK);
     expect_null("name hash", make_hash, &c, &c.name, &c.hashed.answer, HARPTIMBER_OUT_OF_SHAPE);
+    test_keep_nulls(&c);
     give_room_back(&c);
     give_back(&c.list);
     give_back(&c.name);

@@ -7,8 +7,6 @@
 
 enum { ROOM = 3688, ROOM_WITH_XATTR = 3488, SLOTS = 182 };
 
-static const char name[] = "road.bin";
-
 /* What a walk rests on: the root's inode, with a block of entries or without, and the file's inode if it comes so far. */
 enum walked { ROOT_ALONE, THROUGH_INODE, THROUGH_BLOCK };
 
@@ -32,19 +30,6 @@ static void expect(const char *what, uint64_t value, uint32_t answer, uint32_t c
                buffer_is(answer, count) ? "as expected" : "other");
 }
 
-/* A root with the file's entry in a block, and inline in slot 3. */
-static void put_root(const struct inode *inode)
-{
-    put_inode(ROOT, ROOT_AT, inode);
-    struct entries in_block = entries_in_block(ENTRIES_AT), in_inode = entries_in_inode(ROOT_AT);
-    put(block_at(ROOT_AT) + 360, ENTRIES_AT, 4);
-    clear_entries(&in_block);
-    clear_entries(&in_inode);
-    put_entry(&in_block, 2, FILE_NUMBER, name, strlen(name));
-    put_entry(&in_inode, 3, FILE_NUMBER, name, strlen(name));
-}
-
-static const struct inode plain_root = {.mode = DIRECTORY, .depth = 1, .size = BLOCK};
 static const struct inode inline_root = {.mode = DIRECTORY, .inline_flags = DENTRY, .depth = 1, .size = ROOM_WITH_XATTR};
 
 /* Sizes on both sides of each room, in an inode that keeps some for attributes and in one that doesn't. */
@@ -65,7 +50,7 @@ static void test_sizes(void)
                 answer = HARPTIMBER_KIND_NOT_READ;
             else if (indexes[j] == 0 && size > 0)
                 answer = HARPTIMBER_DATA;
-            pull(name, indexes[j]);
+            pull(road, indexes[j]);
             expect("an inline file of size", size, answer, answer == HARPTIMBER_DATA ? (uint32_t)size : 0, THROUGH_BLOCK);
         }
     }
@@ -82,7 +67,7 @@ static void test_file_flags(void)
             answer = HARPTIMBER_KIND_NOT_READ;
         else if ((flags & DATA) != 0)
             answer = HARPTIMBER_DATA;
-        pull(name, 0);
+        pull(road, 0);
         expect("a file with inline flags", flags, answer, answer == HARPTIMBER_DATA ? 100 : 0, THROUGH_BLOCK);
     }
 }
@@ -95,7 +80,7 @@ static void test_root_flags(void)
         struct inode root = inline_root;
         root.inline_flags = (uint8_t)flags;
         put_root(&root);
-        pull(name, 0);
+        pull(road, 0);
         if ((flags & (EXTRA | DATA)) != 0)
             expect("a root with inline flags", flags, HARPTIMBER_KIND_NOT_READ, 0, ROOT_ALONE);
         else
@@ -109,7 +94,7 @@ static void expect_root(const char *what, uint64_t value, struct inode root, uin
     for (int with = 0; with < 2; with++) {
         root.inline_flags = (uint8_t)(DENTRY | (with ? XATTR : 0));
         put_root(&root);
-        pull(name, 0);
+        pull(road, 0);
         expect(what, value, answer, answer == HARPTIMBER_DATA ? 100 : 0, answer == HARPTIMBER_DATA ? THROUGH_INODE : ROOT_ALONE);
     }
 }
@@ -158,14 +143,14 @@ static void test_slots(void)
     memset(longest, 'n', 255);
     put_file(DATA, 100);
     for (size_t slot = 0; slot < SLOTS; slot++) {
-        expect_slot(slot, name, 8, HARPTIMBER_DATA);
+        expect_slot(slot, road, 8, HARPTIMBER_DATA);
         expect_slot(slot, "road.bin2", 9, slot < SLOTS - 1 ? HARPTIMBER_DATA : HARPTIMBER_MALFORMED_SLOT);
         expect_slot(slot, longest, 255, slot <= SLOTS - 32 ? HARPTIMBER_DATA : HARPTIMBER_MALFORMED_SLOT);
-        expect_slot(slot, name, 0, HARPTIMBER_MALFORMED_SLOT);
-        expect_slot(slot, name, 256, HARPTIMBER_MALFORMED_SLOT);
+        expect_slot(slot, road, 0, HARPTIMBER_MALFORMED_SLOT);
+        expect_slot(slot, road, 256, HARPTIMBER_MALFORMED_SLOT);
     }
     for (size_t slot = SLOTS; slot < SLOTS + 58; slot++) /* up to the reserved bytes' last bit */
-        expect_slot(slot, name, 8, HARPTIMBER_NO_NAME);
+        expect_slot(slot, road, 8, HARPTIMBER_NO_NAME);
 }
 
 /* Inode and inline contents are one block. A block of entries that an inline root doesn't have decides nothing. */
@@ -174,7 +159,7 @@ static void test_compares(void)
     put_root(&inline_root);
     put_file(DATA, 100);
     memcpy(fresh, card, sizeof card);
-    pull(name, 0);
+    pull(road, 0);
     expect("the file to compare", 100, HARPTIMBER_DATA, 100, THROUGH_INODE);
     expect_compared(FILE_AT, CONTENTS, HARPTIMBER_CHANGED);
     expect_compared(FILE_AT, CONTENTS + 100, HARPTIMBER_CHANGED);

@@ -33,6 +33,9 @@ enum { CONTENTS = 364 };
 /* Two inodes, where they are, and where the root directory has entries if they aren't inline. */
 enum { ROOT = 3, FILE_NUMBER = 7, ROOT_AT = MAIN + 5, ENTRIES_AT = MAIN + 9, FILE_AT = CARD_BLOCKS - 1 };
 
+/* The file's name. */
+static const char road[] = "road.bin";
+
 static uint8_t card[CARD_BLOCKS * BLOCK];
 
 static inline uint8_t *block_at(uint32_t number)
@@ -157,6 +160,21 @@ static inline void put_file(uint8_t flags, uint64_t size)
     for (uint64_t i = 0; i < size && i < ROOM; i++)
         block_at(FILE_AT)[CONTENTS + i] = (uint8_t)(7 * i + i / 256 + 1);
 }
+
+/* A root directory with the file's entry in a block, and inline in slot 3. */
+static inline void put_root(const struct inode *inode)
+{
+    put_inode(ROOT, ROOT_AT, inode);
+    struct entries in_block = entries_in_block(ENTRIES_AT), in_inode = entries_in_inode(ROOT_AT);
+    put(block_at(ROOT_AT) + 360, ENTRIES_AT, 4);
+    clear_entries(&in_block);
+    clear_entries(&in_inode);
+    put_entry(&in_block, 2, FILE_NUMBER, road, strlen(road));
+    put_entry(&in_inode, 3, FILE_NUMBER, road, strlen(road));
+}
+
+/* One that isn't inline. */
+static const struct inode plain_root = {.mode = DIRECTORY, .depth = 1, .size = BLOCK};
 
 /* A card without inodes. */
 static inline void put_card(void)

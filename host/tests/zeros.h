@@ -27,8 +27,8 @@ static const struct length {
 /* Tries whole lengths on both sides of each bound, and a byte less and more. Returns the status to end with. */
 static inline int refuse_zeros(expect_zeros *expect)
 {
-    const size_t count = sizeof lengths / sizeof *lengths, block = HARPTIMBER_BLOCK_BYTES;
-    const size_t longest = (lengths[count - 1].blocks + 1) * block;
+    const size_t count = sizeof lengths / sizeof *lengths, unit = HARPTIMBER_BLOCK_BYTES;
+    const size_t longest = (lengths[count - 1].blocks + 1) * unit;
     /* Only addresses: pages that are read and never written take no memory. */
     uint8_t *zeros = mmap(NULL, longest, PROT_READ, MAP_PRIVATE | MAP_ANONYMOUS | MAP_NORESERVE, -1, 0);
     if (zeros == MAP_FAILED) {
@@ -37,7 +37,7 @@ static inline int refuse_zeros(expect_zeros *expect)
         return finish();
     }
     for (size_t i = 0; i < count; i++) {
-        size_t len = lengths[i].blocks * block;
+        size_t len = lengths[i].blocks * unit;
         expect(zeros, len, lengths[i].answer);
         expect(zeros, len + 1, HARPTIMBER_OUT_OF_SHAPE);
         if (len > 0)

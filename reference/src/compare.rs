@@ -1,7 +1,9 @@
 //! Compare: does what a pull stood on still stand in a new image?
 
+use std::ops::Range;
+
 use crate::bytes::le32;
-use crate::lookup::lookup_in;
+use crate::lookup::{lookup_in, TableAnswer};
 use crate::open::{is_image_length, open, Volume};
 
 /// The result numbers of a compare; those that the answer doesn't name are 0.
@@ -15,8 +17,10 @@ pub struct Compared {
     pub number: u32,
 }
 
-const OUT_OF_SHAPE: Compared = Compared { answer: 4, side: 0, kind: 0, number: 0 };
-const SAME: Compared = Compared { answer: 15, side: 0, kind: 0, number: 0 };
+pub(crate) const OUT_OF_SHAPE: Compared = Compared { answer: 4, side: 0, kind: 0, number: 0 };
+
+/// "there a list is a byte slice, four bytes a number"
+const NUMBER_SIZE: usize = 4;
 
 /// Compares the kept and the new image on a pull's two lists, lent as bytes with their counts.
 pub fn compare(
@@ -32,7 +36,6 @@ pub fn compare(
         return OUT_OF_SHAPE;
     }
     // "then 5 to 8 for the kept image, then for the new one, with the side, 1 or 2"
-    let refused = |answer, side| Compared { answer, side, ..Compared::default() };
     let kept = match open(kept) {
         Ok(volume) => volume,
         Err(answer) => return refused(answer, 1),
@@ -48,53 +51,70 @@ pub fn compare(
     if !lists_in_shape(&kept, nodes, blocks) {
         return OUT_OF_SHAPE;
     }
-    match first_difference(&kept, &fresh, nodes, blocks) {
-        Some((kind, number)) => Compared { answer: 16, kind, number, ..Compared::default() },
-        None => SAME,
-    }
+    let answers = numbers(nodes, NUMBER_SIZE).map(|node| (node, lookup_in(&kept, node)));
+    let contents = numbers(blocks, NUMBER_SIZE).map(|block| (block, kept.block(block)));
+    verdict(&kept.main_area(), answers, contents, &fresh)
+}
+
+/// 5 to 8 for one image, with its side.
+pub(crate) fn refused(answer: u32, side: u32) -> Compared {
+    Compared { answer, side, ..Compared::default() }
 }
 
 /// The list's bytes up to its count; `None` if "a count exceeds its slice".
 fn entries(list: &[u8], count: u32) -> Option<&[u8]> {
-    let length = usize::try_from(count).ok()?.checked_mul(4)?;
+    let length = usize::try_from(count).ok()?.checked_mul(NUMBER_SIZE)?;
     list.get(..length)
 }
 
-fn numbers(entries: &[u8]) -> impl Iterator<Item = u32> + '_ {
-    entries.chunks_exact(4).map(|entry| le32(entry, 0))
+/// The number at the front of each entry; an entry has `size` bytes.
+pub(crate) fn numbers(entries: &[u8], size: usize) -> impl Iterator<Item = u32> + '_ {
+    entries.chunks_exact(size).map(|entry| le32(entry, 0))
 }
 
 /// "4 if the node list is empty, either list isn't strictly rising, [...] or a listed block lies
 /// outside the kept main area"
 fn lists_in_shape(kept: &Volume, nodes: &[u8], blocks: &[u8]) -> bool {
     !nodes.is_empty()
-        && strictly_rising(nodes)
-        && strictly_rising(blocks)
-        && numbers(blocks).all(|block| kept.in_main_area(block))
+        && strictly_rising(numbers(nodes, NUMBER_SIZE))
+        && strictly_rising(numbers(blocks, NUMBER_SIZE))
+        && numbers(blocks, NUMBER_SIZE).all(|block| kept.in_main_area(block))
 }
 
-fn strictly_rising(entries: &[u8]) -> bool {
-    numbers(entries).zip(numbers(entries).skip(1)).all(|(before, after)| before < after)
+pub(crate) fn strictly_rising(numbers: impl Iterator<Item = u32>) -> bool {
+    numbers.is_sorted_by(|before, after| before < after)
 }
 
-/// Kind and number of the first difference: "1 main area bounds (number 0), 2 lowest node number
-/// (table answer), 3 lowest block (bytes)".
-fn first_difference(
-    kept: &Volume,
+/// "16, "changed", with kind and number of the first difference [...]; else 15, "same""
+pub(crate) fn verdict<'k>(
+    main_area: &Range<u32>,
+    answers: impl Iterator<Item = (u32, TableAnswer)>,
+    contents: impl Iterator<Item = (u32, &'k [u8])>,
     fresh: &Volume,
-    nodes: &[u8],
-    blocks: &[u8],
+) -> Compared {
+    match first_difference(main_area, answers, contents, fresh) {
+        Some((kind, number)) => Compared { answer: 16, kind, number, ..Compared::default() },
+        None => Compared { answer: 15, ..Compared::default() },
+    }
+}
+
+/// Kind and number of the first difference of a new image from what was kept: "1 main area bounds
+/// (number 0), 2 lowest node number (table answer), 3 lowest block (bytes)". What was kept comes
+/// with rising numbers, so the first found is the lowest.
+fn first_difference<'k>(
+    main_area: &Range<u32>,
+    mut answers: impl Iterator<Item = (u32, TableAnswer)>,
+    mut contents: impl Iterator<Item = (u32, &'k [u8])>,
+    fresh: &Volume,
 ) -> Option<(u32, u32)> {
-    if (kept.main_start, kept.main_end) != (fresh.main_start, fresh.main_end) {
+    if *main_area != fresh.main_area() {
         return Some((1, 0));
     }
-    // The lists rise, so the first found is the lowest.
-    let node = numbers(nodes).find(|&node| lookup_in(kept, node) != lookup_in(fresh, node));
-    if let Some(node) = node {
+    if let Some((node, _)) = answers.find(|&(node, answer)| answer != lookup_in(fresh, node)) {
         return Some((2, node));
     }
-    let block = numbers(blocks).find(|&block| kept.block(block) != fresh.block(block));
-    block.map(|block| (3, block))
+    let block = contents.find(|&(block, bytes)| bytes != fresh.block(block));
+    block.map(|(block, _)| (3, block))
 }
 
 #[cfg(test)]
@@ -103,6 +123,8 @@ mod tests {
     use crate::path::{Rooms, MOST_ROOMS};
     use crate::pull::{pull, Pulled};
     use crate::sample::{path, Sample, DAMAGE, FIRST_PACK};
+
+    const SAME: Compared = Compared { answer: 15, side: 0, kind: 0, number: 0 };
 
     fn list(numbers: &[u32]) -> Vec<u8> {
         numbers.iter().flat_map(|number| number.to_le_bytes()).collect()
@@ -213,7 +235,7 @@ mod tests {
                 compare(&kept.bytes, &fresh.bytes, nodes, node_count, blocks, block_count)
             };
             let is_listed = |list, count, number| {
-                numbers(entries(list, count).unwrap()).any(|listed| listed == number)
+                numbers(entries(list, count).unwrap(), 4).any(|listed| listed == number)
             };
             for block in 4096..4608 {
                 fresh.bytes[block as usize * 4096 + 4095] ^= 1;

@@ -19,6 +19,7 @@ mod walk;
 pub mod pull;
 pub mod compare;
 pub mod segments;
+pub mod keep;
 
 #[cfg(test)]
 mod sample;

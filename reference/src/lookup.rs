@@ -12,8 +12,11 @@ pub fn node_lookup(image: &[u8], number: u32) -> Result<(u32, u32), u32> {
     lookup_in(&open(image)?, number)
 }
 
+/// "That 9, or these two numbers without the version byte, is the number's table answer."
+pub type TableAnswer = Result<(u32, u32), u32>;
+
 /// The number's table answer in an opened volume: inode and address, or 9.
-pub fn lookup_in(volume: &Volume, number: u32) -> Result<(u32, u32), u32> {
+pub fn lookup_in(volume: &Volume, number: u32) -> TableAnswer {
     // "Valid numbers are 1 to 455 × 256 × NAT segments − 1."
     let numbers = u64::from(ENTRIES_PER_BLOCK) * 256 * u64::from(volume.nat_segments);
     if number == 0 || u64::from(number) >= numbers {

@@ -1,5 +1,7 @@
 //! Opening an image: its shape, superblock, features, checkpoint pack, maps and journal.
 
+use std::ops::Range;
+
 use crate::bytes::{block, le16, le32, le64, BLOCK_SIZE, SEGMENT_BLOCKS};
 use crate::checksum::checksum;
 
@@ -46,8 +48,14 @@ pub struct Volume<'a> {
 }
 
 impl<'a> Volume<'a> {
+    /// "The main area bounds are the main block address and the main end": the second is the first
+    /// block behind.
+    pub fn main_area(&self) -> Range<u32> {
+        self.main_start..self.main_end
+    }
+
     pub fn in_main_area(&self, address: u32) -> bool {
-        (self.main_start..self.main_end).contains(&address)
+        self.main_area().contains(&address)
     }
 
     /// A block of the image, which holds every block of the areas.

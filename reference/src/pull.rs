@@ -90,10 +90,8 @@ impl Memory<'_> {
             Err(answer) => return refused(answer),
         };
         let mut walk = Walk::new(volume);
-        let (answer, byte_count) = match go(&mut walk) {
-            Ok(found) => hand_out(&found, self.block),
-            Err(answer) => (answer, 0),
-        };
+        let found = go(&mut walk);
+        let (answer, byte_count) = hand_out(&found, self.block);
         write_list(self.nodes, &walk.nodes);
         write_list(self.blocks, &walk.blocks);
         Pulled {
@@ -105,8 +103,13 @@ impl Memory<'_> {
     }
 }
 
-/// Fills the lent buffer and gives answer and byte count: 0 with data, 1 for a hole.
-fn hand_out(found: &Found, block: &mut [u8]) -> (u32, u32) {
+/// Answer and byte count of a walk: 0 with data, 1 for a hole, which fill the lent buffer. With the
+/// others it stays.
+pub(crate) fn hand_out(found: &Result<Found, u32>, block: &mut [u8]) -> (u32, u32) {
+    let found = match found {
+        Ok(found) => found,
+        Err(answer) => return (*answer, 0),
+    };
     block.fill(0);
     let Some(data) = found.data else {
         return (1, found.count);

@@ -23,7 +23,7 @@ pub struct Found<'a> {
 /// The walk through an opened volume, with the node numbers asked of the table and the blocks of
 /// the main area read so far. Errors are answer numbers.
 pub struct Walk<'a> {
-    volume: Volume<'a>,
+    pub volume: Volume<'a>,
     pub nodes: BTreeSet<u32>,
     pub blocks: BTreeSet<u32>,
 }

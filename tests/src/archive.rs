@@ -1,7 +1,7 @@
 //! Safe wrappers over the archive's C functions. `bench/before` has them a second time, over an earlier archive whose
 //! functions are called earlier_* there.
 
-use super::{Compared, Entry, Hashed, Place, Pulled, Segments};
+use super::{Compared, Entry, Hashed, KeepFields, Kept, Place, Pulled, Segments};
 
 #[cfg_attr(not(feature = "before"), link(name = "harptimber", kind = "static"))]
 #[cfg_attr(feature = "before", link(name = "earlier", kind = "static"))]
@@ -46,6 +46,25 @@ extern "C" {
         list: *mut u8,
         list_len: usize,
     ) -> Segments;
+    #[cfg_attr(feature = "before", link_name = "earlier_keep")]
+    fn harptimber_keep(
+        image: *const u8,
+        image_len: usize,
+        path: *const u8,
+        path_len: usize,
+        index: u32,
+        room: *mut u8,
+        room_len: usize,
+    ) -> Kept;
+    #[cfg_attr(feature = "before", link_name = "earlier_keep_read")]
+    fn harptimber_keep_read(file: *const u8, file_len: usize) -> KeepFields;
+    #[cfg_attr(feature = "before", link_name = "earlier_keep_compare")]
+    fn harptimber_keep_compare(
+        file: *const u8,
+        file_len: usize,
+        fresh: *const u8,
+        fresh_len: usize,
+    ) -> Compared;
 }
 
 pub fn name_hash(name: &[u8]) -> Hashed {
@@ -119,4 +138,30 @@ pub fn segment_report(image: &[u8], list: &mut [u8]) -> Segments {
     // SAFETY: a slice's pointer is never null, the bytes of both can be read and the list's written,
     // and the list doesn't overlap the image.
     unsafe { harptimber_segment_report(image.as_ptr(), image.len(), list.as_mut_ptr(), list.len()) }
+}
+
+pub fn keep(image: &[u8], path: &[u8], index: u32, room: &mut [u8]) -> Kept {
+    // SAFETY: a slice's pointer is never null, the bytes of all three can be read and the room's written,
+    // and the room doesn't overlap the others.
+    unsafe {
+        harptimber_keep(
+            image.as_ptr(),
+            image.len(),
+            path.as_ptr(),
+            path.len(),
+            index,
+            room.as_mut_ptr(),
+            room.len(),
+        )
+    }
+}
+
+pub fn keep_read(file: &[u8]) -> KeepFields {
+    // SAFETY: a slice's pointer is never null, and its bytes can be read.
+    unsafe { harptimber_keep_read(file.as_ptr(), file.len()) }
+}
+
+pub fn keep_compare(file: &[u8], fresh: &[u8]) -> Compared {
+    // SAFETY: a slice's pointer is never null, and the bytes of both can be read.
+    unsafe { harptimber_keep_compare(file.as_ptr(), file.len(), fresh.as_ptr(), fresh.len()) }
 }

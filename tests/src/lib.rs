@@ -57,7 +57,7 @@ pub struct Pulled {
     pub block_count: u32,
 }
 
-/// The result of `compare`.
+/// The result of `compare` and of `keep_compare`.
 #[repr(C)]
 #[derive(Clone, Copy, Debug, Default, PartialEq, Eq)]
 pub struct Compared {
@@ -74,4 +74,32 @@ pub struct Segments {
     pub answer: u32,
     pub count: u32,
     pub valid_blocks: u32,
+}
+
+/// The result of `keep`.
+#[repr(C)]
+#[derive(Clone, Copy, Debug, PartialEq, Eq)]
+pub struct Kept {
+    pub answer: u32,
+    pub length: u32,
+}
+
+/// The result of `keep_read`.
+#[repr(C)]
+#[derive(Clone, Copy, Debug, Default, PartialEq, Eq)]
+pub struct KeepFields {
+    pub answer: u32,
+    pub path_len: u32,
+    pub index: u32,
+    pub pull_answer: u32,
+    pub byte_count: u32,
+    pub main_start: u32,
+    pub main_end: u32,
+    pub node_count: u32,
+    pub block_count: u32,
+    pub path_at: u32,
+    pub block_at: u32,
+    pub nodes_at: u32,
+    pub blocks_at: u32,
+    pub length: u32,
 }

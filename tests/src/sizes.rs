@@ -20,3 +20,13 @@ pub const fn nodes_most(names: u32) -> u32 {
 pub const fn blocks_most(names: u32) -> u32 {
     233 * names + 5
 }
+
+/// The bytes of a keep file whose path has so many bytes, and whose pull listed so many nodes and blocks.
+pub const fn keep_length(path_len: u32, nodes: u32, blocks: u32) -> u32 {
+    4140 + path_len + 16 * nodes + 4100 * blocks
+}
+
+/// The most for a path of so many names, each of 255 bytes.
+pub const fn keep_most(names: u32) -> u32 {
+    keep_length(256 * names - 1, nodes_most(names), blocks_most(names))
+}

@@ -63,6 +63,11 @@ impl Trial {
 
     pub fn compare<T: PartialEq + Debug>(&mut self, input: impl Debug, library: T, reference: T) {
         self.compared += 1;
+        self.check(input, library, reference);
+    }
+
+    /// The same of something else that has to hold of an input. It isn't counted.
+    pub fn check<T: PartialEq + Debug>(&mut self, input: impl Debug, library: T, reference: T) {
         if library != reference {
             let both = format!("library   {library:?}\n    reference {reference:?}");
             self.mismatches.push(format!("{input:?}\n    {both}"));

@@ -49,3 +49,9 @@ pub const SAME: u32 = 15;
 
 // Compare: something that the answer rested on has changed.
 pub const CHANGED: u32 = 16;
+
+// The lent room is too small for the keep file.
+pub const NO_ROOM: u32 = 17;
+
+// The bytes are no keep file.
+pub const BAD_KEEP_FILE: u32 = 18;

@@ -39,3 +39,15 @@ pub fn compare(
 pub fn segment_report(image: &[u8], list: &mut [u8]) -> segment_report::Segments {
     harptimber::harptimber_segment_report(image, list)
 }
+
+pub fn keep(image: &[u8], path: &[u8], index: u32, room: &mut [u8]) -> keep::Written {
+    harptimber::harptimber_keep(image, path, index, room)
+}
+
+pub fn keep_read(file: &[u8]) -> keep_file::Fields {
+    harptimber::harptimber_keep_read(file)
+}
+
+pub fn keep_compare(file: &[u8], fresh: &[u8]) -> compare::Compared {
+    harptimber::harptimber_keep_compare(file, fresh)
+}

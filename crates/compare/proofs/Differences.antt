@@ -1,5 +1,5 @@
 -- What Compare's difference says: none exactly if bounds, listed table answers and listed blocks agree, and else which is first.
-use mathlib.Core.Path.{_≡_, refl, sym, subst, _∙_}
+use mathlib.Core.Path.{_≡_, refl, sym, ap, subst, _∙_}
 use mathlib.Core.Bool.{true, false}
 use mathlib.Core.List.{List}
 use mathlib.Core.Logic.{_⊎_, inl, inr, ⊎-elim}
@@ -14,7 +14,9 @@ use Rattle.compare.specs.declared.Difference.{Difference}
 use Rattle.compare.specs.declared.Difference.the-variants.{Same, BoundsDiffer, NodeDiffers, BlockDiffers}
 use Rattle.compare.specs.Difference.{sameBounds, sameAnswer, sameBytes, blocksDiffer, nodesDiffer, difference}
 use Rattle.compare.proofs.Sameness.{same-bounds, bounds-same, same-answer, answer-same, same-bytes, bytes-same}
-use Rattle.list.proofs.Searching.{FirstNot, Decides, searched-ends, all-searched}
+use Rattle.list.proofs.Searching.{FirstNot, Decides, searched-ends, all-searched, searched-alike}
+use Rattle.list.proofs.Rises.{all-map}
+use Rattle.field.specs.Choice.{choose}
 
 -- the two cards agree at a number
 abbrev pub SameTable : View → View → ℕ → Type 0
@@ -101,3 +103,14 @@ module _ (m n : Bounds) (kept fresh : View) (nodes blocks : List ℕ) where
   pub difference-block : (b : ℕ) → difference m n kept fresh nodes blocks ≡ BlockDiffers b
       → (m ≡ n) × AllOf (SameTable kept fresh) nodes × FirstNot (SameBlock kept fresh) blocks b
   difference-block b e = subst Says e says
+
+-- ---- two kept sides that agree on the lists compare alike
+pub kept-alike : (m n : Bounds) (kept other fresh : View) (nodes blocks : List ℕ) → AllOf (SameTable kept other) nodes
+    → AllOf (SameBlock kept other) blocks → difference m n kept fresh nodes blocks ≡ difference m n other fresh nodes blocks
+unfolding difference nodesDiffer blocksDiffer
+kept-alike m n kept other fresh nodes blocks t b =
+    let tables = all-map (λ k e. ap (λ (a : TableAnswer). sameAnswer a (fresh .table k)) e) nodes t in
+    let bytes = all-map (λ k e. ap (λ (l : List ℕ). sameBytes l (fresh .block k)) e) blocks b in
+    ap (λ (d : Difference). choose (sameBounds m n) d BoundsDiffer)
+    (searched-alike _ _ NodeDiffers _ nodes tables
+    ∙ ap (λ (d : Difference). nodesDiffer (other .table) (fresh .table) d nodes) (searched-alike _ _ BlockDiffers Same blocks bytes))

@@ -3,4 +3,4 @@ pub mod Differences
 pub mod Shapes
 pub mod Openings
 pub mod Theorems
-mod Turns
+pub mod Turns

@@ -2,15 +2,15 @@
 // What each means is in specs/: Lists, Difference, Compare.
 ghost use mathlib.Core.Path.{_≡_};
 ghost use mathlib.Core.Bool.{true, _&&_};
-ghost use Prim.Native.Nat.{_*_, _≤_};
+ghost use Prim.Native.Nat.{_+_, _*_, _≤_};
 ghost use lib.Dec.{leb};
 ghost use lib.ListN.{length};
 ghost use Rattle.field.specs.Card.{cardOf};
 ghost use Rattle.checkpoint.specs.Volume.{VolumeIn};
 ghost use Rattle.nat.specs.Table.{tableAnswer};
-ghost use Rattle.list.specs.Lists.{AllOf, listing, entries, countFits};
+ghost use Rattle.list.specs.Lists.{AllOf, column, listing, entries, countFits};
 ghost use Rattle.walk.specs.Walk.{viewOf};
-ghost use Rattle.node.specs.Node.{boundsOf, inMain};
+ghost use Rattle.node.specs.Node.{boundsOf};
 ghost use Rattle.compare.specs.Lists.{isRising, allInMain, listsInShape};
 ghost use Rattle.compare.specs.Difference.{sameBounds, sameAnswer, sameBytes, blocksDiffer, nodesDiffer, difference, InBoth};
 ghost use Rattle.compare.specs.Compare.{answered, verdict, comparedOpen, compared};
@@ -46,35 +46,49 @@ fn counts_fit(nodes: &[u8], node_count: u32, blocks: &[u8], block_count: u32) ->
         & (block_count as usize <= blocks.len() / 4)
 }
 
-fn is_rising(list: &[u8], count: u32) -> bool
-    requires { ⌜ 4 * count ≤ length (now list) ⌝ }
-    ensures { λ r. ⌜ r ≡ isRising (entries (listing (now (list .entry)) count)) ⌝ }
+// Here and in `all_in_main` the numbers stand `width` bytes apart, the first at `start`: in a list by itself 4, in a keep file more.
+pub fn is_rising(bytes: &[u8], start: usize, width: usize, count: usize) -> bool
+    requires { ⌜ (4 ≤ width) × (start + width * count ≤ length (now bytes)) ⌝ }
+    ensures { λ r. ⌜ r ≡ isRising (column width (now (bytes .entry)) start count) ⌝ }
 {
     if count == 0 {
         return true;
     }
-    let mut last = field::get32(list, 0);
+    let mut last = field::get32(bytes, start);
+    let mut at = start + width;
     let mut i: usize = 1;
-    while i < count as usize {
-        let next = field::get32(list, 4 * i);
+    while i < count {
+        let next = field::get32(bytes, at);
         if next <= last {
             return false;
         }
         last = next;
+        at += width;
         i += 1;
     }
     true
 }
 
-fn all_in_main(v: checkpoint::Volume, list: &[u8], count: u32) -> bool
-    requires { ⌜ 4 * count ≤ length (now list) ⌝ }
-    ensures { λ r. ⌜ r ≡ allInMain (boundsOf v) (entries (listing (now (list .entry)) count)) ⌝ }
+pub fn all_in_main(
+    main: u32,
+    main_end: u32,
+    bytes: &[u8],
+    start: usize,
+    width: usize,
+    count: usize,
+) -> bool
+    requires { ⌜ (4 ≤ width) × (start + width * count ≤ length (now bytes)) ⌝ }
+    ensures { λ r.
+        ⌜ r ≡ allInMain (record { start = main; end = «main_end» }) (column width (now (bytes .entry)) start count) ⌝ }
 {
+    let mut at = start;
     let mut i: usize = 0;
-    while i < count as usize {
-        if !node::in_main(v, field::get32(list, 4 * i)) {
+    while i < count {
+        let b = field::get32(bytes, at);
+        if !((main <= b) & (b < main_end)) {
             return false;
         }
+        at += width;
         i += 1;
     }
     true
@@ -95,9 +109,17 @@ fn lists_in_shape(
     if !counts_fit(nodes, node_count, blocks, block_count) {
         return false;
     }
-    is_rising(nodes, node_count)
-        & is_rising(blocks, block_count)
-        & all_in_main(v, blocks, block_count)
+    let areas = v.areas;
+    is_rising(nodes, 0, 4, node_count as usize)
+        & is_rising(blocks, 0, 4, block_count as usize)
+        & all_in_main(
+            areas.main,
+            areas.main_end,
+            blocks,
+            0,
+            4,
+            block_count as usize,
+        )
 }
 
 // ---- the first difference
@@ -110,7 +132,7 @@ fn same_bounds(v: checkpoint::Volume, u: checkpoint::Volume) -> bool
     (a.main == b.main) & (a.main_end == b.main_end)
 }
 
-fn same_answer(one: nat::TableAnswer, other: nat::TableAnswer) -> bool
+pub fn same_answer(one: nat::TableAnswer, other: nat::TableAnswer) -> bool
     ensures { λ r. ⌜ r ≡ sameAnswer one other ⌝ }
 {
     match one {
@@ -145,7 +167,7 @@ fn same_node(
 }
 
 // Two blocks. There is no way out of the loop before its end, so that it is compiled to wide loads: sixteen bytes a step.
-fn same_bytes(one: &[u8], other: &[u8]) -> bool
+pub fn same_bytes(one: &[u8], other: &[u8]) -> bool
     requires { ⌜ (length (now one) ≡ 4096) × (length (now other) ≡ 4096) ⌝ }
     ensures { λ r. ⌜ r ≡ sameBytes (now (one .entry)) (now (other .entry)) ⌝ }
 {
@@ -242,7 +264,7 @@ fn first_difference(
 
 // ---- the answer
 
-fn numbers_of(answer: u32, side: u32, kind: u32, number: u32) -> Compared
+pub fn numbers_of(answer: u32, side: u32, kind: u32, number: u32) -> Compared
     ensures { λ r. ⌜ r ≡ answered answer side kind number ⌝ }
 {
     Compared {
@@ -253,7 +275,7 @@ fn numbers_of(answer: u32, side: u32, kind: u32, number: u32) -> Compared
     }
 }
 
-fn verdict_of(first: Difference) -> Compared
+pub fn verdict_of(first: Difference) -> Compared
     ensures { λ r. ⌜ r ≡ verdict first ⌝ }
 {
     match first {

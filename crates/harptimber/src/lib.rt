@@ -9,6 +9,9 @@ ghost use Rattle.pull.specs.Pull.{lending, result, pulled};
 ghost use Rattle.list.specs.Lists.{listing};
 ghost use Rattle.compare.specs.Compare.{compared};
 ghost use Rattle.segment_report.specs.Report.{reported, segmentReport};
+ghost use Rattle.keep.specs.Writing.{writing, keepWritten};
+ghost use Rattle.keep_file.specs.Reading.{fieldsRead, readKeep};
+ghost use Rattle.keep_compare.specs.Compare.{keepCompared};
 ghost use Rattle.harptimber.specs.NameHash.{nameHash};
 ghost use Rattle.harptimber.specs.FilePlace.{crossing, placed, filePlace};
 
@@ -158,4 +161,30 @@ pub extern "C" fn harptimber_segment_report(
     ensures { λ r. ⌜ reported r (now (list .exit)) ≡ segmentReport (now (image .entry)) (now (list .entry)) ⌝ }
 {
     segment_report::report(image, list)
+}
+
+#[no_mangle]
+pub extern "C" fn harptimber_keep(
+    image: &[u8],
+    path: &[u8],
+    index: u32,
+    room: &mut [u8],
+) -> keep::Written
+    ensures { λ r. ⌜ writing r (now (room .exit)) ≡ keepWritten (now (image .entry)) (now (path .entry)) index (now (room .entry)) ⌝ }
+{
+    keep::keep(image, path, index, room)
+}
+
+#[no_mangle]
+pub extern "C" fn harptimber_keep_read(file: &[u8]) -> keep_file::Fields
+    ensures { λ r. ⌜ r ≡ fieldsRead (readKeep (now (file .entry))) ⌝ }
+{
+    keep_file::read(file)
+}
+
+#[no_mangle]
+pub extern "C" fn harptimber_keep_compare(file: &[u8], fresh: &[u8]) -> compare::Compared
+    ensures { λ r. ⌜ r ≡ keepCompared (now (file .entry)) (now (fresh .entry)) ⌝ }
+{
+    keep_compare::keep_compare(file, fresh)
 }

@@ -3,3 +3,4 @@ pub mod Stores
 pub mod Entries
 pub mod Written
 pub mod Searching
+pub mod Columns

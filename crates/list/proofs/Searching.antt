@@ -76,3 +76,10 @@ module _ {A : Type 0} (test : ℕ → Bool) (found : ℕ → A) where
     pub all-searched : (other : A) (l : List ℕ) → AllOf P l → searched test found other l ≡ other
     all-searched o [] h = none-left o
     all-searched o (x ∷ xs) h = passed o xs (d .passes x (h .0)) ∙ all-searched o xs (h .1)
+
+-- tests that say the same of each number of the list find the same
+pub searched-alike : {A : Type 0} (test test' : ℕ → Bool) (found : ℕ → A) (other : A) (l : List ℕ) → AllOf (λ x. test x ≡ test' x) l
+    → searched test found other l ≡ searched test' found other l
+unfolding searched
+searched-alike test test' found other [] h = refl
+searched-alike test test' found other (x ∷ xs) h = rw (h .0, searched-alike test test' found other xs (h .1))

@@ -5,10 +5,10 @@ use native.Mathlib.Omega.{arith}
 use native.Mathlib.Numerals.{add-one}
 use mathlib.Core.Path.{_≡_, refl, sym, ap, _∙_}
 use mathlib.Core.List.{List, [], _∷_, _++_}
-use lib.ListN.{length, getD, take, drop, take-append-drop, length-append}
+use lib.ListN.{length, getD, take, drop, take-append-drop, length-append, length-drop}
 use lib.Seq.{drop-cons, drop-at, getD-drop}
 use Rattle.field.specs.Number.{le16, le32}
-use Rattle.list.specs.Lists.{numbers, bytesOf, over}
+use Rattle.list.specs.Lists.{numbers, column, bytesOf, over}
 use Rattle.list.proofs.Entries.{length-numbers}
 
 digits : (a b c d : ℕ) → a < 256 → b < 256 → c < 256 → d < 256 → let x = a + 256 * b + 65536 * (c + 256 * d) in
@@ -47,20 +47,26 @@ over-written l d n e r f h =
     let p : bytesOf (numbers l 0 n) ≡ take (4 * n) l = bytes-numbers l f n 0 (omega arith) in
     rw (← e, length-numbers l 0 n, p, ← r) (sym (take-append-drop (4 * n) l))
 
--- The numbers written are the numbers read.
-numbers-drop : (l : List ℕ) (i k : ℕ) → numbers l (i + 1) k ≡ numbers (drop 4 l) i k
-unfolding numbers le32 le16
-numbers-drop l i zero = refl
-numbers-drop l i (suc k) = rw (
-  byte (4 * i) (4 * (i + 1)) (omega arith),
-  byte (4 * i + 1) (4 * (i + 1) + 1) (omega arith),
-  byte (4 * i + 2) (4 * (i + 1) + 2) (omega arith),
-  byte (4 * i + 2 + 1) (4 * (i + 1) + 2 + 1) (omega arith),
-  numbers-drop l (i + 1) k,
+-- A number behind a front is read at its offset behind it.
+pub le32-drop : (l : List ℕ) (at i : ℕ) → le32 l (at + i) ≡ le32 (drop at l) i
+unfolding le32 le16
+le32-drop l at i = rw (
+  byte i (at + i) refl,
+  byte (i + 1) (at + i + 1) (omega arith),
+  byte (i + 2) (at + i + 2) (omega arith),
+  byte (i + 2 + 1) (at + i + 2 + 1) (omega arith),
 )
   where
-    byte : (j m : ℕ) → 4 + j ≡ m → getD l m 0 ≡ getD (drop 4 l) j 0
-    byte j m e = rw (getD-drop 4 l j 0, e)
+    byte : (j m : ℕ) → at + j ≡ m → getD (drop at l) j 0 ≡ getD l m 0
+    byte j m e = rw (getD-drop at l j 0, e)
+
+-- The numbers written are the numbers read.
+numbers-drop : (l : List ℕ) (i k : ℕ) → numbers l (i + 1) k ≡ numbers (drop 4 l) i k
+unfolding numbers
+numbers-drop l i zero = refl
+numbers-drop l i (suc k) =
+    let e : 4 * (i + 1) ≡ 4 + 4 * i = omega arith in
+    rw (e, le32-drop l 4 (4 * i), numbers-drop l (i + 1) k)
 
 numbers-bytes : (ns r : List ℕ) → numbers (bytesOf ns ++ r) 0 (length ns) ≡ ns
 unfolding numbers bytesOf le32 le16
@@ -73,7 +79,7 @@ pub numbers-over : (ns d : List ℕ) → numbers (over ns d) 0 (length ns) ≡ n
 unfolding over
 numbers-over ns d = numbers-bytes ns (drop (4 * length ns) d)
 
-length-bytes : (ns : List ℕ) → length (bytesOf ns) ≡ 4 * length ns
+pub length-bytes : (ns : List ℕ) → length (bytesOf ns) ≡ 4 * length ns
 unfolding bytesOf
 length-bytes [] = refl
 length-bytes (x ∷ xs) = let ih = length-bytes xs in omega arith
@@ -87,3 +93,22 @@ drop-over ns d = drop-at (bytesOf ns) (drop (4 * length ns) d) (4 * length ns) (
 pub over-inside : (ns d : List ℕ) → 4 * length ns ≤ length (over ns d)
 unfolding over
 over-inside ns d = omega (arith, length-append (bytesOf ns) (drop (4 * length ns) d), length-bytes ns)
+
+-- ---- the same at an offset: numbers without gaps
+column-numbers : (l : List ℕ) (at i k : ℕ) → column 4 l (at + 4 * i) k ≡ numbers (drop at l) i k
+unfolding column numbers
+column-numbers l at i zero = refl
+column-numbers l at i (suc k) =
+    let e : at + 4 * i + 4 ≡ at + 4 * (i + 1) = omega arith in
+    rw (e, le32-drop l at (4 * i), column-numbers l at (i + 1) k)
+
+column-start : (l : List ℕ) (at k : ℕ) → column 4 l at k ≡ numbers (drop at l) 0 k
+column-start l at k = let e : at + 4 * 0 ≡ at = omega arith in rw e at (column-numbers l at 0 k)
+
+pub column-bytes : (l : List ℕ) (at : ℕ) (ns r : List ℕ) → drop at l ≡ bytesOf ns ++ r → column 4 l at (length ns) ≡ ns
+column-bytes l at ns r e = rw (column-start l at (length ns), e) (numbers-bytes ns r)
+
+pub bytes-column : (l : List ℕ) → ((k : ℕ) → getD l k 0 < 256) → (at n : ℕ) → at + 4 * n ≤ length l
+    → bytesOf (column 4 l at n) ≡ take (4 * n) (drop at l)
+bytes-column l f at n h =
+    rw (column-start l at n) (bytes-numbers (drop at l) (λ k. rw (getD-drop at l k 0) (f (at + k))) n 0 (rw (length-drop at l) (omega arith)))

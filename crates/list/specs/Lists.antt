@@ -30,6 +30,11 @@ unfoldable pub numbers : List ℕ → ℕ → ℕ → List ℕ
 numbers l i zero = []
 numbers l i (suc k) = le32 l (4 * i) ∷ numbers l (i + 1) k
 
+-- the numbers that stand `width` bytes apart: k of them, the first at an offset
+unfoldable pub column : ℕ → List ℕ → ℕ → ℕ → List ℕ
+column width l at zero = []
+column width l at (suc k) = le32 l at ∷ column width l (at + width) k
+
 -- a list as it comes: "a byte slice, four bytes a number", and how many of its numbers count
 pub record Listed : Type 0 where
   pub bytes : List ℕ

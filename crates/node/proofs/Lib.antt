@@ -2,3 +2,4 @@ pub mod Cases
 pub mod Sizes
 pub mod Following
 pub mod Listed
+pub mod Whole

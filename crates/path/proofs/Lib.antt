@@ -1,3 +1,4 @@
 pub mod Parts
 pub mod Counting
 pub mod Laws
+pub mod Lengths

@@ -4,3 +4,4 @@ pub mod Results
 pub mod Theorems
 pub mod Inline
 pub mod Paths
+pub mod Whole

@@ -63,7 +63,7 @@ module _ (card : Card) (v : Volume) (path : List ℕ) (index : ℕ) where
   size : ToBlock (boundsOf v) (nodesMost (partCount path)) (blocksMost (partCount path)) (walkOf v path index)
   size = pull-within (boundsOf v) path index
 
-  run-few : (length (pullRun card v path index .seen .nodes) ≤ nodesMost (partCount path))
+  pub run-few : (length (pullRun card v path index .seen .nodes) ≤ nodesMost (partCount path))
       × (length (pullRun card v path index .seen .blocks) ≤ blocksMost (partCount path))
   unfolding pullRun
   run-few = few-listed (viewOf card v) (walkOf v path index) size

@@ -222,7 +222,7 @@ fn lent_in_shape(k: usize, block: usize, nodes: usize, blocks: usize) -> bool
 }
 
 // A pull from an opened card.
-fn pull_opened(
+pub fn pull_opened(
     image: &[u8],
     v: checkpoint::Volume,
     path: &[u8],

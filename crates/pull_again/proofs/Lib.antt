@@ -1,2 +1,2 @@
-mod Steps
+pub mod Steps
 pub mod Demand

@@ -1,9 +1,11 @@
 //! Compares in the library, compared with the reference's and with what the paper says. Whenever one
-//! says "same", the pull from the new card has to give what the pull from the kept one gave.
+//! says "same", the pull from the new card has to give what the pull from the kept one gave. The keep file of the
+//! pull has to say the same of the new card, without the kept one.
 
 use std::fmt::{Debug, Formatter, Result};
 
 use crate::calls::answers::Answers;
+use crate::calls::keeps::{length_of, written, KeepFile};
 use crate::calls::lent::{Lent, NUMBER_SIZE};
 use crate::calls::pulls::{Call, Outcome};
 use crate::cards::image::Image;
@@ -82,13 +84,27 @@ impl Debug for Lists<'_> {
 pub struct Kept<'a> {
     pub call: Call<'a>,
     pub outcome: Outcome,
+    pub file: KeepFile,
 }
 
 impl<'a> Kept<'a> {
     pub fn new(image: &'a Image, name: &'a [u8], index: u32) -> Kept<'a> {
         let call = Call::new(image, name, index);
         let outcome = Outcome::of(crate::pull, &call, call.least());
-        Kept { call, outcome }
+        let file = written(&call, length_of(&call, &outcome.pulled));
+        Kept {
+            call,
+            outcome,
+            file,
+        }
+    }
+
+    /// The same pull from another card.
+    fn call_on<'b>(&self, fresh: &'b Image) -> Call<'b>
+    where
+        'a: 'b,
+    {
+        Call::new(fresh, self.call.name, self.call.index)
     }
 
     /// As the pull left them, with what the memory held behind them.
@@ -121,9 +137,7 @@ impl Compares {
         let (library, reference) = self.both([kept.call.bytes, fresh.bytes()], kept.lists());
         let input = ("new", fresh, "kept", &kept.call);
         self.trial.compare(input, library, reference);
-        if library == SAME {
-            self.pull_again(kept, fresh);
-        }
+        self.check_others(kept, fresh, library);
     }
 
     /// The same, also with what the paper says.
@@ -131,9 +145,7 @@ impl Compares {
         let input = ("new", fresh, "kept", &kept.call);
         let cards = [kept.call.bytes, fresh.bytes()];
         let library = self.expect_in(input, cards, kept.lists(), paper);
-        if library == SAME {
-            self.pull_again(kept, fresh);
-        }
+        self.check_others(kept, fresh, library);
     }
 
     /// Compares any bytes on any lists; `input` says what the bytes are.
@@ -169,9 +181,40 @@ impl Compares {
         (library, by_reference(reference))
     }
 
+    /// Other calls, by what a compare said.
+    fn check_others(&mut self, kept: &Kept, fresh: &Image, compared: Compared) {
+        self.compare_file(kept, fresh, compared);
+        if compared == SAME {
+            self.pull_again(kept, fresh);
+        }
+    }
+
+    /// The keep file says what the compare did, and the new card's is the same file exactly if nothing has changed.
+    fn compare_file(&mut self, kept: &Kept, fresh: &Image, compared: Compared) {
+        self.expect_by_file(kept, fresh, fresh.bytes(), compared);
+        if let Ok(file) = &kept.file {
+            let again = written(&kept.call_on(fresh), file.len());
+            let input = ("keep file of the new card", fresh, "kept", &kept.call);
+            let is_same = again.as_ref() == Ok(file);
+            self.trial.check(input, is_same, compared == SAME);
+        }
+    }
+
+    /// Compares the keep file with any bytes of a new card. There is none of a pull that was refused.
+    pub fn expect_by_file(&mut self, kept: &Kept, fresh: &Image, bytes: &[u8], paper: Compared) {
+        let file = kept.file.as_ref();
+        let library = file.map(|file| crate::keep_compare(file, bytes));
+        let paper = match &kept.outcome {
+            outcome if outcome.opened() => Ok(paper),
+            refused => Err(&refused.pulled.answer),
+        };
+        let input = ("by keep file, new", fresh, "kept", &kept.call);
+        self.trial.check(input, library, paper);
+    }
+
     /// Pulls from the new card, into other memory.
     fn pull_again(&mut self, kept: &Kept, fresh: &Image) {
-        let call = Call::new(fresh, kept.call.name, kept.call.index);
+        let call = kept.call_on(fresh);
         let lent = Lent::longer(&mut self.trial.random, call.names());
         let again = Outcome::of(crate::pull, &call, lent);
         let input = ("pull again, beside the kept card's", &call);
@@ -186,7 +229,7 @@ impl Compares {
     }
 }
 
-fn by_reference(compared: reference::compare::Compared) -> Compared {
+pub fn by_reference(compared: reference::compare::Compared) -> Compared {
     Compared {
         answer: compared.answer,
         side: compared.side,

@@ -1,7 +1,8 @@
-//! Every call that opens a card: node lookup, pull, segment report, and compare with the card on either side and on
-//! both.
+//! Every call that opens a card: node lookup, pull, segment report, keep, and compare with the card on either side and
+//! on both, also by a keep file.
 
 use crate::calls::compares::{refused, Compares, Kept, OUT_OF_SHAPE, SAME};
+use crate::calls::keeps::Keeps;
 use crate::calls::lookups::Lookups;
 use crate::calls::pulls::{Call, Pulls};
 use crate::calls::segments::{needed, Report, Reports};
@@ -31,6 +32,7 @@ pub struct EveryCall {
     pulls: Pulls,
     reports: Reports,
     compares: Compares,
+    keeps: Keeps,
 }
 
 impl EveryCall {
@@ -40,6 +42,7 @@ impl EveryCall {
             pulls: Pulls::new(name),
             reports: Reports::new(name),
             compares: Compares::new(name),
+            keeps: Keeps::new(name),
         }
     }
 
@@ -51,6 +54,7 @@ impl EveryCall {
         }
         let Call { name, index, .. } = kept.call;
         self.pulls.expect_data(image, name, index, &content.data);
+        self.keeps.expect(&Call::new(image, name, index), 0);
         self.reports.expect(image, &content.report);
         self.compares.expect(kept, image, SAME);
         let cards = [image.bytes(), kept.call.bytes];
@@ -65,19 +69,16 @@ impl EveryCall {
         }
         let Call { name, index, .. } = kept.call;
         self.pulls.expect(image, name, index, answer);
+        self.keeps.expect(&Call::new(image, name, index), answer);
         let refusal = Report::refused(answer);
         self.reports.expect(image, &refusal);
         // That a list is too short is told last.
         self.reports.expect_in(image, image.bytes(), 0, &refusal);
+        self.compares.expect(kept, image, refused(answer, 2));
         let (sound, damaged) = (kept.call.bytes, image.bytes());
-        for (cards, side) in [
-            ([sound, damaged], 2),
-            ([damaged, sound], 1),
-            ([damaged, damaged], 1),
-        ] {
-            let input = ("side", side, image);
+        for cards in [[damaged, sound], [damaged, damaged]] {
             self.compares
-                .expect_in(input, cards, kept.lists(), refused(answer, side));
+                .expect_in(("kept", image), cards, kept.lists(), refused(answer, 1));
         }
     }
 
@@ -92,12 +93,14 @@ impl EveryCall {
             ..Call::new(image, name, index)
         };
         self.pulls.expect_call(&call, 4);
+        self.keeps.expect(&call, 4);
         self.reports
             .expect_in(image, cut, needed(image), &Report::refused(4));
         for cards in [[sound, cut], [cut, sound], [whole, cut], [cut, whole]] {
             self.compares
                 .expect_in(image, cards, kept.lists(), OUT_OF_SHAPE);
         }
+        self.compares.expect_by_file(kept, image, cut, OUT_OF_SHAPE);
     }
 
     /// Ends the trial, in which so many cards were to be tried, with each of these answers; 0 stands for a card that
@@ -106,6 +109,7 @@ impl EveryCall {
         self.lookups.finish(at_least, answers);
         self.pulls.finish(at_least, answers);
         self.reports.finish(at_least, answers);
+        self.keeps.finish(at_least, answers);
         let by_side = |&answer: &u32| match answer {
             0 => vec![(15, 0, 0)],
             4 => vec![(4, 0, 0)],

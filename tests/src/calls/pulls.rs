@@ -162,7 +162,8 @@ impl Outcome {
         self.pulled.answer <= 1
     }
 
-    fn opened(&self) -> bool {
+    /// Whether it came past opening, so that there are lists.
+    pub fn opened(&self) -> bool {
         !(4..=8).contains(&self.pulled.answer)
     }
 }

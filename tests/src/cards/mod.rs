@@ -24,6 +24,7 @@ pub mod random_segments;
 pub mod random_trees;
 pub mod segments;
 pub mod sparse;
+pub mod stops;
 pub mod tree;
 pub mod versions;
 pub mod walk_damage;

@@ -1,7 +1,7 @@
 /*
  * Linked into a build of the program in place of the library: every call answers ANY_ANSWER, whatever it is given. A segment
  * report lists the numbers in ANY_LIST, and has ANY_VALID valid blocks, if they are there. If ANY_VERDICT is there, a compare
- * answers that, with ANY_KIND and ANY_NUMBER.
+ * answers that, with ANY_KIND and ANY_NUMBER. A keep writes nothing.
  */
 #include <stdlib.h>
 
@@ -45,15 +45,39 @@ struct harptimber_pulled harptimber_pull(const uint8_t *image, size_t image_len,
     return (struct harptimber_pulled){.answer = answer()};
 }
 
+static struct harptimber_compared verdict(void)
+{
+    return (struct harptimber_compared){.answer = getenv("ANY_VERDICT") == NULL ? answer() : number_in("ANY_VERDICT"),
+                                        .kind = number_in("ANY_KIND"),
+                                        .number = number_in("ANY_NUMBER")};
+}
+
 struct harptimber_compared harptimber_compare(const uint8_t *kept, size_t kept_len, const uint8_t *fresh, size_t fresh_len,
                                               const uint8_t *nodes, size_t nodes_len, uint32_t node_count,
                                               const uint8_t *blocks, size_t blocks_len, uint32_t block_count)
 {
     (void)kept, (void)kept_len, (void)fresh, (void)fresh_len, (void)nodes, (void)nodes_len, (void)node_count;
     (void)blocks, (void)blocks_len, (void)block_count;
-    return (struct harptimber_compared){.answer = getenv("ANY_VERDICT") == NULL ? answer() : number_in("ANY_VERDICT"),
-                                        .kind = number_in("ANY_KIND"),
-                                        .number = number_in("ANY_NUMBER")};
+    return verdict();
+}
+
+struct harptimber_kept harptimber_keep(const uint8_t *image, size_t image_len, const uint8_t *path, size_t path_len, uint32_t index,
+                                       uint8_t *room, size_t room_len)
+{
+    (void)image, (void)image_len, (void)path, (void)path_len, (void)index, (void)room, (void)room_len;
+    return (struct harptimber_kept){.answer = answer()};
+}
+
+struct harptimber_keep_fields harptimber_keep_read(const uint8_t *file, size_t file_len)
+{
+    (void)file, (void)file_len;
+    return (struct harptimber_keep_fields){.answer = answer()};
+}
+
+struct harptimber_compared harptimber_keep_compare(const uint8_t *file, size_t file_len, const uint8_t *fresh, size_t fresh_len)
+{
+    (void)file, (void)file_len, (void)fresh, (void)fresh_len;
+    return verdict();
 }
 
 struct harptimber_segments harptimber_segment_report(const uint8_t *image, size_t image_len, uint8_t *list, size_t list_len)

@@ -6,11 +6,13 @@ pub mod compares;
 pub mod held;
 pub mod inline;
 pub mod json;
+pub mod keeps;
 pub mod levels;
 pub mod measured;
 pub mod page;
 pub mod segments;
 pub mod special_build;
+pub mod synced;
 pub mod versions;
 
 use std::collections::BTreeSet;

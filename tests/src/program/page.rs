@@ -21,7 +21,7 @@ pub const CAUSES: [&str; 8] = [
 ];
 
 /// The keys that each command's JSON may have beside them.
-const KEYS: [(&str, &[&str]); 9] = [
+const KEYS: [(&str, &[&str]); 12] = [
     (
         "info",
         &[
@@ -65,6 +65,64 @@ const KEYS: [(&str, &[&str]); 9] = [
         &[
             "kept",
             "new",
+            "name",
+            "name_hex",
+            "status",
+            "verdict",
+            "kept_size",
+            "new_size",
+            "same",
+            "changed",
+            "same_bytes",
+            "differ",
+            "runs",
+            "end",
+            "side",
+            "files",
+        ],
+    ),
+    (
+        "keep",
+        &[
+            "image",
+            "output",
+            "pull_answer",
+            "pull_meaning",
+            "pull_reason",
+            "length",
+            "main_start",
+            "main_end",
+            "name",
+            "name_hex",
+            "index",
+            "byte_count",
+            "nodes",
+            "blocks",
+        ],
+    ),
+    (
+        "show",
+        &[
+            "file",
+            "pull_answer",
+            "pull_meaning",
+            "pull_reason",
+            "length",
+            "main_start",
+            "main_end",
+            "name",
+            "name_hex",
+            "index",
+            "byte_count",
+            "nodes",
+            "blocks",
+        ],
+    ),
+    (
+        "check",
+        &[
+            "new",
+            "file",
             "name",
             "name_hex",
             "status",

@@ -41,8 +41,8 @@ fn memchecked() -> Command {
     command
 }
 
-/// The slices of a pull, each of which is once shorter than the call is told.
-const PLANTS: [&str; 5] = ["name", "block", "nodes", "blocks", "image"];
+/// The slices of a pull, and of its keep file, each of which is once shorter than the call is told.
+const PLANTS: [&str; 7] = ["name", "block", "nodes", "blocks", "image", "room", "file"];
 
 /// The slices of a report, each of which is once shorter than the call is told.
 const REPORT_PLANTS: [&str; 2] = ["list", "image"];

@@ -22,6 +22,8 @@ use harptimber_tests::program::{run, Ran, Words};
 use harptimber_tests::tools::published::{filled_on, File};
 use harptimber_tests::trial::Random;
 
+use crate::check::expect_as_compare;
+
 /// A kept card and a new one, which are the same but for what a test changes.
 pub(crate) struct Cards {
     kept: ProgramCard,
@@ -101,6 +103,10 @@ impl Cards {
         assert!(json.get("side").is_none(), "a side in {json:?}");
         expected.expect_json(&json);
         assert_eq!(in_words.err + &as_json.err, "");
+        if !expected.whole() {
+            let cards = [&self.kept.disk, &self.fresh];
+            expect_as_compare(run, cards, name, index);
+        }
         expected.status
     }
 }

@@ -7,6 +7,7 @@ use std::path::Path;
 
 use harptimber_tests::program::card::{shared_card, ROAD};
 use harptimber_tests::program::held::make_fifo;
+use harptimber_tests::program::keeps::kept;
 use harptimber_tests::program::page::shown;
 use harptimber_tests::program::*;
 use harptimber_tests::system::{resize, sparse_file};
@@ -18,7 +19,13 @@ const NO_IMAGE: &str = "is neither a file nor a block device";
 fn expect_unreadable(bad: &Path, why: &str, run: impl Fn(Words) -> Ran) {
     let card = shared_card();
     let (good, bad) = (card.disk.path(), bad.to_path_buf());
-    let lines: [Words; 9] = [
+    let scratch = Scratch::new();
+    let [file, output] = ["road.keep", "output"].map(|name| scratch.path(name));
+    fs::write(&file, kept(&card.disk.image, ROAD, 0).unwrap()).unwrap();
+    let lines: [Words; 12] = [
+        &[&"keep", &"-o", &output, &bad, &ROAD],
+        &[&"check", &file, &bad],
+        &[&"check", &"--json", &file, &bad],
         &[&"segments", &bad],
         &[&"segments", &"--json", &bad],
         &[&"pull", &bad, &ROAD, &"0"],
@@ -33,6 +40,7 @@ fn expect_unreadable(bad: &Path, why: &str, run: impl Fn(Words) -> Ran) {
         let message = format!("harptimber: {}: {why}\n", bad.display());
         assert_eq!(run(line).expect_message(2, &[]).err, message);
     }
+    assert_eq!(scratch.names(), ["road.keep"]);
 }
 
 #[test]

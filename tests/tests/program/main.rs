@@ -1,6 +1,7 @@
 //! The program `harptimber`.
 
 mod cat;
+mod check;
 mod compare;
 mod compare_cards;
 mod compare_fields;
@@ -11,6 +12,8 @@ mod info;
 mod inline;
 mod install;
 mod json;
+mod keep;
+mod keep_files;
 mod large;
 mod levels;
 mod ls;
@@ -25,6 +28,7 @@ mod pull;
 mod reasons;
 mod refusals;
 mod segments;
+mod show;
 mod unread;
 mod usage;
 mod while_read;

@@ -8,6 +8,7 @@ use std::process::{Command, Stdio};
 use harptimber_tests::cards::on_disk::OnDisk;
 use harptimber_tests::program::card::{shared_card, ProgramCard, ROAD};
 use harptimber_tests::program::json::Json;
+use harptimber_tests::program::keeps::kept_beside;
 use harptimber_tests::program::{ran, run, run_by_shell, run_to, Words};
 
 /// Bytes up to the byte count, whatever the file had before.
@@ -104,7 +105,8 @@ fn onto_the_image() {
     let card = ProgramCard::build();
     let image = card.disk.path();
     for output in image_paths(&card) {
-        let lines: [Words; 4] = [
+        let lines: [Words; 5] = [
+            &[&"keep", &"-o", &output, &image, &ROAD],
             &[&"pull", &"-o", &output, &image, &ROAD, &"0"],
             &[&"pull", &"--json", &"-o", &output, &image, &ROAD, &"2"],
             &[&"cat", &"-o", &output, &image, &ROAD],
@@ -140,7 +142,8 @@ fn closed_standard_files() {
 
 /// A message that names the output, with the reason.
 fn expect_refused(image: &PathBuf, output: &PathBuf, why: &str) {
-    let lines: [Words; 3] = [
+    let lines: [Words; 4] = [
+        &[&"keep", &"-o", output, image, &ROAD],
         &[&"pull", &"-o", output, image, &ROAD, &"0"],
         &[&"cat", &"-o", output, image, &ROAD],
         &[&"cat", &"--json", &"-o", output, image, &ROAD],
@@ -198,7 +201,14 @@ fn full_standard_output() {
     let card = shared_card();
     let other = OnDisk::new(card.disk.image.clone());
     let [path, new] = [card.disk.path(), other.path()];
-    let lines: [Words; 12] = [
+    let file = kept_beside(&other, "road.keep", ROAD, 0);
+    let output = other.scratch.path("output");
+    let lines: [Words; 17] = [
+        &[&"keep", &"-o", &output, &path, &ROAD],
+        &[&"show", &file],
+        &[&"show", &"--json", &file],
+        &[&"check", &file, &new],
+        &[&"check", &"--json", &file, &new],
         &[&"pull", &path, &ROAD, &"0"],
         &[&"pull", &"--lists", &"--json", &path, &ROAD, &"0"],
         &[&"cat", &path, &ROAD],

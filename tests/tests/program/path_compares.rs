@@ -19,6 +19,7 @@ use harptimber_tests::program::special_build::SpecialBuild;
 use harptimber_tests::program::{run, Ran, Words};
 use harptimber_tests::trial::Random;
 
+use crate::check::expect_as_compare;
 use crate::paths::{name_in, Stage, EIGHT};
 
 /// What is said to have changed, with what stands before it in words: of block 0, or of a refusal.
@@ -41,6 +42,7 @@ fn difference(stage: &Stage, fresh: &OnDisk, path: &[u8]) -> String {
     let ran = run(&[&"compare", &kept, &new, &path]).expect(1);
     let line = format!("\n{start}{difference}\n");
     assert!(ran.words().ends_with(&line), "no '{line}' in {ran:?}");
+    expect_as_compare(run, [&stage.disk, fresh], path, 0);
     difference
 }
 
@@ -344,6 +346,7 @@ fn expect_compared(cards: [&OnDisk; 2], target: &Target) -> i32 {
     let ran = compare_block(run, cards, target).expect(expected.status);
     expected.expect_words(ran.words(), true);
     let status = expected.status;
+    assert_eq!(expect_as_compare(run, cards, path, target.index), status);
     if is_short(images, path) {
         let expected = Expected::along(images, path, &directories, None);
         let [kept, new] = cards.map(OnDisk::path);

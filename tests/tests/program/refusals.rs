@@ -15,6 +15,7 @@ use harptimber_tests::cards::layout::{Field, BLOCK_SIZE};
 use harptimber_tests::cards::lengths::lengths;
 use harptimber_tests::cards::on_disk::{OnDisk, Shared};
 use harptimber_tests::program::json::Json;
+use harptimber_tests::program::keeps::kept_beside;
 use harptimber_tests::program::page::{
     counted, expect_head, expect_name, meaning_with_reason, with_commas,
 };
@@ -225,6 +226,8 @@ fn refused(command: &'static str, words: Words, answer: u32) -> Json {
 #[test]
 fn as_json() {
     let images = Images::shared();
+    let sound = OnDisk::new(sound());
+    let file = kept_beside(&sound, "road.keep", NAME, 7);
     let output = images.scratch.path("output");
     for Unopened { path, answer, why } in &images.unopened {
         let refused = |command, words: Words, answer| {
@@ -237,6 +240,11 @@ fn as_json() {
         assert_eq!(json["byte_count"].number(), 0);
         assert_eq!(json["nodes"].list().len() + json["blocks"].list().len(), 0);
         refused("pull", &[&"-o", &output, path, &NAME, &"7"], *answer);
+        let json = refused("keep", &[&"-o", &output, path, &NAME, &"7"], *answer);
+        assert_eq!(json["nodes"].list().len() + json["blocks"].list().len(), 0);
+        let json = refused("check", &[&file, path], *answer);
+        assert_eq!(json["side"].number(), 2, "side in {json:?}");
+        assert_eq!(json["runs"].list().len(), 0, "runs in {json:?}");
         let json = refused("cat", &[&"-o", &output, path, &NAME], *answer);
         assert_eq!(json["index"].number() + json["bytes"].number(), 0);
         let json = refused("node", &[path, &"3"], *answer);
@@ -258,8 +266,10 @@ fn in_words() {
     let images = Images::shared();
     let sound = OnDisk::new(sound());
     let good = sound.path();
+    let file = kept_beside(&sound, "road.keep", NAME, 0);
+    let output = sound.scratch.path("output");
     for Unopened { path, answer, why } in &images.unopened {
-        let lines: [Words; 7] = [
+        let lines: [Words; 10] = [
             &[&"info", path],
             &[&"segments", path],
             &[&"pull", path, &NAME, &"0"],
@@ -267,6 +277,9 @@ fn in_words() {
             &[&"node", path, &"3"],
             &[&"compare", path, &good, &NAME],
             &[&"cat", path, &NAME],
+            &[&"keep", &"-o", &output, path, &NAME],
+            &[&"check", &file, path],
+            &[&"check", &file, &file, path],
         ];
         for line in lines {
             let ran = run(line).expect(2);
@@ -277,6 +290,9 @@ fn in_words() {
             let behind = first.split_once(&part).map(|(_, behind)| behind);
             let ends = ["", "; nothing was written"].map(Some);
             assert!(ends.contains(&behind), "no '{part}' in {ran:?}");
+            // A card is refused once, whatever it was to be asked of.
+            assert_eq!(text.matches(&part).count(), 1, "{ran:?}");
+            assert!(!output.exists(), "output of a refused image");
         }
     }
 }

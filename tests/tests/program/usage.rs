@@ -6,18 +6,24 @@ use harptimber_tests::program::json::Json;
 use harptimber_tests::program::page::{causes_on_page, expect_keys_on_page, meaning, CAUSES};
 use harptimber_tests::program::{host, ran, run, Word, Words};
 
-/// Each command with as many words as it needs. The files aren't there: usage comes first.
-const COMMANDS: [(&str, &[&str]); 9] = [
+/// Each command with as many words as it needs, and an option that it needs. The files aren't there: usage comes first.
+const COMMANDS: [(&str, &[&str]); 12] = [
     ("info", &["card.img"]),
     ("ls", &["card.img"]),
     ("pull", &["card.img", "road.bin", "0"]),
     ("cat", &["card.img", "road.bin"]),
     ("compare", &["kept.img", "new.img", "road.bin"]),
+    ("keep", &["-o", "file", "card.img", "road.bin"]),
+    ("show", &["road.keep"]),
+    ("check", &["road.keep", "new.img"]),
     ("segments", &["card.img"]),
     ("node", &["card.img", "3"]),
     ("place", &["923", "0"]),
     ("hash", &["road.bin"]),
 ];
+
+/// Those that read no card.
+const NO_IMAGE: [&str; 3] = ["show", "place", "hash"];
 
 fn expect_usage(line: &[&str]) {
     let words: Vec<&dyn Word> = line.iter().map(|word| word as &dyn Word).collect();
@@ -52,10 +58,11 @@ fn missing_words() {
 #[test]
 fn words_too_many() {
     for (command, words) in COMMANDS {
-        // Of paths there may be any number, and ls takes one without needing it.
-        let most = match command {
-            "compare" => continue,
+        // Of paths and keep files there may be any number; ls takes a path, and keep an index, without needing it.
+        let most: &[&str] = match command {
+            "compare" | "check" => continue,
             "ls" => &["card.img", "roads"],
+            "keep" => &["-o", "file", "card.img", "road.bin", "0"],
             _ => words,
         };
         expect_usage(&[&[command], most, &["0"]].concat());
@@ -79,19 +86,25 @@ fn unknown_commands_and_options() {
 #[test]
 fn options_elsewhere() {
     let each = || COMMANDS.iter().map(|(command, _)| *command);
-    for command in each().filter(|of| *of != "pull") {
+    let others = |takes: &'static [&str]| each().filter(move |of| !takes.contains(of));
+    for command in others(&["pull", "show"]) {
         expect_usage_with(&line_of(command), &["--lists"]);
     }
-    for command in each().filter(|of| *of != "compare") {
-        for option in ["-q", "--quiet", "-v", "--verbose", "--index=0"] {
+    for command in others(&["compare"]) {
+        for option in ["-v", "--verbose", "--index=0"] {
             expect_usage_with(&line_of(command), &[option]);
         }
     }
-    for command in ["place", "hash"] {
+    for command in others(&["compare", "check"]) {
+        for option in ["-q", "--quiet"] {
+            expect_usage_with(&line_of(command), &[option]);
+        }
+    }
+    for command in NO_IMAGE {
         expect_usage_with(&line_of(command), &["--offset", "0"]);
         expect_usage_with(&line_of(command), &["--partition=1"]);
     }
-    for command in each().filter(|of| *of != "pull" && *of != "cat") {
+    for command in others(&["pull", "cat", "keep", "show"]) {
         expect_usage_with(&line_of(command), &["-o", "file"]);
         expect_usage_with(&line_of(command), &["--output=file"]);
     }
@@ -99,8 +112,26 @@ fn options_elsewhere() {
 
 #[test]
 fn option_without_its_file() {
-    for command in ["pull", "cat"] {
+    for command in ["pull", "cat", "keep", "show"] {
         expect_usage(&[&line_of(command)[..], &["-o"]].concat());
+    }
+}
+
+/// There is no other place for a keep file.
+#[test]
+fn keep_needs_a_file() {
+    for options in [&[][..], &["--json"], &["--offset", "0"]] {
+        let line = [&["keep", "card.img", "road.bin", "0"], options].concat();
+        let words: Vec<&dyn Word> = line.iter().map(|word| word as &dyn Word).collect();
+        run(&words).expect_message(3, &["harptimber: keep: needs -o FILE\n"]);
+    }
+}
+
+/// What is quiet prints no object.
+#[test]
+fn quiet_with_json() {
+    for command in ["compare", "check"] {
+        expect_usage_with(&line_of(command), &["-q", "--json"]);
     }
 }
 
@@ -139,6 +170,8 @@ fn no_numbers() {
         for options in [&[][..], &["--json"], &["--"]] {
             let expect = |words: &[&str]| expect_usage(&[options, words].concat());
             expect(&["pull", "card.img", "road.bin", wrong]);
+            expect(&["keep", "card.img", "road.bin", wrong, "-o", "file"]);
+            expect(&["-o", "file", "keep", "card.img", "road.bin", wrong]);
             expect(&["node", "card.img", wrong]);
             expect(&["place", wrong, "0"]);
             expect(&["place", "923", wrong]);
@@ -157,10 +190,7 @@ fn no_numbers() {
 fn no_numbers_of_parts() {
     let wide = ["4294967296", "4294967297"];
     let too_wide = "9223372036854775808";
-    for (command, _) in COMMANDS
-        .iter()
-        .filter(|(of, _)| *of != "place" && *of != "hash")
-    {
+    for (command, _) in COMMANDS.iter().filter(|(of, _)| !NO_IMAGE.contains(of)) {
         let offsets = NO_NUMBERS.iter().filter(|wrong| !wide.contains(wrong));
         for wrong in offsets.chain([&too_wide]) {
             expect_usage(&[&line_of(command)[..], &["--offset", wrong]].concat());
@@ -236,7 +266,7 @@ fn help() {
 }
 
 /// The options of each command's own page, beside --help.
-const PAGES: [(&str, &[&str]); 9] = [
+const PAGES: [(&str, &[&str]); 12] = [
     ("info", &["--offset", "--partition", "--json"]),
     ("ls", &["--offset", "--partition", "--json"]),
     (
@@ -248,6 +278,9 @@ const PAGES: [(&str, &[&str]); 9] = [
         "compare",
         &["--index", "-q", "-v", "--offset", "--partition", "--json"],
     ),
+    ("keep", &["-o", "--offset", "--partition", "--json"]),
+    ("show", &["-o", "--lists", "--json"]),
+    ("check", &["-q", "--offset", "--partition", "--json"]),
     ("segments", &["--offset", "--partition", "--json"]),
     ("node", &["--offset", "--partition", "--json"]),
     ("place", &["--json"]),
@@ -266,8 +299,11 @@ fn own_pages() {
         let all = ["-o", "--lists", "--index", "-q", "-v", "--offset"];
         for option in all.into_iter().chain(["--partition", "--json"]) {
             let takes = taken.contains(&option);
+            let needs = command == "keep" && option == "-o";
             let usage = page.words().lines().next().unwrap();
-            assert_eq!(usage.contains(&format!("[{option}")), takes, "{page:?}");
+            let shown =
+                [format!(" [{option}"), format!(" {option} ")].map(|word| usage.contains(&word));
+            assert_eq!(shown, [takes && !needs, needs], "{page:?}");
             let described = |line: &str| line.split([' ', ',', '=']).any(|word| word == option);
             let described = page.words().lines().skip(1).any(described);
             assert!(described || !takes, "no {option} in {page:?}");
@@ -338,7 +374,7 @@ fn man_page() {
     let answers = page.split("\nANSWERS\n").nth(1).expect("the answers");
     let answers = answers.split("\nJSON\n").next().unwrap();
     let answers = answers.replace('\u{2019}', "'");
-    for answer in 0..=16 {
+    for answer in 0..=18 {
         let line = format!(" {answer}   {}", meaning("pull", answer));
         assert!(answers.contains(&line), "no '{line}' in {answers}");
     }

@@ -9,17 +9,19 @@ use std::time::{Duration, SystemTime};
 
 use harptimber_tests::program::card::{shared_card, ProgramCard, LONG, ROAD};
 use harptimber_tests::program::held::{Files, Hold, Holder};
+use harptimber_tests::program::keeps::kept;
 use harptimber_tests::program::{Ran, Words};
 use harptimber_tests::tools::published::Scratch;
 
 /// The times that a file system notes may be so far apart.
 const TICK: Duration = Duration::from_millis(20);
 
-/// Two copies of the card, and the library that holds the program.
+/// Two copies of the card, the library that holds the program, and a keep file in a folder of its own.
 struct Images {
     card: Arc<ProgramCard>,
     holder: Arc<Holder>,
     scratch: Scratch,
+    kept: Scratch,
 }
 
 impl Images {
@@ -28,8 +30,11 @@ impl Images {
             card: shared_card(),
             holder: Holder::shared(),
             scratch: Scratch::new(),
+            kept: Scratch::new(),
         };
         (0..2).for_each(|image| images.restore(image));
+        let file = kept(&images.card.disk.image, ROAD, 5).unwrap();
+        fs::write(images.kept.path("road.keep"), file).unwrap();
         images
     }
 
@@ -58,6 +63,7 @@ impl Images {
     fn each(&self, expect: impl Fn(Words, Hold)) {
         let [kept, new] = [0, 1].map(|image| self.path(image));
         let output = self.output();
+        let file = self.kept.path("road.keep");
         let [road, long] = [(ROAD, 5), (LONG, 925)].map(|(name, index)| {
             let block = self.card.file(name).blocks[&index];
             Hold { image: 0, block }
@@ -70,6 +76,13 @@ impl Images {
         expect(&[&"pull", &"--json", &kept, &ROAD, &"5"], road);
         expect(&[&"pull", &"-o", &"-", &kept, &ROAD, &"5"], road);
         expect(&[&"pull", &"-o", &output, &kept, &ROAD, &"5"], road);
+        expect(&[&"keep", &"-o", &output, &kept, &ROAD, &"5"], road);
+        expect(
+            &[&"keep", &"--json", &"-o", &output, &kept, &ROAD, &"5"],
+            road,
+        );
+        expect(&[&"check", &file, &kept], road);
+        expect(&[&"check", &"--json", &file, &kept], road);
         expect(&[&"cat", &kept, &LONG], long);
         expect(&[&"cat", &"--json", &"-o", &output, &kept, &LONG], long);
         let block = self.card.card.image.first_block(1);

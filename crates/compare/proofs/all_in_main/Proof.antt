@@ -1,40 +1,45 @@
 -- The invariant: what is left decides; all passed lie in the main area.
-use mathlib.Core.Path.{_≡_, sym, _∙_}
+use mathlib.Core.Path.{_≡_, refl, sym, _∙_}
 use mathlib.Core.Bool.{true, false}
-use Prim.Native.Nat.{_≤_, _-_}
+use Prim.Native.Nat.{_-_}
 use native.Mathlib.Omega.{arith}
 use borrow.Author.Needs.{needs}
-use Rattle.list.specs.Lists.{numbers}
-use Rattle.node.specs.Node.{boundsOf, inMain}
+use Rattle.list.specs.Lists.{column}
+use Rattle.list.proofs.Columns.{Turn, turn-first, turn-inside, turn-next}
+use Rattle.node.specs.Node.{Bounds, inMain}
 use Rattle.compare.specs.Lists.{allInMain}
 use Rattle.compare.proofs.Turns.{Left, search-starts, search-over, search-on, search-stops}
 use Rattle.compare.proofs.all_in_main.Statement.{statement}
 use Rattle.compare.proofs.all_in_main.Tie as tie
 
 abbrev Inv-loop : tie.InvT-loop
-Inv-loop v list count i₀ i = (i ≤ count) × (allInMain (boundsOf v) (numbers list 0 count) ≡ Left (inMain (boundsOf v)) (λ b. false) true list i count)
+Inv-loop main main-end bytes start width count at₀ i₀ at i =
+    let m : Bounds = record { start = main; end = main-end } in
+    Turn start width count i at
+    × (allInMain m (column width bytes start count) ≡ Left (inMain m) (λ b. false) true width bytes at i count)
 
 abbrev μ-loop : tie.MeasureT-loop
-μ-loop v list count i₀ i = count - i
+μ-loop main main-end bytes start width count at₀ i₀ at i = count - i
 
 loop-holds : tie.Need-loop-holds Inv-loop μ-loop
 loop-holds c =
-    (omega arith, search-starts _ _ _ _ _)
-
-mul-get32 : tie.Need-mul-get32 Inv-loop μ-loop
-mul-get32 c = search needs
+    (turn-first _ _ _, search-starts _ _ _ _ _ _ _)
 
 get32-requires : tie.Need-get32-requires Inv-loop μ-loop
-get32-requires c κs = search needs
-
-in-main-requires : tie.Need-in-main-requires Inv-loop μ-loop
-in-main-requires c κs = search needs
+get32-requires c κs =
+    omega (arith, turn-inside (c .before .loop .inv .0) (c .loop-test .taken))
 
 returns : tie.Need-returns Inv-loop μ-loop
+unfolding inMain
 returns c =
     let k = c .before .before in
-    let told = search-stops _ _ _ _ _ _ (k .before .loop-test .taken) (k .get32 .ensures) (c .before .in-main .ensures) (c .if1 .taken) in
-    sym (k .before .before .loop .inv .1 ∙ told)
+    let told = search-stops _ _ _ _ _ _ _ _ (k .loop-test .taken) (c .before .get32 .ensures) refl (c .if1 .taken) in
+    sym (k .before .loop .inv .1 ∙ told)
+
+add-at : tie.Need-add-at Inv-loop μ-loop
+add-at c =
+    let k = c .before .before in
+    omega (arith, turn-inside (k .before .loop .inv .0) (k .loop-test .taken))
 
 add-i : tie.Need-add-i Inv-loop μ-loop
 add-i c = search needs
@@ -43,14 +48,15 @@ loop-less : tie.Need-loop-less Inv-loop μ-loop
 loop-less c = search needs
 
 loop-again : tie.Need-loop-again Inv-loop μ-loop
+unfolding inMain
 loop-again c =
     let k = c .before .before in
-    let told = search-on _ _ _ _ _ _ (k .before .loop-test .taken) (k .get32 .ensures) (c .before .in-main .ensures) (c .if1 .left) in
-    (omega arith, k .before .before .loop .inv .1 ∙ told)
+    let told = search-on _ _ _ _ _ _ _ _ (k .loop-test .taken) (c .before .get32 .ensures) refl (c .if1 .left) _ refl in
+    (turn-next (k .before .loop .inv .0) (k .loop-test .taken), k .before .loop .inv .1 ∙ told)
 
 returns-2 : tie.Need-returns-2 Inv-loop μ-loop
 returns-2 c =
-    sym (c .before .loop .inv .1 ∙ search-over _ _ _ _ _ _ (c .loop-test .left))
+    sym (c .before .loop .inv .1 ∙ search-over _ _ _ _ _ _ _ _ (c .loop-test .left))
 
 pub all-in-main-spec : {M : Type 1} → statement M
 all-in-main-spec =
@@ -59,10 +65,9 @@ all-in-main-spec =
     Inv-loop
     μ-loop
     loop-holds
-    mul-get32
     get32-requires
-    in-main-requires
     returns
+    add-at
     add-i
     loop-less
     loop-again

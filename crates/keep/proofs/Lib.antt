@@ -1,0 +1,6 @@
+pub mod Pieces
+pub mod Turns
+pub mod Found
+pub mod Calls
+pub mod Ends
+pub mod Lengths

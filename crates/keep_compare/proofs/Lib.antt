@@ -1,0 +1,3 @@
+mod Turns
+mod Reading
+pub mod Openings

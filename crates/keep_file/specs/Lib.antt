@@ -1,0 +1,4 @@
+pub mod Keep
+pub mod Layout
+pub mod Reading
+pub mod Readable
