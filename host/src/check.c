@@ -23,7 +23,7 @@ struct check {
     enum status status; /* with this as their highest status, */
     uint32_t answer;    /* and this as the answer of the first one that has it */
     bool failed;        /* another couldn't be read */
-    struct json json;   /* waits until the answer is known that stands before it */
+    struct json json;   /* of each; it waits until the answer is known, which stands before it */
 };
 
 static bool is_keep_file(const struct checked *checked)
@@ -50,7 +50,7 @@ static struct holding held_then(const struct pulled *kept)
     return (struct holding){answer, walk_inode(kept->source, kept->path, kept->path_len, answer)};
 }
 
-/* Asks the library whether a keep file still holds. Words may need the file's bytes for as long as there is a comparison. */
+/* Asks the library whether a keep file still holds. The comparison needs the file's bytes as long as it is there. */
 static void compare_kept(struct checked *checked, const struct card *card)
 {
     const struct keep_file *keep = &checked->keep;
@@ -70,7 +70,7 @@ static void compare_kept(struct checked *checked, const struct card *card)
     comparison_add(c, kept.index, &found);
 }
 
-/* Of a card that doesn't open, it is the line that counts, and not by which file that was found. */
+/* A card that doesn't open is told by its own name, and not by that of a file that was to be checked. */
 static void show_words(const struct checked *checked)
 {
     struct asked asked = reading_of(&checked->keep);
@@ -134,13 +134,13 @@ static bool check_mapped(struct check *check, const struct mapping *file)
     struct checked checked = {.path = file->path, .keep = keep_file_of(file->bytes, file->len)};
     if (is_keep_file(&checked))
         compare_kept(&checked, &check->card);
-    bool is_settled = mapping_is_settled(file), card_settled = card_is_settled(&check->card);
-    if (is_settled && card_settled)
+    bool file_stands = mapping_is_settled(file), card_stands = card_is_settled(&check->card);
+    if (file_stands && card_stands)
         tell(check, &checked);
     else
         check->failed = true;
     comparison_free(&checked.comparison);
-    return card_settled && !checked.comparison.refused;
+    return card_stands && !checked.comparison.refused;
 }
 
 /* A file that can't be read keeps none of the others from being checked. */

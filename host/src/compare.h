@@ -1,6 +1,6 @@
 /*
- * What a comparison found, for words and JSON to be made from. compare.c fills it in for two cards, check.c for a keep file, which is
- * one block, and a card.
+ * What a comparison found, for words and JSON to be made from. compare.c fills it in for two cards, check.c for a card and a
+ * keep file, which has one block.
  */
 #ifndef COMPARE_H
 #define COMPARE_H

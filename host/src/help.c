@@ -23,15 +23,16 @@ static void show_options(FILE *out, unsigned taken)
     show_option(out, 'h', "help", NULL, "print this page");
 }
 
-/* A command as it is called: with the options of these bits, in brackets those that it can do without. Returns how many bytes that is. */
+/* A command with the options of these bits, in brackets those that it can do without. Returns how many bytes were printed. */
 static int show_call(FILE *out, const struct command *command, unsigned shown)
 {
     int len = fprintf(out, "%s", command->name);
     for (unsigned i = 0; i < OPTION_COUNT; i++) {
+        if ((shown >> i & 1) == 0)
+            continue;
         char words[ROOM];
         bool needed = (command->needs >> i & 1) != 0;
-        if ((shown >> i & 1) != 0)
-            len += fprintf(out, needed ? " %s" : " [%s]", option_words(&options[i], words, sizeof words));
+        len += fprintf(out, needed ? " %s" : " [%s]", option_words(&options[i], words, sizeof words));
     }
     return len + fprintf(out, " %s", command->words);
 }

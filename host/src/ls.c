@@ -168,8 +168,9 @@ static void show_json(struct ls *ls)
 static struct asked asked_by(const struct ls *ls)
 {
     struct source source = source_of_card(ls->card);
-    return ls->path == NULL ? (struct asked){.source = source}
-                            : pull_of(source, ls->path, strlen(ls->path), UINT32_MAX);
+    if (ls->path == NULL)
+        return (struct asked){.source = source};
+    return pull_of(source, ls->path, strlen(ls->path), UINT32_MAX);
 }
 
 static void json_refusal(struct ls *ls)

@@ -19,7 +19,7 @@ struct mapping {
 };
 
 /*
- * Maps a regular file or a block device; the structure stays where it is until it is closed. If that fails, says why, closes it and
+ * Maps a regular file or a block device. The structure may not be moved until it is closed. If that fails, says why and
  * returns false.
  */
 bool mapping_open(struct mapping *mapping, const char *path, const char *itself);

@@ -1,6 +1,6 @@
 /*
- * What a second walk in C reads: the node table, blocks and the bounds of the main area. It is a card; or a keep file, which has all
- * that the walk of its pull comes to, and nothing else.
+ * What a second walk in C reads: the node table, blocks and the bounds of the main area. It is a card, or a keep file: that
+ * has all that the walk of its pull comes to, and nothing else.
  */
 #ifndef SOURCE_H
 #define SOURCE_H
@@ -9,8 +9,8 @@
 #include "keep_file.h"
 
 struct source {
-    const struct card *card;      /* null if it is */
-    const struct keep_file *keep; /* this one */
+    const struct card *card;      /* null if it is a keep file */
+    const struct keep_file *keep; /* null if it is a card */
 };
 
 /* What the library never answers. */

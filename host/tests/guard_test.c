@@ -369,16 +369,18 @@ static void expect_file(const uint8_t *bytes, size_t len, struct slice fresh, ui
     give_back(&c.file);
 }
 
-/* The same of a file that was cut, or in which a number is FFFFFFFF: of its header, of its bounds and of each list's last entry. */
+/* The same of a file that was cut, or in which a number is FFFFFFFF: of its header, its bounds or a list's last entry. */
 static void expect_odd_file(uint8_t *bytes, const struct harptimber_pulled *pulled, size_t len, struct slice fresh)
 {
     size_t bounds = len - 4100 * (size_t)pulled->block_count - 16 * (size_t)pulled->node_count - 8;
     const size_t cuts[] = {0, 1, 23, 24, 25, bounds, len - 1};
-    const size_t places[] = {0, 4, 8, 12, 16, 20, bounds, bounds + 4, bounds + 8 + 16 * (size_t)(pulled->node_count - 1), len - 4100};
-    size_t cut = cuts[turn % COUNT_OF(cuts)], place = places[turn % COUNT_OF(places)];
+    size_t last_node = bounds + 8 + 16 * (size_t)(pulled->node_count - 1);
+    const size_t wild[] = {0, 4, 8, 12, 16, 20, bounds, bounds + 4, last_node, len - 4100};
+    size_t cut = cuts[turn % COUNT_OF(cuts)], at = wild[turn % COUNT_OF(wild)];
+    uint32_t answer = at < 24 ? (uint32_t)HARPTIMBER_BAD_KEEP_FILE : ANY;
     expect_file(bytes, cut, fresh, HARPTIMBER_BAD_KEEP_FILE, HARPTIMBER_BAD_KEEP_FILE);
-    memset(bytes + place, 0xFF, 4);
-    expect_file(bytes, len, fresh, place < 24 ? HARPTIMBER_BAD_KEEP_FILE : ANY, place < 24 ? HARPTIMBER_BAD_KEEP_FILE : ANY);
+    memset(bytes + at, 0xFF, 4);
+    expect_file(bytes, len, fresh, answer, answer);
 }
 
 /* The keep file of what a pull gave, in a room of just its length and in others, and how it compares with an image. */
@@ -503,7 +505,7 @@ static void expect_noticed(const char *which, void (*make)(void *), struct call 
         printf("FAILED to notice a call that leaves the %s\n", which);
 }
 
-/* A keep file that is told to be longer than it is, or to have a longer room. It is compared with its own image, to the last byte. */
+/* A keep file that is told to be longer, or to have more room, than there is. By its own image it is compared to its last byte. */
 static void run_plant_keep(const char *which, struct call *c)
 {
     size_t len = HARPTIMBER_KEEP_LENGTH_OF(c->name.len, c->pulled.node_count, c->pulled.block_count);
@@ -848,8 +850,11 @@ static void expect_null(const char *what, void (*make)(void *), struct call *c, 
 static void test_keep_nulls(struct call *c)
 {
     /* As short as a keep file can be: one node, that is out of range. */
-    static const uint8_t least_file[HARPTIMBER_KEEP_LENGTH_OF(0, 1, 0)] = {
-        [4] = 1, [12] = 4140 & 255, [13] = 4140 >> 8, [16] = 4156 & 255, [17] = 4156 >> 8, [20] = 4156 & 255, [21] = 4156 >> 8, [4144] = 9};
+    enum { NODES_AT = 4140, END = NODES_AT + 16 };
+    static const uint8_t least_file[END] = {
+        [4] = 1,          [12] = NODES_AT & 255, [13] = NODES_AT >> 8,    [16] = END & 255, [17] = END >> 8,
+        [20] = END & 255, [21] = END >> 8,       [NODES_AT + 4] = HARPTIMBER_NO_NODE,
+    };
     c->room = lend("room", HARPTIMBER_KEEP_BYTES_OF(1));
     c->file = copied("keep file", least_file, sizeof least_file);
     expect_null("keep", make_keep, c, &c->image, &c->kept.answer, HARPTIMBER_OUT_OF_SHAPE);

@@ -1,6 +1,6 @@
 /*
- * Keep files from C: every byte that is written, with a room that is just enough and one byte short; what is refused, and in which
- * order; each rule of reading from both sides; and compares, which are those of the card that a file was written from.
+ * Keep files from C: every byte that is written, with a room that is just enough and one byte short; what is refused, and in
+ * which order; each rule of reading from both sides; and compares, which are those of the card that a file was written from.
  */
 #include "zeros.h"
 
@@ -231,10 +231,10 @@ static void test_layout(void)
         size_t at;
         uint32_t number;
     } numbers[] = {
-        {0, 8},        {4, 2},         {8, 3},       {12, 4148},         {16, 4180},     {20, 16480},     {32, 0},
-        {36, 0},       {40, SIZE},     {4140, MAIN}, {4144, CARD_BLOCKS}, {4148, ROOT},   {4152, 0},       {4156, ROOT},
-        {4160, ROOT_AT}, {4164, FILE_NUMBER}, {4168, 0}, {4172, FILE_NUMBER}, {4176, FILE_AT}, {4180, ROOT_AT}, {8280, ENTRIES_AT},
-        {12380, FILE_AT},
+        {0, 8},           {4, 2},           {8, 3},           {12, 4148},          {16, 4180},         {20, 16480},
+        {32, 0},          {36, 0},          {40, SIZE},       {4140, MAIN},        {4144, CARD_BLOCKS}, {4148, ROOT},
+        {4152, 0},        {4156, ROOT},     {4160, ROOT_AT},  {4164, FILE_NUMBER}, {4168, 0},          {4172, FILE_NUMBER},
+        {4176, FILE_AT},  {4180, ROOT_AT},  {8280, ENTRIES_AT}, {12380, FILE_AT},
     };
     put_sound();
     struct harptimber_kept kept = keep(road, strlen(road), 0, sizeof room);

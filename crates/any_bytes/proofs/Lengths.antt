@@ -15,6 +15,13 @@ use Rattle.pull.proofs.Results.{call-refused}
 use Rattle.compare.specs.Compare.{refused, compared}
 use Rattle.compare.proofs.Openings.{shape-refused}
 use Rattle.segment_report.specs.Report.{refusedReport, segmentReport}
+use Rattle.keep_file.specs.Keep.{Keep}
+use Rattle.keep_file.specs.Reading.{readKeep}
+use Rattle.keep_file.specs.Reading as reading
+use Rattle.keep.specs.Writing.{refusedKeep, keepWritten}
+use Rattle.keep.proofs.Calls as keep
+use Rattle.keep_compare.specs.Compare.{keepCompared}
+use Rattle.keep_compare.proofs.Openings as keep_compare
 use Rattle.any_bytes.proofs.Refusals.{lookup-refused, report-refused}
 
 module _ (image : List ℕ) (out : inShape (length image) ≡ false) where
@@ -33,3 +40,10 @@ module _ (image : List ℕ) (out : inShape (length image) ≡ false) where
 
   pub report-out-of-shape : (list : List ℕ) → segmentReport image list ≡ refusedReport 4 list
   report-out-of-shape = report-refused image 4 (shape-refuses image out)
+
+  pub keep-out-of-shape : (path : List ℕ) (index : ℕ) (room : List ℕ) → keepWritten image path index room ≡ refusedKeep 4 room
+  keep-out-of-shape path index room = keep.call-refused image path index room (rw out)
+
+  -- if the file is one
+  pub check-out-of-shape : (file : List ℕ) {k : Keep} → readKeep file ≡ reading.kept k → keepCompared file image ≡ refused 4 0
+  check-out-of-shape file reads = keep_compare.shape-refused file image reads out

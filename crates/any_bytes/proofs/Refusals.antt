@@ -16,6 +16,14 @@ use Rattle.pull.proofs.Results.{call-opens}
 use Rattle.compare.specs.Compare.{refused, compared}
 use Rattle.compare.proofs.Openings as openings
 use Rattle.sit.proofs.Openings.{still-refused}
+use Rattle.path.specs.Path.{isPath}
+use Rattle.keep_file.specs.Keep.{Keep}
+use Rattle.keep_file.specs.Reading.{readKeep}
+use Rattle.keep_file.specs.Reading as reading
+use Rattle.keep.specs.Writing.{refusedKeep, keepWritten}
+use Rattle.keep.proofs.Calls as keep
+use Rattle.keep_compare.specs.Compare.{keepCompared}
+use Rattle.keep_compare.proofs.Openings as keep_compare
 use Rattle.segment_report.specs.Report.{refusedReport, segmentReport}
 use Rattle.segment_report.proofs.Ends.{refused-by-opening}
 
@@ -29,6 +37,13 @@ module _ (image : List ℕ) (n : ℕ) (refuses : openedImage image ≡ Refused n
 
   pub report-refused : (list : List ℕ) → segmentReport image list ≡ refusedReport n list
   report-refused list = refused-by-opening image list n (still-refused image n refuses)
+
+  pub keep-refused : (path : List ℕ) (index : ℕ) (room : List ℕ) → inShape (length image) && isPath path ≡ true
+      → keepWritten image path index room ≡ refusedKeep n room
+  keep-refused path index room shaped = keep.call-opens image path index room (Refused n) shaped refuses
+
+  pub check-refused : (file : List ℕ) {k : Keep} → readKeep file ≡ reading.kept k → inShape (length image) ≡ true → keepCompared file image ≡ refused n 2
+  check-refused file reads shaped = keep_compare.fresh-refused file image reads shaped n refuses
 
   -- whatever was listed, Compare doesn't say "same" of it: the kept image is looked at first
   module _ (nodes blocks : Listed) where

@@ -1,8 +1,6 @@
 // The C boundary: what the rig's host calls. Each call takes numbers and lent bytes, asks nothing of them, and answers with a
 // struct of 32-bit numbers; host/include/harptimber.h declares the same for C.
 ghost use mathlib.Core.Path.{_≡_};
-ghost use mathlib.Core.List.{[]};
-ghost use Rattle.place.specs.Way.{inArray};
 ghost use Rattle.name_hash.specs.Answer.{hashed};
 ghost use Rattle.nat.specs.Lookup.{tableNumbers, lookupOf};
 ghost use Rattle.pull.specs.Pull.{lending, result, pulled};

@@ -1,13 +1,13 @@
 -- A call of the writer, and the pull that it makes over the room of eight names.
 use Prim.Native.Nat.{ℕ, _/_}
 use native.Mathlib.Omega.{arith}
-use mathlib.Core.Path.{_≡_, refl, sym, ap, _∙_}
+use mathlib.Core.Path.{_≡_, refl}
 use mathlib.Core.Bool.{Bool, true, false, not, _&&_, and-false}
 use mathlib.Core.List.{List}
 use lib.ListN.{length}
 use lib.Dec.{eqb}
 use borrow.Author.Tests.{eq-eqb, le-leb}
-use Rattle.field.specs.Card.{Card, cardOf}
+use Rattle.field.specs.Card.{cardOf}
 use Rattle.field.proofs.Choosing.{needed}
 use Rattle.superblock.specs.Shape.{inShape}
 use Rattle.checkpoint.specs.declared.Volume.{Volume}
@@ -72,12 +72,13 @@ module _ (image : List ℕ) (v : Volume) (path : List ℕ) (index : ℕ) where
       let few = run-few (cardOf image) v path index in
       let names = parts-few path h in
       let bytes = path-most path h in
+      let in-blocks = all-map (λ b i. in-card b i known) (ran .seen .blocks) (run-inside (cardOf image) v path index) in
       record {
         volume = known;
         whole = buffer-length image v known path index (lent .block) size;
         nodesIn = over-inside (ran .seen .nodes) (lent .nodes);
         blocksIn = over-inside (ran .seen .blocks) (lent .blocks);
-        inside = rw (numbers-over (ran .seen .blocks) (lent .blocks)) (all-map (λ b i. in-card b i known) (ran .seen .blocks) (run-inside (cardOf image) v path index));
+        inside = rw (numbers-over (ran .seen .blocks) (lent .blocks)) in-blocks;
         fits = omega arith;
       }
 

@@ -1,17 +1,14 @@
 -- The file of what a pull left: its parts, how long they are, and how they come together.
-use Prim.Native.Nat.{ℕ, suc, _+_, _*_, _≤_, _<_}
+use Prim.Native.Nat.{ℕ, _+_, _*_, _≤_, _<_}
 use native.Mathlib.Omega.{arith}
-use mathlib.Core.Path.{_≡_, refl, sym, ap, _∙_}
-use mathlib.Core.Bool.{true, false}
-use mathlib.Core.List.{List, [], _∷_, _++_}
+use mathlib.Core.Path.{_≡_, sym, ap, _∙_}
+use mathlib.Core.List.{List, _++_}
 use lib.ListN.{length, drop, length-append}
-use lib.Dec.{leb}
 use borrow.Author.Tests.{le-leb, lt-leb}
-use Rattle.field.specs.Card.{Card, cardOf}
+use Rattle.field.specs.Card.{cardOf}
 use Rattle.checkpoint.specs.declared.Volume.{Volume}
-use Rattle.nat.specs.declared.TableAnswer.{TableAnswer}
 use Rattle.nat.specs.Table.{tableAnswer}
-use Rattle.list.specs.Lists.{AllOf, listing, entries, bytesOf}
+use Rattle.list.specs.Lists.{entries, bytesOf}
 use Rattle.list.proofs.Entries.{length-numbers}
 use Rattle.list.proofs.Rises.{all-map}
 use Rattle.buffer.specs.Laid.{laidAt}
@@ -19,13 +16,14 @@ use Rattle.buffer.proofs.Laying.{LaidSo, laid-first, laid-more}
 use Rattle.pull.specs.declared.Pulled.{Pulled}
 use Rattle.pull.specs.Pull.{Result, nodesLeft, blocksLeft}
 use Rattle.field.proofs.Blocks.{length-block}
+use Rattle.nat.specs.declared.TableAnswer.{TableAnswer}
 use Rattle.keep_file.specs.Keep.{Kept, keptBy}
 use Rattle.keep_file.specs.Layout.{answerBytes, layout}
 use Rattle.keep_file.proofs.Found.{length-by, all-kept, all-by}
 use Rattle.keep_file.proofs.Entries.{length-entries}
 use Rattle.keep_file.proofs.Values.{answer-size}
-use Rattle.keep.specs.Writing.{Writing, writing, refusedKeep, fileWritten}
-use Rattle.keep.specs.Parts.{nodeEntry, nodesOf, blocksOf, frontOf, keepFound, endFound, Keepable}
+use Rattle.keep.specs.Writing.{writing, refusedKeep, fileWritten}
+use Rattle.keep.specs.Parts.{nodesOf, blocksOf, frontOf, keepFound, endFound, Keepable}
 
 -- ---- the parts
 pub front-length : (v : Volume) (path : List ℕ) (index : ℕ) (p : Pulled) (block : List ℕ) → length block ≡ 4096
@@ -59,7 +57,12 @@ module _ (image : List ℕ) (v : Volume) (path : List ℕ) (index : ℕ) (r : Re
   -- the file is its parts
   found-parts : layout (keepFound (cardOf image) v path index r) ≡ front ++ nodes ++ blocks
   unfolding layout keepFound frontOf
-  found-parts = rw (length-by (tableAnswer (cardOf image) v), length-by (cardOf image .block), length-numbers, length-numbers)
+  found-parts = rw (
+    length-by (tableAnswer (cardOf image) v),
+    length-by (cardOf image .block),
+    length-numbers (nodesLeft r .bytes),
+    length-numbers (blocksLeft r .bytes),
+  )
 
   pub found-length : length (layout (keepFound (cardOf image) v path index r)) ≡ endFound path r
   found-length =

@@ -2,7 +2,7 @@
 -- what was there.
 use Prim.Native.Nat.{ℕ, _+_, _-_, _*_, _≤_, _<_}
 use native.Mathlib.Omega.{arith}
-use mathlib.Core.Path.{_≡_, refl, sym, ap, _∙_}
+use mathlib.Core.Path.{_≡_}
 use mathlib.Core.List.{List, [], _∷_, _++_}
 use lib.ListN.{length}
 use Rattle.field.specs.Number.{le32}
@@ -10,7 +10,7 @@ use Rattle.list.specs.Lists.{AllOf, numbers, bytesOf}
 use Rattle.list.proofs.Entries.{numbers-cons, numbers-nil}
 use Rattle.buffer.specs.Laid.{laidAt}
 use Rattle.buffer.proofs.Laying.{laid-none, laid-behind}
-use Rattle.keep_file.specs.Keep.{Kept, keptBy}
+use Rattle.keep_file.specs.Keep.{keptBy}
 use Rattle.keep_file.specs.Layout.{keptBytes}
 
 -- what holds of all listed, before the first turn
@@ -39,9 +39,9 @@ module _ {A : Type 0} (bytes : A → List ℕ) (f : ℕ → A) (l : List ℕ) wh
   turns-over i n place d h = rw (numbers-nil l i n h) (laid-none place d)
 
   -- entry i, of the number x, was laid
-  pub turn : (i n : ℕ) → i < n → {x : ℕ} → x ≡ le32 l (4 * i) → (place next size : ℕ) (d : List ℕ) {e : List ℕ} → next ≡ place + size
+  pub turn : (i n : ℕ) → i < n → {x : ℕ} → x ≡ le32 l (4 * i) → (place size : ℕ) (d : List ℕ) {e : List ℕ}
       → length (bytesOf (x ∷ []) ++ bytes (f x)) ≡ size → place + size ≤ length d → e ≡ laidAt place (bytesOf (x ∷ []) ++ bytes (f x)) d
-      → laidAt next (left (i + 1) n) e ≡ laidAt place (left i n) d
+      → laidAt (place + size) (left (i + 1) n) e ≡ laidAt place (left i n) d
   unfolding keptBytes keptBy
-  turn i n h {x} is place next size d on long room put =
-      rw (numbers-cons l i n h, ← is, put, on, ← long) (laid-behind place (bytesOf (x ∷ []) ++ bytes (f x)) d (omega arith) (left (i + 1) n))
+  turn i n h {x} is place size d long room put =
+      rw (numbers-cons l i n h, ← is, put, ← long) (laid-behind place (bytesOf (x ∷ []) ++ bytes (f x)) d (omega arith) (left (i + 1) n))

@@ -4,8 +4,8 @@ use native.Mathlib.Omega.{arith}
 use mathlib.Core.Path.{_≡_, refl, sym, ap, ap₂, subst, _∙_}
 use mathlib.Core.Bool.{true}
 use mathlib.Core.Logic.{_⊎_, inl, inr}
-use mathlib.Core.List.{List, [], _++_}
-use lib.ListN.{length, take, drop, replicate, length-replicate, length-append}
+use mathlib.Core.List.{List, []}
+use lib.ListN.{length, drop, length-replicate, length-append}
 use lib.Seq.{take-append-seam}
 use Rattle.field.specs.Card.{cardOf}
 use Rattle.field.proofs.Blocks.{length-block}
@@ -26,12 +26,9 @@ use Rattle.pull.proofs.Whole.{buffer-length}
 use Rattle.pull_again.proofs.Steps.{nodes-left, blocks-left, same-written}
 use Rattle.compare.specs.Difference.{difference}
 use Rattle.compare.proofs.Differences.{kept-alike}
-use Rattle.keep_file.specs.Keep.{numbersOf, keptBy, Keep, keptView}
-use Rattle.keep_file.specs.Layout.{layout}
-use Rattle.keep_file.specs.Reading.{kept, readKeep}
+use Rattle.keep_file.specs.Keep.{numbersOf, Keep, keptView}
 use Rattle.keep_file.specs.Readable.{Whole}
 use Rattle.keep_file.proofs.Found.{numbers-by, length-by, found-by, all-by}
-use Rattle.keep_file.proofs.GivenBack.{given-back}
 use Rattle.keep.specs.Writing.{zeros, keepRun, keepOf, Writing, keepWritten}
 use Rattle.keep.proofs.Ends.{fileFor, WriteEnds, refusal, short, whole, ends}
 use Rattle.keep_compare.specs.Compare.{keepDifference}

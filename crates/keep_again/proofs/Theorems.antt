@@ -17,9 +17,10 @@ use Rattle.checkpoint.proofs.Inside.{image-shaped, image-volume}
 use Rattle.walk.specs.Walk.{viewOf}
 use Rattle.node.specs.Node.{boundsOf}
 use Rattle.path.specs.Path.{partCount, isPath}
-use Rattle.pull.specs.Pull.{Lent, lending, Result, result, lentInShape, callInShape, pulled}
+use Rattle.pull.specs.Pull.{Lent, lending, Result, result, lentInShape, callInShape, pulled, nodesLeft}
 use Rattle.pull.specs.declared.Pulled.{Pulled}
 use Rattle.pull.proofs.Results.{call-in-shape}
+use Rattle.pull.proofs.Theorems.{run-some}
 use Rattle.pull.proofs.Results as pull
 use Rattle.compare.specs.declared.Compared.{Compared}
 use Rattle.compare.specs.Difference.{difference}
@@ -27,8 +28,8 @@ use Rattle.compare.specs.Compare.{verdict}
 use Rattle.compare.proofs.Openings.{lists-compared, compared-opened}
 use Rattle.compare.proofs.Openings as compare
 use Rattle.pull_again.specs.Demand.{said, SamePull}
-use Rattle.pull_again.proofs.Steps.{Came, lists-fit, nodes-of-run, blocks-of-run}
-use Rattle.pull_again.proofs.Demand.{whenever-same}
+use Rattle.pull_again.proofs.Steps.{Came, lists-fit, nodes-of-run, blocks-of-run, some-past}
+use Rattle.pull_again.proofs.Demand.{whenever-same, same-itself}
 use Rattle.keep_file.specs.Keep.{Keep}
 use Rattle.keep_file.specs.Reading.{kept, readKeep}
 use Rattle.keep_file.proofs.GivenBack.{given-back}
@@ -37,9 +38,8 @@ use Rattle.keep.specs.declared.Written.{Written}
 use Rattle.keep.specs.Writing.{zeros, keepOf, Writing, writing, keepWritten}
 use Rattle.keep.proofs.Calls.{eight-room}
 use Rattle.keep.proofs.Ends.{ends}
-use Rattle.keep_compare.specs.Compare.{keepDifference, keepCompared}
+use Rattle.keep_compare.specs.Compare.{keepCompared}
 use Rattle.keep_compare.proofs.Openings.{file-refused, shape-refused, fresh-refused, fresh-opened}
-use Rattle.keep_again.specs.declared.Again.{Again}
 use Rattle.keep_again.specs.Demand.{fileOf, GivesKept, KeptAgain}
 use Rattle.keep_again.proofs.Steps.{Wrote, answered-wrote, no-file, kept-whole, run-gives, difference-kept}
 
@@ -133,6 +133,13 @@ module _ (image path : List ℕ) (index : ℕ) (room : List ℕ) (wrote : keepWr
   same-gives-kept fresh e lent takes =
       let says = ap (λ (c : Compared). c .answer) (sym (compares-as-image enough takes-enough fresh)) ∙ e in
       gives-same (keeps-the-pull enough takes-enough) (whenever-same image fresh path index enough lent takes says)
+
+  -- Compared with the image it was written from, a keep file is "same".
+  pub same-as-written : keepCompared file image .answer ≡ 15
+  same-as-written =
+      let some = subst (λ (r : Result). 1 ≤ nodesLeft r .count) (sym (came enough takes-enough .wrote)) (run-some (cardOf image) v path index) in
+      ap (λ (c : Compared). c .answer) (compares-as-image enough takes-enough image)
+      ∙ same-itself image path index enough (some-past image path index enough some)
 
 -- ---- what a host has in hand
 nothing-same : (fresh : List ℕ) → keepCompared [] fresh .answer ≡ 15 → ⊥

@@ -10,9 +10,7 @@ use Rattle.field.specs.Number.{le32}
 use Rattle.list.specs.Lists.{column}
 use Rattle.compare.specs.Lists.{isRising, allInMain}
 use Rattle.keep_file.specs.Layout.{pathStart, blockStart, nodesStart, blocksStart, fileEnd}
-use Rattle.node.specs.Node.{Bounds}
 use Rattle.keep_file.specs.Reading.{nodesAt, blocksAt, areAnswers, pathLength, nodeCount, blockCount, keepIn, listsReadable, fieldsOf}
-use Rattle.keep_file.specs.declared.Fields.{Fields}
 use Rattle.keep_file.specs.Readable.{Measured}
 use Rattle.keep_file.proofs.Lengths.{path-length, nodes-length, blocks-length, node-numbers, block-numbers}
 

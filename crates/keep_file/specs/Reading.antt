@@ -8,7 +8,6 @@ use Rattle.field.specs.Number.{le32}
 use Rattle.field.specs.Choice.{choose}
 use Rattle.nat.specs.declared.TableAnswer.{TableAnswer}
 use Rattle.nat.specs.declared.TableAnswer.the-variants.{OutOfRange, Entry}
-use Rattle.node.specs.Node.{Bounds}
 use Rattle.compare.specs.Lists.{isRising, allInMain}
 use Rattle.keep_file.specs.declared.Fields.{Fields}
 use Rattle.keep_file.specs.Keep.{Kept, numbersOf, Keep}

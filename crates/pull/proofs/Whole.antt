@@ -1,16 +1,16 @@
 -- A pull leaves the block buffer with as many bytes as it has: what is put into it are 4,096, also where they are an inode's own.
-use Prim.Native.Nat.{ℕ, _+_, _-_, _≤_}
+use Prim.Native.Nat.{ℕ, _-_, _≤_}
 use native.Mathlib.Omega.{arith}
 use mathlib.Core.Path.{_≡_, _∙_}
 use mathlib.Core.Bool.{true, false}
-use mathlib.Core.List.{List, _++_}
+use mathlib.Core.List.{List}
 use lib.ListN.{length, take, drop, replicate, length-append, length-drop, length-replicate}
 use lib.Seq.{length-take-le}
 use Rattle.field.specs.Card.{cardOf}
 use Rattle.field.proofs.Blocks.{length-block}
 use Rattle.checkpoint.specs.declared.Volume.{Volume}
 use Rattle.checkpoint.specs.Volume.{VolumeIn}
-use Rattle.walk.specs.Walk.{View, viewOf, empty, Outcome, ok, stop, run}
+use Rattle.walk.specs.Walk.{View, viewOf, empty, Outcome, ok, stop}
 use Rattle.walk.proofs.Comes.{Comes, IfOk, comes-done, comes-stop, comes-if, comes-then, comes-map, comes-any}
 use Rattle.inode.specs.Inode.{inodeOf, hasInlineData, inlineStart, isRegular, addressesIn, isPast, countIn}
 use Rattle.inode.proofs.Counting.{count-in-block}

@@ -2,3 +2,4 @@ pub mod SegmentRules
 pub mod LevelRules
 pub mod InlineRules
 pub mod PathRules
+pub mod KeepRules

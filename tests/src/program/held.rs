@@ -2,11 +2,12 @@
 
 use std::fs::File;
 use std::os::unix::fs::OpenOptionsExt;
-use std::path::{Path, PathBuf};
+use std::path::Path;
 use std::process::{Command, Stdio};
 use std::sync::Arc;
 
 use crate::cards::on_disk::Shared;
+use crate::program::preloaded::Preloaded;
 use crate::program::{command, Ran, Words};
 use crate::running::{aside, started, Running};
 use crate::tools::published::{run, Scratch};
@@ -45,26 +46,13 @@ impl Files {
 }
 
 /// The library that holds the program.
-pub struct Holder(Scratch);
+pub struct Holder(Preloaded);
 
 impl Holder {
     /// The one that the tests of a file share.
     pub fn shared() -> Arc<Holder> {
         static HOLDER: Shared<Holder> = Shared::empty();
-        HOLDER.get(|| {
-            let holder = Holder(Scratch::new());
-            let mut compiler = Command::new("cc");
-            compiler.args(["-Wall", "-Wextra", "-Werror", "-shared", "-fPIC"]);
-            // As the program has it, so that both mean the same function by mmap.
-            compiler.arg("-D_FILE_OFFSET_BITS=64");
-            let source = Path::new(env!("CARGO_MANIFEST_DIR")).join("src/program/held.c");
-            run(compiler.arg("-o").arg(holder.library()).arg(source));
-            holder
-        })
-    }
-
-    fn library(&self) -> PathBuf {
-        self.0.path("held.so")
+        HOLDER.get(|| Holder(Preloaded::of("held.c")))
     }
 
     /// Starts a run, and waits until it is held: until the file is closed.
@@ -73,7 +61,7 @@ impl Holder {
         let fifo = scratch.path("fifo");
         make_fifo(&fifo);
         let mut command = command(words);
-        command.env("LD_PRELOAD", self.library());
+        self.0.load(&mut command);
         command.env("HELD_IMAGE", hold.image.to_string());
         command.env("HELD_BLOCK", hold.block.to_string());
         command.env("HELD_BY", &fifo);

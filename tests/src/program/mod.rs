@@ -10,6 +10,7 @@ pub mod keeps;
 pub mod levels;
 pub mod measured;
 pub mod page;
+mod preloaded;
 pub mod segments;
 pub mod special_build;
 pub mod synced;

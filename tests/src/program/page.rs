@@ -20,11 +20,42 @@ pub const CAUSES: [&str; 8] = [
     "sit_journal_count",
 ];
 
+/// What was asked for, and what it rests on.
+const PULL_KEYS: [&str; 6] = ["name", "name_hex", "index", "byte_count", "nodes", "blocks"];
+
+/// What else a keep file has.
+const KEPT_KEYS: [&str; 6] = [
+    "pull_answer",
+    "pull_meaning",
+    "pull_reason",
+    "length",
+    "main_start",
+    "main_end",
+];
+
+/// What became of a file, or of a block.
+const COMPARED_KEYS: [&str; 14] = [
+    "name",
+    "name_hex",
+    "status",
+    "verdict",
+    "kept_size",
+    "new_size",
+    "same",
+    "changed",
+    "same_bytes",
+    "differ",
+    "runs",
+    "end",
+    "side",
+    "files",
+];
+
 /// The keys that each command's JSON may have beside them.
-const KEYS: [(&str, &[&str]); 12] = [
+const KEYS: [(&str, &[&[&str]]); 12] = [
     (
         "info",
-        &[
+        &[&[
             "image",
             "offset",
             "bytes",
@@ -36,116 +67,30 @@ const KEYS: [(&str, &[&str]); 12] = [
             "packs",
             "table",
             "partitions",
-        ],
+        ]],
     ),
     (
         "ls",
-        &["image", "name", "name_hex", "complete", "problems", "names"],
+        &[&["image", "name", "name_hex", "complete", "problems", "names"]],
     ),
-    (
-        "pull",
-        &[
-            "image",
-            "name",
-            "name_hex",
-            "index",
-            "byte_count",
-            "nodes",
-            "blocks",
-        ],
-    ),
+    ("pull", &[&["image"], &PULL_KEYS]),
     (
         "cat",
-        &[
+        &[&[
             "image", "name", "name_hex", "output", "bytes", "blocks", "holes", "index",
-        ],
+        ]],
     ),
-    (
-        "compare",
-        &[
-            "kept",
-            "new",
-            "name",
-            "name_hex",
-            "status",
-            "verdict",
-            "kept_size",
-            "new_size",
-            "same",
-            "changed",
-            "same_bytes",
-            "differ",
-            "runs",
-            "end",
-            "side",
-            "files",
-        ],
-    ),
-    (
-        "keep",
-        &[
-            "image",
-            "output",
-            "pull_answer",
-            "pull_meaning",
-            "pull_reason",
-            "length",
-            "main_start",
-            "main_end",
-            "name",
-            "name_hex",
-            "index",
-            "byte_count",
-            "nodes",
-            "blocks",
-        ],
-    ),
-    (
-        "show",
-        &[
-            "file",
-            "pull_answer",
-            "pull_meaning",
-            "pull_reason",
-            "length",
-            "main_start",
-            "main_end",
-            "name",
-            "name_hex",
-            "index",
-            "byte_count",
-            "nodes",
-            "blocks",
-        ],
-    ),
-    (
-        "check",
-        &[
-            "new",
-            "file",
-            "name",
-            "name_hex",
-            "status",
-            "verdict",
-            "kept_size",
-            "new_size",
-            "same",
-            "changed",
-            "same_bytes",
-            "differ",
-            "runs",
-            "end",
-            "side",
-            "files",
-        ],
-    ),
+    ("compare", &[&["kept", "new"], &COMPARED_KEYS]),
+    ("keep", &[&["image", "output"], &PULL_KEYS, &KEPT_KEYS]),
+    ("show", &[&["file"], &PULL_KEYS, &KEPT_KEYS]),
+    ("check", &[&["new", "file"], &COMPARED_KEYS]),
     (
         "segments",
-        &["image", "count", "valid_blocks", "segments", "empty", "off"],
+        &[&["image", "count", "valid_blocks", "segments", "empty", "off"]],
     ),
-    ("node", &["image", "number", "inode", "address"]),
-    ("place", &["addresses", "index", "way"]),
-    ("hash", &["name", "name_hex", "hash", "hash_hex"]),
+    ("node", &[&["image", "number", "inode", "address"]]),
+    ("place", &[&["addresses", "index", "way"]]),
+    ("hash", &[&["name", "name_hex", "hash", "hash_hex"]]),
 ];
 
 /// Those of the objects inside, by the key under which they stand.
@@ -211,8 +156,13 @@ const INNER_KEYS: [(&str, &[&str]); 9] = [
     ("way", &["place", "slot"]),
 ];
 
-fn keys_of(table: &[(&str, &'static [&'static str])], of: &str) -> &'static [&'static str] {
-    let found = table.iter().find(|(name, _)| *name == of);
+fn keys_of(command: &str) -> Vec<&'static str> {
+    let found = KEYS.iter().find(|(name, _)| *name == command);
+    found.map_or(Vec::new(), |(_, keys)| keys.concat())
+}
+
+fn inner_keys_of(key: &str) -> &'static [&'static str] {
+    let found = INNER_KEYS.iter().find(|(name, _)| *name == key);
     found.map_or(&[], |(_, keys)| keys)
 }
 
@@ -277,9 +227,9 @@ pub fn causes_on_page() -> Vec<String> {
 
 /// A command's own words on JSON name each key, as often as it stands in another object, and nothing else.
 pub fn expect_keys_on_page(command: &str) {
-    let keys = keys_of(&KEYS, command);
-    let inner = keys.iter().map(|key| keys_of(&INNER_KEYS, key));
-    let keys = [&[keys], &inner.collect::<Vec<_>>()[..]].concat().concat();
+    let mut keys = keys_of(command);
+    let inner: Vec<_> = keys.iter().map(|key| inner_keys_of(key)).collect();
+    keys.extend(inner.concat());
     let paragraph = on_json(command);
     let words: Vec<&str> = paragraph.lines().flat_map(in_bold).collect();
     for key in words.iter().chain(&keys) {
@@ -320,7 +270,7 @@ pub fn expect_head(json: &Json, command: &str, answer: u32) {
     assert_eq!(json["command"].text(), command);
     assert_eq!(json["answer"].number(), u64::from(answer), "in {json:?}");
     assert_eq!(json["meaning"].text(), meaning(command, answer));
-    expect_keys(json, &[&HEAD[..], keys_of(&KEYS, command)].concat());
+    expect_keys(json, &[&HEAD[..], &keys_of(command)].concat());
     expect_causes(json, answer);
     for (key, known) in INNER_KEYS {
         match json.get(key) {

@@ -1,33 +1,22 @@
 //! Runs of the program of which it is noted when they put files on the disk, and when they name them.
 
 use std::fs;
-use std::path::{Path, PathBuf};
-use std::process::{Command, Stdio};
+use std::process::Stdio;
 use std::sync::Arc;
 
 use crate::cards::on_disk::Shared;
+use crate::program::preloaded::Preloaded;
 use crate::program::{command, ran, Ran, Words};
-use crate::tools::published::{run, Scratch};
+use crate::tools::published::Scratch;
 
 /// The library that notes it.
-pub struct Synced(Scratch);
+pub struct Synced(Preloaded);
 
 impl Synced {
     /// The one that the tests of a file share.
     pub fn shared() -> Arc<Synced> {
         static SYNCED: Shared<Synced> = Shared::empty();
-        SYNCED.get(|| {
-            let synced = Synced(Scratch::new());
-            let mut compiler = Command::new("cc");
-            compiler.args(["-Wall", "-Wextra", "-Werror", "-shared", "-fPIC"]);
-            let source = Path::new(env!("CARGO_MANIFEST_DIR")).join("src/program/synced.c");
-            run(compiler.arg("-o").arg(synced.library()).arg(source));
-            synced
-        })
-    }
-
-    fn library(&self) -> PathBuf {
-        self.0.path("synced.so")
+        SYNCED.get(|| Synced(Preloaded::of("synced.c")))
     }
 
     /// Runs the program. Returns what it did in which order, too; its files may fail to get on the disk.
@@ -35,8 +24,7 @@ impl Synced {
         let scratch = Scratch::new();
         let notes = scratch.path("notes");
         let mut command = command(words);
-        command.env("LD_PRELOAD", self.library());
-        command.env("SYNCED_IN", &notes);
+        self.0.load(&mut command).env("SYNCED_IN", &notes);
         if fails {
             command.env("SYNCED_FAILS", "");
         }

@@ -275,6 +275,8 @@ fn in_a_part() {
     checks.run(&[], &[&file]).expect(0);
 }
 
+type Change = fn(&File);
+
 /// A keep file that is written or cut while it is read is no answer. It is mapped behind the card.
 #[test]
 fn while_read() {
@@ -288,7 +290,7 @@ fn while_read() {
         (&[&"show", &file], 0),
         (&[&"show", &"--json", &file], 0),
     ];
-    let changes: [(fn(&File), &str); 3] = [
+    let changes: [(Change, &str); 3] = [
         (|_| (), ""),
         (
             |file| file.write_all_at(b"new", 9000).unwrap(),

@@ -1,7 +1,10 @@
 //! Files that are no keep files: what is told of why; and keep files that nobody wrote as one.
 
+use std::fs;
+
 use harptimber_tests::calls::keep_files::{reference_compare, reference_read};
 use harptimber_tests::calls::keep_parts::Parts;
+use harptimber_tests::cards::layout::BLOCK_SIZE;
 use harptimber_tests::cards::on_disk::OnDisk;
 use harptimber_tests::cards::random::pick;
 use harptimber_tests::program::card::{shared_card, ProgramCard, INLINE, LONG, OUTSIDE, ROAD};
@@ -213,6 +216,28 @@ fn expect_any(run: impl Fn(Words) -> Ran, card: &OnDisk, bytes: &[u8]) -> u32 {
     let output = card.scratch.path("any.block");
     run(&[&"show", &"-o", &output, &file]);
     compared.answer
+}
+
+/// A byte count of more than a block: no more than the block is written, or compared.
+#[test]
+fn counts_too_high() {
+    let sound = Sound::new();
+    let block = sound.parts.block.clone();
+    for count in [BLOCK_SIZE as u32 + 1, u32::MAX] {
+        let bytes = sound.changed(|parts| {
+            parts.pull[2] = count;
+            let (_, inode) = &mut parts.blocks[0];
+            inode[BLOCK_SIZE - 1] ^= 1;
+        });
+        let file = beside(&sound.card, "high.keep", &bytes);
+        let json = run(&[&"check", &"--json", &file, &sound.card.path()]).expect(1);
+        let json = json.json();
+        assert_eq!(json["verdict"].text(), "same bytes", "{json:?}");
+        let output = sound.card.scratch.path("high.block");
+        let ran = run(&[&"show", &"--json", &"-o", &output, &file]).expect(0);
+        assert_eq!(ran.json()["byte_count"].number(), u64::from(count));
+        assert!(fs::read(&output).unwrap() == block, "{ran:?}");
+    }
 }
 
 /// Bytes of a path, which may be none, or hold anything.

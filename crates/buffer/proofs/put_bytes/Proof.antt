@@ -1,3 +1,4 @@
+-- A part of the room is lent and filled.
 use native.Mathlib.Omega.{arith}
 use Rattle.buffer.proofs.Laying.{laid-part}
 use borrow.Author.Needs.{needs}

@@ -1,3 +1,4 @@
+-- A number stored is its four bytes laid.
 use mathlib.Core.Path.{_∙_}
 use Rattle.buffer.proofs.Laying.{laid-number}
 use borrow.Author.Needs.{needs}

@@ -1,5 +1,5 @@
 -- `keep` meets its contract: out of shape, refused by the opening, or written.
-use mathlib.Core.Path.{_≡_, sym, ap, _∙_}
+use mathlib.Core.Path.{_≡_, sym, _∙_}
 use mathlib.Core.Bool.{true, not, _&&_}
 use lib.Dec.{eqb}
 use lib.ListN.{length}

@@ -1,8 +1,9 @@
-use mathlib.Core.Path.{subst, sym, ap, _∙_}
-use lib.ListN.{length-replicate}
+-- The pull is made over zeros of the room of eight names, and what it left is written.
+use mathlib.Core.Path.{_≡_, sym, ap, subst, _∙_}
+use lib.ListN.{length, replicate, length-replicate}
 use Prim.Native.Nat.{ℕ}
 use Rattle.field.specs.Card.{cardOf}
-use Rattle.pull.specs.Pull.{Result, lending, result}
+use Rattle.pull.specs.Pull.{Result}
 use Rattle.keep_file.specs.Keep.{Keep}
 use Rattle.keep_file.specs.Layout.{layout}
 use Rattle.keep.specs.Writing.{fileWritten}
@@ -19,6 +20,10 @@ start-of k = k .before .before .before .before .before .before .before
 abbrev pulled-of : tie.After-write-file-arg → tie.After-pull-opened
 pulled-of k = k .before .before .before .before .before .before .before
 
+-- the arrays that are lent
+zeros-length : (n : ℕ) → length {A = ℕ} (replicate n 0) ≡ n
+zeros-length n = length-replicate {A = ℕ} n 0
+
 -- ---- the needs
 
 slice-aggregate-pull-opened : tie.Need-slice-aggregate-pull-opened
@@ -33,7 +38,8 @@ slice-aggregate-pull-opened-3 c = search needs
 pull-opened-requires : tie.Need-pull-opened-requires
 pull-opened-requires c κs =
     let s = c .before .before .before .before .before .before in
-    (s .pre .0, (s .pre .1, eight-room (s .args .path .now) _ (s .pre .1) (length-replicate {A = ℕ} 4096 0) (length-replicate {A = ℕ} 5616 0) (length-replicate {A = ℕ} 7476 0)))
+    let room = eight-room (s .args .path .now) _ (s .pre .1) (zeros-length 4096) (zeros-length 5616) (zeros-length 7476) in
+    (s .pre .0, (s .pre .1, room))
 
 slice-aggregate-write-file : tie.Need-slice-aggregate-write-file
 slice-aggregate-write-file c = search needs
@@ -49,7 +55,7 @@ write-file-requires c κs =
     let k = pulled-of c in
     let s = start-of k in
     subst (λ (r : Result). Keepable (cardOf (s .args .image .now)) (s .args .v) (s .args .path .now) r) (sym (k .pull-opened .ensures))
-    (run-keepable (s .args .image .now) (s .args .v) (s .args .path .now) (s .args .index) (s .pre .0) (s .pre .1) _ (length-replicate {A = ℕ} 4096 0))
+    (run-keepable (s .args .image .now) (s .args .v) (s .args .path .now) (s .args .index) (s .pre .0) (s .pre .1) _ (zeros-length 4096))
 
 same-length : tie.Need-same-length
 same-length c = search needs
@@ -59,10 +65,9 @@ returns c =
     let put = c .before .before in
     let k = pulled-of (put .before) in
     let s = start-of k in
-    let card = cardOf (s .args .image .now) in
-    put .write-file .ensures
-    ∙ ap (λ (r : Result). fileWritten (layout (keepFound card (s .args .v) (s .args .path .now) (s .args .index) r)) (s .args .room .now)) (k .pull-opened .ensures)
-    ∙ ap (λ (f : Keep). fileWritten (layout f) (s .args .room .now)) (found-run (s .args .image .now) (s .args .v) (s .args .path .now) (s .args .index) _ _)
+    let found = ap (keepFound (cardOf (s .args .image .now)) (s .args .v) (s .args .path .now) (s .args .index)) (k .pull-opened .ensures) in
+    let kept = found-run (s .args .image .now) (s .args .v) (s .args .path .now) (s .args .index) _ _ in
+    put .write-file .ensures ∙ ap (λ (f : Keep). fileWritten (layout f) (s .args .room .now)) (found ∙ kept)
 
 pub keep-opened-spec : {M : Type 1} → statement M
 keep-opened-spec =

@@ -1,3 +1,6 @@
+-- A table answer of either kind is three numbers.
+use Prim.Native.Nat.{ℕ}
+use mathlib.Core.List.{List}
 use mathlib.Core.Path.{ap, sym, _∙_}
 use Rattle.nat.specs.declared.TableAnswer.{TableAnswer}
 use Rattle.buffer.specs.Laid.{laidAt}
@@ -12,6 +15,10 @@ start-of k = k .before .before .before .before .before
 
 abbrev start-of-2 : tie.After-put-three2 → tie.Start
 start-of-2 k = k .before .before .before .before .before .before
+
+-- the room with an answer laid into it
+abbrev laid : tie.Start → TableAnswer → List ℕ
+laid s t = laidAt (s .args .at) (answerBytes t) (s .args .room .now)
 
 -- ---- the needs
 
@@ -34,7 +41,7 @@ returns : tie.Need-returns
 returns c =
     let put = c .before .before in
     let s = start-of put in
-    put .put-three .ensures ∙ ap (λ (t : TableAnswer). laidAt (s .args .at) (answerBytes t) (s .args .room .now)) (sym (put .before .before .enum-told .given .1))
+    put .put-three .ensures ∙ ap (laid s) (sym (put .before .before .enum-told .given .1))
 
 same-length-2 : tie.Need-same-length-2
 same-length-2 c = search needs
@@ -43,7 +50,7 @@ returns-2 : tie.Need-returns-2
 returns-2 c =
     let put = c .before .before in
     let s = start-of-2 put in
-    put .put-three2 .ensures ∙ ap (λ (t : TableAnswer). laidAt (s .args .at) (answerBytes t) (s .args .room .now)) (sym (put .before .before .before .said .given .1))
+    put .put-three2 .ensures ∙ ap (laid s) (sym (put .before .before .before .said .given .1))
 
 pub put-answer-spec : {M : Type 1} → statement M
 put-answer-spec =

@@ -1,3 +1,4 @@
+-- The number, then the block's bytes.
 use native.Mathlib.Omega.{arith}
 use Rattle.field.proofs.Blocks.{length-of-block}
 use Rattle.keep.proofs.Pieces.{block-laid}

@@ -68,14 +68,14 @@ loop-again c =
     let loop = inside .before .loop in
     let s = start-of (inside .before) in
     let read = put .before .before .get32 in
-    let here = listed-next _ _ _ _ (inside .loop-test .taken) (read .ensures) (loop .inv .2) in (
-      omega arith,
-      omega arith,
-      here .1,
-      turn _ _ (s .args .blocks .now) (loop .i) (s .args .count) (inside .loop-test .taken) (read .ensures)
-          (s .args .at + 4100 * loop .i) _ 4100 (loop .room) (omega arith) (block-size (s .args .image .now) _ (here .0)) (omega arith) (put .put-block .ensures)
-          ∙ loop .inv .3,
-    )
+    let place = s .args .at + 4100 * loop .i in
+    let here = listed-next _ _ _ _ (inside .loop-test .taken) (read .ensures) (loop .inv .2) in
+    let size = block-size (s .args .image .now) _ (here .0) in
+    let on =
+    turn _ _ (s .args .blocks .now) (loop .i) (s .args .count) (inside .loop-test .taken) (read .ensures) place 4100
+    (loop .room) size (omega arith) (put .put-block .ensures) in
+    let next : s .args .at + 4100 * (loop .i + 1) ≡ place + 4100 = omega arith in
+    (omega arith, omega arith, here .1, rw next (on ∙ loop .inv .3))
 
 same-length : tie.Need-same-length Inv-loop μ-loop
 same-length c = search needs

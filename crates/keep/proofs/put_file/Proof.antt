@@ -1,3 +1,4 @@
+-- What stands before the lists, then the nodes, then the blocks.
 use Rattle.pull.specs.Pull.{Result, lending, result}
 use Rattle.keep.proofs.Found.{file-laid}
 use borrow.Author.Needs.{needs}

@@ -1,3 +1,4 @@
+-- Six pieces, one behind the other.
 use Rattle.keep.proofs.Pieces.{front-laid}
 use borrow.Author.Needs.{needs}
 use Rattle.keep.proofs.put_front.Statement.{statement}

@@ -1,3 +1,4 @@
+-- The header's numbers, three and three.
 use Rattle.keep.proofs.Pieces.{header-laid}
 use borrow.Author.Needs.{needs}
 use Rattle.keep.proofs.put_header.Statement.{statement}

@@ -1,3 +1,4 @@
+-- The number, then its table answer.
 use Rattle.field.specs.Card.{cardOf}
 use Rattle.keep.proofs.Pieces.{node-laid}
 use borrow.Author.Needs.{needs}

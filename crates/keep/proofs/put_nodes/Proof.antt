@@ -64,13 +64,14 @@ loop-again c =
     let put = c .before .before in
     let inside = inside-of put in
     let loop = inside .before .loop in
-    let s = start-of (inside .before) in (
-      omega arith,
-      omega arith,
-      turn _ _ (s .args .nodes .now) (loop .i) (s .args .count) (inside .loop-test .taken) (put .before .before .get32 .ensures)
-          (s .args .at + 16 * loop .i) _ 16 (loop .room) (omega arith) (node-size (cardOf (s .args .image .now)) (s .args .v) _) (omega arith) (put .put-node .ensures)
-          ∙ loop .inv .2,
-    )
+    let s = start-of (inside .before) in
+    let place = s .args .at + 16 * loop .i in
+    let size = node-size (cardOf (s .args .image .now)) (s .args .v) (put .before .before .get32 .result) in
+    let on =
+    turn _ _ (s .args .nodes .now) (loop .i) (s .args .count) (inside .loop-test .taken) (put .before .before .get32 .ensures) place 16
+    (loop .room) size (omega arith) (put .put-node .ensures) in
+    let next : s .args .at + 16 * (loop .i + 1) ≡ place + 16 = omega arith in
+    (omega arith, omega arith, rw next (on ∙ loop .inv .2))
 
 same-length : tie.Need-same-length Inv-loop μ-loop
 same-length c = search needs

@@ -1,3 +1,4 @@
+-- Three numbers, one behind the other.
 use Rattle.keep.proofs.Pieces.{three-laid}
 use borrow.Author.Needs.{needs}
 use Rattle.keep.proofs.put_three.Statement.{statement}

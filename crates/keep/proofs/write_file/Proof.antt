@@ -1,3 +1,5 @@
+-- 17 if the file is longer than the room; else it is laid.
+use native.Mathlib.Omega.{arith}
 use mathlib.Core.Path.{_≡_, sym, _∙_}
 use mathlib.Core.List.{List}
 use lib.ListN.{length}
@@ -42,7 +44,7 @@ returns : tie.Need-returns
 returns c =
     let e = c .before in
     let s = start-of e in
-    room-short (file-of s) (s .args .room .now) (file-size e) (c .if1 .taken)
+    room-short (file-of s) (s .args .room .now) (file-size e) (omega (arith, c .if1 .taken))
 
 put-file-requires : tie.Need-put-file-requires
 put-file-requires c κs = search needs
@@ -58,7 +60,7 @@ returns-2 c =
     let put = c .before .before in
     let e = put .before .before .before in
     let s = start-of e in
-    room-enough (file-of s) (s .args .room .now) (file-size e) (put .before .before .if1 .left) (put .put-file .ensures)
+    room-enough (file-of s) (s .args .room .now) (file-size e) (omega (arith, put .before .before .if1 .left)) (put .put-file .ensures)
 
 pub write-file-spec : {M : Type 1} → statement M
 write-file-spec =

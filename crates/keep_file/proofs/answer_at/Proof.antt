@@ -3,9 +3,6 @@ use Rattle.keep_file.specs.Reading.{answerAt}
 use borrow.Author.Needs.{needs}
 use Rattle.keep_file.proofs.answer_at.Statement.{statement}
 use Rattle.keep_file.proofs.answer_at.Tie as tie
-use Rattle.keep_file.proofs.answer_at.Reads as reads
-use Rattle.keep_file.proofs.answer_at.Lts as lts
-use Rattle.field.proofs.get32.Reads as get32-reads
 
 -- src/lib.rt:43:8
 get32-requires : tie.Need-get32-requires

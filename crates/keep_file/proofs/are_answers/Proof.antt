@@ -7,9 +7,6 @@ use Rattle.keep_file.specs.Reading.{areAnswers}
 use Rattle.keep_file.proofs.Answers.{Left, answers-start, answers-over, answers-on, answers-stop}
 use Rattle.keep_file.proofs.are_answers.Statement.{statement}
 use Rattle.keep_file.proofs.are_answers.Tie as tie
-use Rattle.keep_file.proofs.are_answers.Reads as reads
-use Rattle.keep_file.proofs.are_answers.Lts as lts
-use Rattle.keep_file.proofs.is_answer.Reads as is-answer-reads
 
 abbrev Inv-loop : tie.InvT-loop
 Inv-loop file start count i₀ i = (i ≤ count) × (areAnswers file start count ≡ Left file start i count)

@@ -2,9 +2,6 @@ use Rattle.keep_file.specs.Reading.{isAnswer}
 use borrow.Author.Needs.{needs}
 use Rattle.keep_file.proofs.is_answer.Statement.{statement}
 use Rattle.keep_file.proofs.is_answer.Tie as tie
-use Rattle.keep_file.proofs.is_answer.Reads as reads
-use Rattle.keep_file.proofs.is_answer.Lts as lts
-use Rattle.field.proofs.get32.Reads as get32-reads
 
 -- src/lib.rt:57:9
 get32-requires : tie.Need-get32-requires

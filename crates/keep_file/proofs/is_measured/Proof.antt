@@ -3,9 +3,6 @@ use Rattle.keep_file.proofs.Lengths.{short}
 use borrow.Author.Needs.{needs}
 use Rattle.keep_file.proofs.is_measured.Statement.{statement}
 use Rattle.keep_file.proofs.is_measured.Tie as tie
-use Rattle.keep_file.proofs.is_measured.Reads as reads
-use Rattle.keep_file.proofs.is_measured.Lts as lts
-use Rattle.field.proofs.get32.Reads as get32-reads
 
 -- src/lib.rt:83:9
 returns : tie.Need-returns
