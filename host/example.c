@@ -1,6 +1,6 @@
-/* What README.md shows of the library, as a whole program: example KEPT NEW caches block 0 of roads/road.bin from
- * the first card, prints it, and says whether it is still good on the second: status 0 if it is, 1 if not, 2
- * if something failed. It is C and C++. */
+/* What README.md shows of the library, as a whole program: example OLD NEW keeps block 0 of roads/road.bin from the
+ * first card, lets go of that card, prints the block, and says whether it is still good on the second: status 0 if
+ * it is, 1 if not, 2 if something failed. It is C and C++. */
 #include <errno.h>
 #include <fcntl.h>
 #include <stdio.h>
@@ -11,28 +11,30 @@
 
 #include "harptimber.h"
 
-struct cached {
-    struct harptimber_pulled pulled;
-    uint8_t block[HARPTIMBER_BLOCK_BYTES];
-    uint8_t nodes[HARPTIMBER_NODES_BYTES], blocks[HARPTIMBER_BLOCKS_BYTES];
+/* A keep file of one block: what was asked, the answer, and all that it rested on. It may go to a disk and come back. */
+struct kept {
+    struct harptimber_kept file;
+    uint8_t bytes[HARPTIMBER_KEEP_BYTES_OF(2)]; /* room for a path of two names */
 };
 
-/* Caches block 0 of roads/road.bin. Returns 1 if there is one, data or a hole. */
-static int cache_road(struct cached *c, const uint8_t *kept, size_t kept_len)
+/* Keeps block 0 of roads/road.bin. The card isn't needed any more then. */
+static int keep_road(struct kept *k, const uint8_t *card, size_t card_len)
 {
     static const char path[] = "roads/road.bin";
-    c->pulled = harptimber_pull(kept, kept_len, (const uint8_t *)path, sizeof path - 1, 0, c->block, sizeof c->block,
-                                c->nodes, sizeof c->nodes, c->blocks, sizeof c->blocks);
-    return c->pulled.answer == HARPTIMBER_DATA || c->pulled.answer == HARPTIMBER_HOLE;
+    k->file = harptimber_keep(card, card_len, (const uint8_t *)path, sizeof path - 1, 0, k->bytes, sizeof k->bytes);
+    return k->file.answer == HARPTIMBER_DATA;
 }
 
-/* Later, with the kept card and a new one. Returns HARPTIMBER_SAME if the cached block is still good. */
-static uint32_t ask_again(const struct cached *c, const uint8_t *kept, size_t kept_len, const uint8_t *fresh,
-                          size_t fresh_len)
+/* What was kept: the pull's answer, its byte count, and at block_at the bytes. With data or a hole there are some. */
+static struct harptimber_keep_fields what_is_kept(const struct kept *k)
 {
-    return harptimber_compare(kept, kept_len, fresh, fresh_len, c->nodes, sizeof c->nodes, c->pulled.node_count,
-                              c->blocks, sizeof c->blocks, c->pulled.block_count)
-        .answer;
+    return harptimber_keep_read(k->bytes, k->file.length);
+}
+
+/* Later, with a new card. Returns HARPTIMBER_SAME if what is kept is still good. */
+static uint32_t ask_again(const struct kept *k, const uint8_t *fresh, size_t fresh_len)
+{
+    return harptimber_keep_compare(k->bytes, k->file.length, fresh, fresh_len).answer;
 }
 
 struct image {
@@ -78,39 +80,48 @@ static void close_image(struct image *image)
     munmap((void *)(uintptr_t)image->bytes, image->len);
 }
 
-/* The status to end with. */
-static int play(const char *const *paths, const struct image *kept, const struct image *fresh)
+/* Keeps the road's block, and ends with the card closed. */
+static int keep_from(const char *path, struct kept *kept)
 {
-    static struct cached cached;
-    if (!cache_road(&cached, kept->bytes, kept->len)) {
-        failed(paths[0], harptimber_answer_words(cached.pulled.answer));
-        return 2;
-    }
-    if (fwrite(cached.block, 1, cached.pulled.byte_count, stdout) != cached.pulled.byte_count || fflush(stdout) != 0) {
-        failed("standard output", strerror(errno));
-        return 2;
-    }
-    uint32_t answer = ask_again(&cached, kept->bytes, kept->len, fresh->bytes, fresh->len);
+    struct image card;
+    if (!open_image(path, &card))
+        return 0;
+    int done = keep_road(kept, card.bytes, card.len);
+    close_image(&card);
+    return done || failed(path, harptimber_answer_words(kept->file.answer));
+}
+
+/* Prints the kept block's bytes; of the old card only the keep file is left. */
+static int print_kept(const char *path, const struct kept *kept)
+{
+    struct harptimber_keep_fields fields = what_is_kept(kept);
+    if (fields.pull_answer != HARPTIMBER_DATA && fields.pull_answer != HARPTIMBER_HOLE)
+        return failed(path, harptimber_answer_words(fields.pull_answer));
+    if (fwrite(kept->bytes + fields.block_at, 1, fields.byte_count, stdout) != fields.byte_count || fflush(stdout) != 0)
+        return failed("standard output", strerror(errno));
+    return 1;
+}
+
+/* The status to end with. */
+static int check(const char *path, const struct kept *kept, const struct image *fresh)
+{
+    uint32_t answer = ask_again(kept, fresh->bytes, fresh->len);
     if (answer != HARPTIMBER_SAME)
-        failed(paths[1], harptimber_answer_words(answer));
+        failed(path, harptimber_answer_words(answer));
     return answer == HARPTIMBER_SAME ? 0 : answer == HARPTIMBER_CHANGED ? 1 : 2;
 }
 
 int main(int argc, char **argv)
 {
-    struct image kept, fresh;
+    static struct kept kept;
+    struct image fresh;
     if (argc != 3) {
-        fprintf(stderr, "usage: example KEPT NEW\n");
+        fprintf(stderr, "usage: example OLD NEW\n");
         return 3;
     }
-    if (!open_image(argv[1], &kept))
+    if (!keep_from(argv[1], &kept) || !open_image(argv[2], &fresh))
         return 2;
-    int status = 2;
-    if (open_image(argv[2], &fresh)) {
-        const char *const paths[] = {argv[1], argv[2]};
-        status = play(paths, &kept, &fresh);
-        close_image(&fresh);
-    }
-    close_image(&kept);
+    int status = print_kept(argv[1], &kept) ? check(argv[2], &kept, &fresh) : 2;
+    close_image(&fresh);
     return status;
 }

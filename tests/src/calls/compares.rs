@@ -41,6 +41,19 @@ pub fn stored(numbers: &[u32]) -> Vec<u8> {
     stored.flatten().collect()
 }
 
+/// Lists that don't rise any more: one number has its neighbour's value, or the two have changed places.
+pub fn disordered(rising: &[u32]) -> Vec<Vec<u32>> {
+    let mut lists = Vec::new();
+    for at in 1..rising.len() {
+        let mut equal = rising.to_vec();
+        equal[at] = equal[at - 1];
+        let mut swapped = rising.to_vec();
+        swapped.swap(at - 1, at);
+        lists.extend([equal, swapped]);
+    }
+    lists
+}
+
 /// Two lists with their counts, as they are lent to a compare.
 #[derive(Clone, Copy)]
 pub struct Lists<'a> {

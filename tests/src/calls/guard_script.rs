@@ -43,8 +43,8 @@ impl Script {
         self.line(format!("card {name}"));
     }
 
-    /// A pull from the card with the damage that this image has, and compares with the sound one.
-    /// Returns the pull's answer.
+    /// A pull from the card with the damage that this image has, and compares with the sound one, also by
+    /// keep files of both. Returns the pull's answer.
     pub fn pull(&mut self, sound: &Image, image: &Image, name: &[u8], index: u32) -> u32 {
         self.damage(image);
         let cards = [image, sound];
@@ -100,7 +100,7 @@ impl Script {
         self.line(format!("node {number} {answer}"));
     }
 
-    /// A pull of data that is told more of a slice than there is.
+    /// A pull of data, or its keep file, that is told more of a slice than there is.
     pub fn plant(&mut self, slice: &str, name: &[u8], index: u32) {
         self.line(format!("plant {slice} {} {index}", hex(name)));
     }

@@ -45,6 +45,13 @@ pub enum Place {
     Content(u32),
 }
 
+impl Place {
+    /// Whether it is one number, and not the bytes of a path or block.
+    pub fn is_number(self) -> bool {
+        !matches!(self, Place::Path | Place::Block | Place::Content(_))
+    }
+}
+
 impl Parts {
     /// Of a pull that came past opening: by its own lists, lookups of the nodes and the bytes of the image.
     pub fn of_pull(call: &Call, outcome: &Outcome) -> Parts {

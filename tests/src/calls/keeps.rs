@@ -7,7 +7,7 @@ use crate::calls::lent::{Pattern, Slice};
 use crate::calls::pulls::{Call, Outcome};
 use crate::sizes::keep_length;
 use crate::trial::{Random, Trial};
-use crate::{Kept, Pulled};
+use crate::{KeepFields, Kept, Pulled};
 
 /// A longer room has up to so many bytes more than it needs.
 const MOST_SPARE: u64 = 5000;
@@ -76,21 +76,23 @@ impl InRoom {
     }
 }
 
-/// What the paper says of a call, by a pull: its answer, and the file.
+/// What the paper says of a call, by a pull: its answer, the file, and what reading that gives.
 struct Told {
     answer: u32,
     file: KeepFile,
+    fields: Option<KeepFields>,
 }
 
 impl Told {
     fn of(call: &Call) -> Told {
         let pull = Outcome::of(crate::pull, call, call.least());
         let answer = pull.pulled.answer;
-        let file = match pull.opened() {
-            true => Ok(Parts::of_pull(call, &pull).laid_out()),
-            false => Err(answer),
-        };
-        Told { answer, file }
+        let parts = pull.opened().then(|| Parts::of_pull(call, &pull));
+        Told {
+            answer,
+            file: parts.as_ref().map(Parts::laid_out).ok_or(answer),
+            fields: parts.as_ref().map(Parts::fields),
+        }
     }
 }
 
@@ -108,7 +110,8 @@ impl Keeps {
         }
     }
 
-    /// Compares the file of a pull with the reference's and with the paper's, in rooms around its length.
+    /// Compares the file of a pull with the reference's and with the paper's, in rooms around its length. Reading it
+    /// gives it back.
     pub fn compare(&mut self, call: &Call) {
         self.check_around(call, &Told::of(call));
     }
@@ -142,6 +145,7 @@ impl Keeps {
 
     fn check(&mut self, call: &Call, told: &Told, rooms: Vec<Slice>) {
         self.answers.note(told.answer);
+        self.check_read(call, told);
         let [library, reference] = [crate::keep as Keep, reference_keep].map(|keep| {
             let rooms = rooms.iter().cloned();
             rooms.map(|room| InRoom::of(keep, call, room)).collect()
@@ -154,6 +158,13 @@ impl Keeps {
             (&library, "by the paper", &library),
             (&reference, "by the paper", &told),
         );
+    }
+
+    fn check_read(&mut self, call: &Call, told: &Told) {
+        if let Ok(file) = &told.file {
+            let read = Some(crate::keep_read(file));
+            self.trial.check(("read", call), read, told.fields);
+        }
     }
 
     /// Ends the trial, in which pulls with each of these answers have to have come up.

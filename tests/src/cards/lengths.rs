@@ -54,4 +54,14 @@ impl Image {
         assert_eq!(knobs.image_blocks(), SOUND);
         Image::new(&knobs.in_image_of(LONGEST))
     }
+
+    /// A sound card without a root and one without a superblock, that are longer than they need to be; each with what a
+    /// pull answers to it.
+    pub fn rootless_to_be_cut() -> [(Image, u32); 2] {
+        let nothing = Knobs {
+            copies: [false, false],
+            ..Knobs::sound()
+        };
+        [(Knobs::sound(), 9), (nothing, 5)].map(|(knobs, answer)| (Image::to_be_cut(knobs), answer))
+    }
 }

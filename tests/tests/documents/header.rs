@@ -16,7 +16,8 @@ use harptimber_tests::program::levels::MOST_LEVEL;
 use harptimber_tests::program::page::{meaning, with_commas};
 use harptimber_tests::program::{host, ran};
 use harptimber_tests::sizes::{
-    blocks_most, nodes_most, BLOCKS_MOST, CARD_BLOCKS_MOST, NAMES_MOST, NODES_MOST, SEGMENTS_MOST,
+    blocks_most, keep_length, keep_most, nodes_most, BLOCKS_MOST, CARD_BLOCKS_MOST, NAMES_MOST,
+    NODES_MOST, SEGMENTS_MOST,
 };
 use harptimber_tests::tools::published::Scratch;
 
@@ -76,6 +77,8 @@ fn sizes() {
         ("NAME_BYTES_MOST", LONGEST_NAME),
         ("NAMES_MOST", NAMES_MOST as usize),
         ("PATH_BYTES_MOST", 2047),
+        ("KEEP_BYTES", keep_most(NAMES_MOST) as usize),
+        ("KEEP_BYTES", 7_691_551),
     ] {
         let statement = format!("printf(\"%d\", HARPTIMBER_{name});");
         assert_eq!(printed(&statement), size.to_string(), "{name}");
@@ -95,6 +98,26 @@ fn rooms_by_names() {
         let Lens { nodes, blocks, .. } = Lens::of(names);
         let most = (nodes_most(names), blocks_most(names));
         expected += &format!("{} {} {nodes} {blocks}\n", most.0, most.1);
+    }
+    for language in [C99, CPP11] {
+        assert_eq!(printed_by(language, uses), expected, "by {language:?}");
+    }
+}
+
+/// The bytes of keep files: by what is in one, and the most for a path by its names.
+#[test]
+fn keep_lengths() {
+    let uses = "enum { one = HARPTIMBER_KEEP_BYTES_OF(1), least = HARPTIMBER_KEEP_LENGTH_OF(0, 1, 0) };
+        size_t path_len = 2000 + 47;
+        uint32_t nodes = 1404, blocks = 1869;
+        printf(\"%d %d %lu\\n\", one, least, (unsigned long)HARPTIMBER_KEEP_LENGTH_OF(path_len, nodes, blocks - 1 + 1));
+        for (int k = 0; k < HARPTIMBER_NAMES_MOST; k++)
+            printf(\"%d\\n\", HARPTIMBER_KEEP_BYTES_OF(k + 1));";
+    let longest = keep_length(2047, NODES_MOST, BLOCKS_MOST);
+    let mut expected = format!("{} 4156 {longest}\n", keep_most(1));
+    for names in 1..=NAMES_MOST {
+        assert_eq!(keep_most(names), 958_356 * names + 24_703);
+        expected += &format!("{}\n", keep_most(names));
     }
     for language in [C99, CPP11] {
         assert_eq!(printed_by(language, uses), expected, "by {language:?}");
@@ -124,13 +147,13 @@ fn card_bytes() {
 #[test]
 fn words() {
     let words = printed(
-        "for (uint32_t answer = 0; answer <= HARPTIMBER_CHANGED; answer++)
+        "for (uint32_t answer = 0; answer <= HARPTIMBER_BAD_KEEP_FILE; answer++)
             puts(harptimber_answer_words(answer));",
     );
     let words: Vec<&str> = words.lines().collect();
-    let page = (0..=16).map(|answer| meaning("pull", answer));
+    let page = (0..=18).map(|answer| meaning("pull", answer));
     assert_eq!(words, page.collect::<Vec<_>>());
-    for unknown in ["17", "UINT32_MAX"] {
+    for unknown in ["19", "UINT32_MAX"] {
         let statement = format!("puts(harptimber_answer_words({unknown}));");
         assert_eq!(printed(&statement), "unknown\n");
     }

@@ -35,10 +35,10 @@ fn change_bytes(
     let (mut file, mut count) = (parts.laid_out(), 0);
     let places = parts.places().into_iter();
     for (range, place) in places.filter(|(_, place)| there(*place)) {
-        for (at, &by) in range
+        let changes = range
             .clone()
-            .flat_map(|at| by.iter().map(move |by| (at, by)))
-        {
+            .flat_map(|at| by.iter().map(move |by| (at, by)));
+        for (at, by) in changes {
             file[at] ^= by;
             let input = (place, "byte", at, "by", by);
             match told(parts, &file, place, &range) {
@@ -52,10 +52,6 @@ fn change_bytes(
     count
 }
 
-fn is_number(place: Place) -> bool {
-    !matches!(place, Place::Path | Place::Block | Place::Content(_))
-}
-
 /// By every other value, in all numbers of files.
 #[test]
 fn numbers_by_every_value() {
@@ -64,7 +60,7 @@ fn numbers_by_every_value() {
     let mut count = 0;
     for source in [Source::missing, Source::no_blocks] {
         let source = source(&mut files.trial.random);
-        count += change_bytes(&mut files, &source, &every, is_number);
+        count += change_bytes(&mut files, &source, &every, Place::is_number);
     }
     assert_eq!(count, 255 * (4 * (11 + 4) * 2 + 4 * 2));
     let every = [(15, 0, 0), (16, 0, 1), (16, 0, 2), (16, 0, 3), (18, 0, 0)];
@@ -77,21 +73,23 @@ fn numbers_of_longer_lists() {
     let mut files = KeepFiles::new("keep files of four nodes with a byte of a number changed");
     let source = Source::data(&mut files.trial.random);
     let by = [1, 2, 9, 16, 0x80, 0xFF];
-    let count = change_bytes(&mut files, &source, &by, is_number);
+    let count = change_bytes(&mut files, &source, &by, Place::is_number);
     assert_eq!(count, 6 * 4 * (11 + 4 * 4 + 7));
     let every = [(15, 0, 0), (16, 0, 1), (16, 0, 2), (16, 0, 3), (18, 0, 0)];
     files.finish(count, &every);
 }
 
-/// Every byte there is.
+/// Every byte there is; the shorter a file, by the more values.
 #[test]
 fn every_byte() {
     let mut files = KeepFiles::new("keep files with any byte changed");
     let mut count = 0;
-    for source in Source::all(&mut files.trial.random) {
-        let by = 1 + files.trial.random.below(255) as u8;
-        let changed = change_bytes(&mut files, &source, &[by], |_| true);
-        assert_eq!(changed, source.parts.laid_out().len() as u64);
+    let sources = Source::all(&mut files.trial.random);
+    for (source, values) in sources.iter().zip([1, 2, 6]) {
+        let random = &mut files.trial.random;
+        let by: Vec<u8> = (0..values).map(|_| 1 + random.below(255) as u8).collect();
+        let changed = change_bytes(&mut files, source, &by, |_| true);
+        assert_eq!(changed, values * source.parts.laid_out().len() as u64);
         count += changed;
     }
     files.finish(count, &[(15, 0, 0), (16, 0, 3), (18, 0, 0)]);

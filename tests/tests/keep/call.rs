@@ -5,7 +5,6 @@ use harptimber_tests::calls::pulls::Call;
 use harptimber_tests::cards::damage::all_faults;
 use harptimber_tests::cards::folders::{Folders, Shape};
 use harptimber_tests::cards::image::Image;
-use harptimber_tests::cards::knobs::Knobs;
 use harptimber_tests::cards::layout::superblock::MAGIC;
 use harptimber_tests::cards::layout::BLOCK_SIZE;
 use harptimber_tests::cards::lengths::{lengths, LENGTHS};
@@ -23,12 +22,7 @@ fn cut<'a>(image: &'a Image, len: usize, path: &'a [u8]) -> Call<'a> {
 #[test]
 fn image_lengths() {
     let mut keeps = Keeps::new("keep by image length");
-    let nothing = Knobs {
-        copies: [false, false],
-        ..Knobs::sound()
-    };
-    for (knobs, opened) in [(Knobs::sound(), 9), (nothing, 5)] {
-        let image = Image::to_be_cut(knobs);
+    for (image, opened) in Image::rootless_to_be_cut() {
         for (len, in_shape) in lengths() {
             let answer = if in_shape { opened } else { 4 };
             keeps.expect(&cut(&image, len, b"road"), answer);

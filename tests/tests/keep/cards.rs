@@ -155,7 +155,7 @@ fn ends_of_the_table() {
     compares.finish(6 * 2, &[(15, 0, 0), (16, 0, 2)]);
 }
 
-/// A file whose data is the last block of the largest card; then that card has fewer segments.
+/// A file in the last blocks of the largest card; last, beside a card that has no such blocks.
 #[test]
 fn largest_card() {
     let mut compares = Compares::new("compare with a file at the end of the largest card");

@@ -12,6 +12,7 @@ mod written;
 
 use harptimber_tests::calls::keep_parts::Parts;
 use harptimber_tests::calls::pulls::{Call, Outcome};
+use harptimber_tests::cards::card::ROOT;
 use harptimber_tests::cards::folders::{Folders, Shape};
 use harptimber_tests::cards::image::Image;
 use harptimber_tests::cards::stops::INDEX;
@@ -34,35 +35,33 @@ impl Source {
         Source { image, parts }
     }
 
-    /// Data behind a direct node, in a folder: four nodes and seven blocks.
+    /// It has to have this answer, and as many nodes and blocks.
+    fn expect(self, answer: u32, nodes: usize, blocks: usize) -> Source {
+        let parts = &self.parts;
+        let lists = (parts.nodes.len(), parts.blocks.len());
+        assert_eq!((parts.pull[1], lists), (answer, (nodes, blocks)));
+        self
+    }
+
+    /// Data behind a direct node, in a folder.
     fn data(random: &mut Random) -> Source {
         let folders = Folders::new(random, &[Shape::PLAIN; 2], INDEX);
         let path = folders.path();
-        let source = Source::new(folders.card.image, &path, INDEX);
-        let lists = (source.parts.nodes.len(), source.parts.blocks.len());
-        assert_eq!((source.parts.pull[1], lists), (0, (4, 7)));
-        source
+        Source::new(folders.card.image, &path, INDEX).expect(0, 4, 7)
     }
 
-    /// A missing name: one node and two blocks.
+    /// A missing name.
     fn missing(random: &mut Random) -> Source {
         let folders = Folders::new(random, &[Shape::PLAIN], INDEX);
-        let source = Source::new(folders.card.image, b"missing", 7);
-        let lists = (source.parts.nodes.len(), source.parts.blocks.len());
-        assert_eq!((source.parts.pull[1], lists), (2, (1, 2)));
-        source
+        Source::new(folders.card.image, b"missing", 7).expect(2, 1, 2)
     }
 
-    /// The root's number isn't in use: one node and no block.
+    /// The root's number isn't in use: no block is read.
     fn no_blocks(random: &mut Random) -> Source {
         let mut folders = Folders::new(random, &[Shape::PLAIN], INDEX);
-        let root = folders.folders[0].ino;
-        folders.card.set_entry(root, root, 0);
+        folders.card.set_entry(ROOT, ROOT, 0);
         folders.card.image.settle("no root");
-        let source = Source::new(folders.card.image, b"road", 0);
-        let lists = (source.parts.nodes.len(), source.parts.blocks.len());
-        assert_eq!((source.parts.pull[1], lists), (9, (1, 0)));
-        source
+        Source::new(folders.card.image, b"road", 0).expect(9, 1, 0)
     }
 
     fn all(random: &mut Random) -> [Source; 3] {

@@ -2,7 +2,7 @@
 
 use harptimber_tests::calls::compares::Kept;
 use harptimber_tests::calls::keep_files::KeepFiles;
-use harptimber_tests::calls::keep_parts::{Parts, Place};
+use harptimber_tests::calls::keep_parts::Parts;
 use harptimber_tests::calls::keeps::Keeps;
 use harptimber_tests::calls::pulls::Call;
 use harptimber_tests::cards::damage::{altered, Damage};
@@ -70,8 +70,7 @@ fn large_cards() {
 fn strike(file: &mut [u8], parts: &Parts, random: &mut Random) {
     let places = parts.places();
     let (range, place) = &places[random.below(places.len() as u64) as usize];
-    let is_number = !matches!(place, Place::Path | Place::Block | Place::Content(_));
-    let (at, size) = match is_number {
+    let (at, size) = match place.is_number() {
         true => (range.start, range.len()),
         false if range.is_empty() => return,
         false => (range.start + random.below(range.len() as u64) as usize, 1),
@@ -111,9 +110,10 @@ fn strike_parts(parts: &mut Parts, random: &mut Random) {
             *number = pick(random, &[*number, start, end, number.wrapping_add(1)]);
             bytes[random.below(BLOCK_SIZE as u64) as usize] ^= small as u8;
         }
-        _ => parts
-            .nodes
-            .push([u32::MAX, pick(random, &[0, 9, any]), 0, 0]),
+        _ => {
+            let answer = pick(random, &[0, 9, any]);
+            parts.nodes.push([u32::MAX, answer, 0, 0]);
+        }
     }
 }
 
@@ -152,43 +152,44 @@ fn damaged_files() {
     files.finish(CARDS * DAMAGES, &every);
 }
 
-/// Lists of any numbers that mostly rise, and mostly lie within bounds.
-fn any_parts(random: &mut Random) -> Parts {
-    let start = pick(random, &[0, 4096, 1 << 31]);
-    let len = pick(random, &[0, 512, 1 << 20]);
-    let numbers = |random: &mut Random, first: u32, most: u32| {
-        let mut next = first;
-        let count = between(random, 0, most);
-        let step = |_| {
-            next = next.wrapping_add(pick(random, &[1, 1, 1, 2, 100, 0]));
-            next
-        };
-        (0..count).map(step).collect::<Vec<u32>>()
+/// Up to so many numbers, from behind this one on, that mostly rise.
+fn any_numbers(random: &mut Random, behind: u32, most: u32) -> Vec<u32> {
+    let mut next = behind;
+    let count = between(random, 0, most);
+    let step = |_| {
+        next = next.wrapping_add(pick(random, &[1, 1, 1, 2, 100, 0]));
+        next
     };
-    let nodes = numbers(random, 2, 6);
-    let blocks = numbers(random, start, 4);
+    (0..count).map(step).collect()
+}
+
+/// A number with a table answer, mostly.
+fn any_node(random: &mut Random, nid: u32) -> [u32; 4] {
+    let [inode, address] = [0, 1].map(|_| random.number() as u32);
+    let in_use = [nid, 0, inode, address];
+    let other = [nid, random.below(12) as u32, 0, 0];
+    pick(random, &[in_use, in_use, in_use, [nid, 9, 0, 0], other])
+}
+
+/// Parts of no pull. The bounds are these, or others.
+fn any_parts(random: &mut Random, [main, end]: [u32; 2]) -> Parts {
+    let bounds = pick(
+        random,
+        &[[main, end], [main, end], [0, main], [main, 1 << 31]],
+    );
     let path_len = random.below(40) as usize;
-    let node = |nid| {
-        let [inode, address] = [random.number() as u32, random.number() as u32];
-        let in_use = [nid, 0, inode, address];
-        let other = [nid, random.below(12) as u32, 0, 0];
-        pick(random, &[in_use, in_use, in_use, [nid, 9, 0, 0], other])
-    };
-    let nodes = nodes.into_iter().map(node).collect();
+    let pull = [0, 1, 2].map(|_| random.number() as u32);
+    let nodes = any_numbers(random, 2, 6).into_iter();
+    let nodes = nodes.map(|nid| any_node(random, nid)).collect();
+    let blocks = any_numbers(random, main - 1, 4).into_iter();
+    let blocks = blocks.map(|block| (block, vec![7; BLOCK_SIZE]));
     Parts {
         path: random.bytes(path_len),
-        pull: [
-            random.number() as u32,
-            random.below(20) as u32,
-            random.below(5000) as u32,
-        ],
+        pull,
         block: random.bytes(BLOCK_SIZE),
-        bounds: [start, start + len],
+        bounds,
         nodes,
-        blocks: blocks
-            .into_iter()
-            .map(|block| (block, vec![7; BLOCK_SIZE]))
-            .collect(),
+        blocks: blocks.collect(),
     }
 }
 
@@ -197,12 +198,13 @@ fn any_parts(random: &mut Random) -> Parts {
 fn any_files() {
     const ROUNDS: u64 = 3_000;
     let mut files = KeepFiles::new("keep files that nothing wrote");
-    let RandomFiles { card, .. } = random_files(&mut files.trial.random);
+    let image = random_files(&mut files.trial.random).card.image;
+    let bounds = [image.areas.main, image.areas.main_end];
     for _ in 0..files.trial.times(ROUNDS) {
-        let parts = any_parts(&mut files.trial.random);
-        files.compare(&parts.nodes, &parts.laid_out(), card.image.bytes());
+        let parts = any_parts(&mut files.trial.random, bounds);
+        files.compare(&parts.nodes, &parts.laid_out(), image.bytes());
     }
-    files.finish(ROUNDS, &[(16, 0, 1), (18, 0, 0)]);
+    files.finish(ROUNDS, &[(16, 0, 1), (16, 0, 2), (18, 0, 0)]);
 }
 
 /// Bytes of any length, some of them with small counts.
@@ -210,16 +212,16 @@ fn any_files() {
 fn any_bytes() {
     const ROUNDS: u64 = 20_000;
     let mut files = KeepFiles::new("any bytes as keep files");
-    let RandomFiles { card, .. } = random_files(&mut files.trial.random);
+    let image = random_files(&mut files.trial.random).card.image;
     for _ in 0..files.trial.times(ROUNDS) {
         let random = &mut files.trial.random;
         let most = pick(random, &[30, 300, 10_000]);
         let len = random.below(most) as usize;
         let mut file = random.bytes(len);
-        let keep_of_numbers = pick(random, &[1, 2, 4]);
-        let numbers = file.chunks_exact_mut(4).take(6);
-        numbers.for_each(|number| number[keep_of_numbers..].fill(0));
-        files.compare((), &file, card.image.bytes());
+        let bytes_of_number = pick(random, &[1, 2, 4]);
+        let header = file.chunks_exact_mut(4).take(6);
+        header.for_each(|number| number[bytes_of_number..].fill(0));
+        files.compare((), &file, image.bytes());
     }
     files.finish(ROUNDS, &[(18, 0, 0)]);
 }

@@ -1,5 +1,7 @@
 //! Keep: what is written, for pulls with every answer and of every length.
 
+use std::collections::BTreeSet;
+
 use harptimber_tests::calls::keeps::Keeps;
 use harptimber_tests::calls::lookups::{distinct_entry, journalled};
 use harptimber_tests::calls::pulls::Call;
@@ -16,7 +18,7 @@ use harptimber_tests::cards::stops::{stops, INDEX};
 use crate::EIGHT;
 
 /// Paths of one to eight names through folders of any kind, that find their block, and that are stopped at each place
-/// where a pull can be.
+/// where a pull can be: with each answer that comes after opening.
 #[test]
 fn every_answer() {
     let mut keeps = Keeps::new("keep with every answer");
@@ -24,6 +26,8 @@ fn every_answer() {
     for names in 1..=EIGHT {
         let mut folders = Folders::any(&mut keeps.trial.random, names, INDEX);
         let stops = stops(&mut folders);
+        let answers: BTreeSet<u32> = stops.iter().map(|&(answer, ..)| answer).collect();
+        assert_eq!(answers, (1..=3).chain(9..=14).collect());
         let path = folders.path();
         let image = &mut folders.card.image;
         keeps.expect(&Call::new(image, &path, INDEX), 0);
@@ -34,7 +38,6 @@ fn every_answer() {
         }
         count += 1 + stops.len() as u64;
     }
-    assert!(count > 8 * 10 + 36 * 10);
     keeps.finish(count, &[0, 1, 2, 3, 9, 10, 11, 12, 13, 14]);
 }
 

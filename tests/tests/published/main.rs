@@ -6,6 +6,7 @@ mod files;
 mod folders;
 mod inline_files;
 mod inline_root;
+mod keeps;
 mod levels;
 mod lookups;
 mod outside_readers;

@@ -4,7 +4,6 @@ use harptimber_tests::calls::lent::Lens;
 use harptimber_tests::calls::pulls::{Call, Pulls};
 use harptimber_tests::cards::card::ROOT;
 use harptimber_tests::cards::image::Image;
-use harptimber_tests::cards::knobs::Knobs;
 use harptimber_tests::cards::layout::journal::{MOST_ENTRIES, N_NATS};
 use harptimber_tests::cards::layout::superblock::MAGIC;
 use harptimber_tests::cards::layout::BLOCK_SIZE;
@@ -53,12 +52,7 @@ fn image_lengths() {
 #[test]
 fn largest_images() {
     let mut pulls = Pulls::new("pull from the largest images");
-    let nothing = Knobs {
-        copies: [false, false],
-        ..Knobs::sound()
-    };
-    for (knobs, opened) in [(Knobs::sound(), 9), (nothing, 5)] {
-        let image = Image::to_be_cut(knobs);
+    for (image, opened) in Image::rootless_to_be_cut() {
         for (len, in_shape) in lengths() {
             let answer = if in_shape { opened } else { 4 };
             expect_at_length(&mut pulls, &image, len, answer);

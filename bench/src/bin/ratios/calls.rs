@@ -1,10 +1,11 @@
 //! The archive's calls on cards of three sizes, beside the reference's.
 
 use crate::cards::*;
-use crate::segments;
+use crate::{keeps, segments};
 use harptimber_bench::agreed::Agreed;
 use harptimber_bench::grid::{contender, Contender, Grid, Often};
 use harptimber_bench::pulls::{pulling, Lent, BLOCKS, BLOCK_SIZE, NODES};
+use harptimber_tests::calls::compares::stored;
 use reference::compare::compare as reference_compare;
 use reference::lookup::node_lookup as reference_lookup;
 use std::collections::BTreeSet;
@@ -23,6 +24,8 @@ pub const LONGER: Often = Often { calls: 16, ..OFTEN };
 /// Sides beyond the archive and the reference.
 pub const SAME_BLOCK: usize = 2;
 pub const MEMCMP: usize = 2;
+pub const PULL: usize = 2;
+pub const COMPARE: usize = 2;
 
 /// The calls on every card.
 pub struct Calls {
@@ -35,6 +38,10 @@ pub struct Calls {
     pub lookup: Grid,
     pub compare: Grid,
     pub segments: Grid,
+    pub keep: Grid,
+    pub keep_read: Grid,
+    pub check: Grid,
+    pub full_check: Grid,
 }
 
 impl Calls {
@@ -48,10 +55,14 @@ impl Calls {
             lookup: lookup(cards, agreed),
             compare: compare(cards, agreed),
             segments: report(cards, agreed),
+            keep: keep(cards, agreed),
+            keep_read: keep_read(cards, agreed),
+            check: check(OFTEN, cards, Listed::by_pull, agreed),
+            full_check: check(LONGER, cards, Listed::full, agreed),
         }
     }
 
-    pub fn on_all_cards(&self) -> [(&str, &Grid); 6] {
+    pub fn on_all_cards(&self) -> [(&str, &Grid); 8] {
         [
             ("single pull, block in the inode", &self.single),
             ("pull of a small file, inline", &self.inline),
@@ -59,6 +70,8 @@ impl Calls {
             ("pulls of a whole file, in order", &self.in_order),
             ("node lookup", &self.lookup),
             ("compare, full list, all the same", &self.compare),
+            ("keep, block in the inode", &self.keep),
+            ("check of a keep file, full list", &self.full_check),
         ]
     }
 }
@@ -159,25 +172,92 @@ pub fn same_pulls<'a>(
     PULLS.map(|pull| pulling(pull, image, name, 0..1)).into()
 }
 
+/// What a compare is made on.
+pub struct Listed {
+    pub nodes: Vec<u32>,
+    pub blocks: Vec<u32>,
+}
+
+impl Listed {
+    /// The lists of one pull.
+    fn by_pull(card: &Card) -> Listed {
+        let mut lent = Lent::default();
+        let pulled = PULLS[ARCHIVE](card.image, ROAD.as_bytes(), 0, &mut lent);
+        Listed {
+            nodes: numbers(&lent.nodes, pulled.node_count).collect(),
+            blocks: numbers(&lent.blocks, pulled.block_count).collect(),
+        }
+    }
+
+    /// Lists that are as long as those of one name can be.
+    fn full(card: &Card) -> Listed {
+        let [_, blocks] = rested_on(card);
+        let nodes = (1..=NODES).collect();
+        let blocks: Vec<u32> = blocks.into_iter().collect();
+        assert_eq!(blocks.len(), BLOCKS as usize);
+        Listed { nodes, blocks }
+    }
+
+    /// The answer of compares of a card with its copy, by the archive and by the reference.
+    fn compares<'a>(&self, card: &'a Card) -> [Box<dyn Fn() -> u32 + 'a>; 2] {
+        let counts = [&self.nodes, &self.blocks].map(|list| list.len() as u32);
+        let lists = [&self.nodes, &self.blocks].map(|list| stored(list));
+        let again = lists.clone();
+        let [nodes, blocks] = counts;
+        let archive = move || {
+            let (kept, fresh) = (black_box(card.image), black_box(card.copy));
+            harptimber_tests::compare(kept, fresh, &lists[0], nodes, &lists[1], blocks).answer
+        };
+        let reference = move || {
+            let (kept, fresh) = (black_box(card.image), black_box(card.copy));
+            reference_compare(kept, fresh, &again[0], nodes, &again[1], blocks).answer
+        };
+        [Box::new(archive), Box::new(reference)]
+    }
+}
+
 /// A compare of a full list, all the same; then memcmp over the same blocks beside two openings.
 fn compare(cards: &[Card], agreed: &mut Agreed) -> Grid {
     by_card(LONGER, cards, |card| {
-        let (kept, fresh) = (card.image, card.copy);
-        let listed: Vec<u32> = rested_on(card)[1].iter().copied().collect();
-        let [nodes, blocks] = [(1..=NODES).collect(), listed.clone()].map(stored);
-        let (nodes2, blocks2) = (nodes.clone(), blocks.clone());
-        let archive = move || {
-            let (kept, fresh) = (black_box(kept), black_box(fresh));
-            harptimber_tests::compare(kept, fresh, &nodes, NODES, &blocks, BLOCKS).answer
-        };
-        let reference = move || {
-            let (kept, fresh) = (black_box(kept), black_box(fresh));
-            reference_compare(kept, fresh, &nodes2, NODES, &blocks2, BLOCKS).answer
-        };
-        let memcmp = move || memcmp(kept, fresh, &listed);
+        let listed = Listed::full(card);
+        let [archive, reference] = listed.compares(card);
+        let memcmp = move || memcmp(card.image, card.copy, &listed.blocks);
         let same = (archive(), reference(), memcmp()) == (15, 15, true);
         agreed.see(same, &format!("a compare on {}", card.size()));
         vec![contender(archive), contender(reference), contender(memcmp)]
+    })
+}
+
+/// The keep file of a block that stands in the inode; then, by the archive, the pull of that block.
+fn keep(cards: &[Card], agreed: &mut Agreed) -> Grid {
+    by_card(OFTEN, cards, |card| {
+        let what = format!("a keep file on {}", card.size());
+        let mut sides = keeps::writers(card.image, ROAD, &what, agreed);
+        sides.push(pulls(card, ROAD, 0..1).swap_remove(ARCHIVE));
+        sides
+    })
+}
+
+/// The read of a keep file with full lists.
+fn keep_read(cards: &[Card], agreed: &mut Agreed) -> Grid {
+    by_card(OFTEN, cards, |card| {
+        let file = keeps::file(card.image, ROAD, &Listed::full(card));
+        let what = format!("a keep file's numbers on {}", card.size());
+        keeps::readers(file, &what, agreed)
+    })
+}
+
+/// The check of a keep file on a card's copy, all the same; then, by the archive, a compare of both on the same lists.
+fn check(often: Often, cards: &[Card], listed: fn(&Card) -> Listed, agreed: &mut Agreed) -> Grid {
+    by_card(often, cards, |card| {
+        let listed = listed(card);
+        let [compare, _] = listed.compares(card);
+        let file = keeps::file(card.image, ROAD, &listed);
+        let what = format!("the check of a keep file on {}", card.size());
+        let mut sides = keeps::checks(file, card.copy, &what, agreed);
+        agreed.see(compare() == 15, &what);
+        sides.push(contender(compare));
+        sides
     })
 }
 
@@ -205,10 +285,6 @@ fn rested_on(card: &Card) -> [BTreeSet<u32>; 2] {
 fn numbers(list: &[u8], count: u32) -> impl Iterator<Item = u32> + '_ {
     let number = |stored: &[u8]| u32::from_le_bytes(stored.try_into().expect("four bytes"));
     list.chunks_exact(4).map(number).take(count as usize)
-}
-
-fn stored(numbers: Vec<u32>) -> Vec<u8> {
-    numbers.into_iter().flat_map(u32::to_le_bytes).collect()
 }
 
 /// Whether the listed blocks are equal. An opening is a lookup of number 0, which opens and answers 9.

@@ -6,6 +6,7 @@ mod depths;
 mod directory_levels;
 mod journal;
 mod journalled;
+mod keeps;
 mod paths;
 mod roots;
 mod segments;
@@ -13,7 +14,7 @@ mod slots;
 mod versions;
 mod whole;
 
-use calls::{Calls, MEMCMP, SAME_BLOCK};
+use calls::{Calls, COMPARE, MEMCMP, PULL, SAME_BLOCK};
 use cards::{Card, ARCHIVE, OPTIONS, REFERENCE, WITHOUT_SURVEY};
 use harptimber_bench::agreed::Agreed;
 use harptimber_bench::grid::Grid;
@@ -84,6 +85,10 @@ fn beside_reference(cards: &[Card], calls: &Calls) {
     table.late_row("pulls behind an indirect node", WITHOUT_SURVEY, &behind);
     let segments = calls.segments.parts(ARCHIVE, REFERENCE);
     table.row("segment report", &segments);
+    let read = calls.keep_read.parts(ARCHIVE, REFERENCE);
+    table.row("read of a keep file, full list", &read);
+    let check = calls.check.parts(ARCHIVE, REFERENCE);
+    table.row("check of a keep file, one pull's list", &check);
     table.print(
         "1. The archive beside reference/, by size of the card
    its time as a part of reference/'s; lower is better, below 1 is faster",
@@ -96,11 +101,18 @@ fn beside_itself(cards: &[Card], calls: &Calls) {
     table.row("compare to memcmp and two openings", &compare);
     let in_order = calls.in_order.parts(ARCHIVE, SAME_BLOCK);
     table.row("pull in file order to single pull", &in_order);
+    let keep = calls.keep.parts(ARCHIVE, PULL);
+    table.row("keep to pull of the same block", &keep);
+    let check = calls.check.parts(ARCHIVE, COMPARE);
+    table.row("check of a keep file to compare, one pull", &check);
+    let full_check = calls.full_check.parts(ARCHIVE, COMPARE);
+    table.row("check of a keep file to compare, full list", &full_check);
     table.print(
         "2. The archive beside other calls of its own, by size of the card
    its time as a multiple; lower is better. A compare opens both cards and reads each listed block of
    both: beside it stand two openings, by the archive too, and memcmp over the same blocks. A pull keeps
-   nothing for the next one, so the next block of a file costs a pull of its own",
+   nothing for the next one, so the next block of a file costs a pull of its own. A keep file is checked
+   without the kept card, beside a compare with it on the same lists; that may cost no more, so at most 1",
     );
 }
 
