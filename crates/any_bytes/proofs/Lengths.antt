@@ -1,5 +1,5 @@
 -- An image whose length is out of shape is answered with 4 by each call that takes one, whatever its bytes and whatever else is
--- asked: all other numbers are 0, and what was lent stays as it was. K8's "one more is 4" is this and `past-the-limit`
+-- asked, but that a keep file that is none comes first, with 18: all other numbers are 0, and what was lent stays as it was. K8's "one more is 4" is this and `past-the-limit`
 -- (superblock/proofs/Shaped.antt).
 use mathlib.Core.Path.{_≡_}
 use mathlib.Core.Bool.{false, and-false}
@@ -44,6 +44,6 @@ module _ (image : List ℕ) (out : inShape (length image) ≡ false) where
   pub keep-out-of-shape : (path : List ℕ) (index : ℕ) (room : List ℕ) → keepWritten image path index room ≡ refusedKeep 4 room
   keep-out-of-shape path index room = keep.call-refused image path index room (rw out)
 
-  -- if the file is one
-  pub check-out-of-shape : (file : List ℕ) {k : Keep} → readKeep file ≡ reading.kept k → keepCompared file image ≡ refused 4 0
-  check-out-of-shape file reads = keep_compare.shape-refused file image reads out
+  -- of a keep file that is one
+  pub keep-compare-out-of-shape : (file : List ℕ) {k : Keep} → readKeep file ≡ reading.kept k → keepCompared file image ≡ refused 4 0
+  keep-compare-out-of-shape file reads = keep_compare.shape-refused file image reads out

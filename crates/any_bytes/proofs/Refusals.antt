@@ -1,5 +1,5 @@
--- An image that opening refuses is refused by each call that takes one, with the same answer: all other numbers are 0 but Compare's side,
--- and what was lent stays as it was. K9's "Answer 8 also if" is this and the laws in checkpoint/proofs/Damage.antt.
+-- An image that opening refuses is refused by each call that takes one, with the same answer, but that a keep file that is none comes first,
+-- with 18: all other numbers are 0 but the side of a comparison, and what was lent stays as it was. K9's "Answer 8 also if" is this and the laws in checkpoint/proofs/Damage.antt.
 use mathlib.Core.Path.{_≡_}
 use mathlib.Core.Bool.{true, _&&_}
 use mathlib.Core.List.{List}
@@ -42,8 +42,8 @@ module _ (image : List ℕ) (n : ℕ) (refuses : openedImage image ≡ Refused n
       → keepWritten image path index room ≡ refusedKeep n room
   keep-refused path index room shaped = keep.call-opens image path index room (Refused n) shaped refuses
 
-  pub check-refused : (file : List ℕ) {k : Keep} → readKeep file ≡ reading.kept k → inShape (length image) ≡ true → keepCompared file image ≡ refused n 2
-  check-refused file reads shaped = keep_compare.fresh-refused file image reads shaped n refuses
+  pub keep-compare-refused : (file : List ℕ) {k : Keep} → readKeep file ≡ reading.kept k → inShape (length image) ≡ true → keepCompared file image ≡ refused n 2
+  keep-compare-refused file reads shaped = keep_compare.fresh-refused file image reads shaped n refuses
 
   -- whatever was listed, Compare doesn't say "same" of it: the kept image is looked at first
   module _ (nodes blocks : Listed) where

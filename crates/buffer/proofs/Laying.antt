@@ -27,14 +27,6 @@ module _ (at : ℕ) (p d : List ℕ) (fits : at + length p ≤ length d) where
   front-length : length front ≡ at + length p
   front-length = length-append (take at d) p ∙ rw (length-take-le at d (omega arith))
 
-  pub laid-length : length (laidAt at p d) ≡ length d
-  unfolding laidAt
-  laid-length =
-      let behind = length-drop (at + length p) d in
-      let size = front-length in
-      let whole = length-append front (drop (at + length p) d) in
-      omega arith
-
   -- a second piece right behind it
   pub laid-behind : (q : List ℕ) → laidAt (at + length p) q (laidAt at p d) ≡ laidAt at (p ++ q) d
   unfolding laidAt

@@ -19,9 +19,10 @@ use Rattle.field.proofs.Blocks.{length-block}
 use Rattle.nat.specs.declared.TableAnswer.{TableAnswer}
 use Rattle.keep_file.specs.Keep.{Kept, keptBy}
 use Rattle.keep_file.specs.Layout.{answerBytes, layout}
-use Rattle.keep_file.proofs.Found.{length-by, all-kept, all-by}
+use Rattle.keep_file.specs.Readable.{Filled}
+use Rattle.keep_file.proofs.Found.{length-by, all-by}
+use Rattle.keep_file.proofs.Parts.{answers-sized, layout-length}
 use Rattle.keep_file.proofs.Entries.{length-entries}
-use Rattle.keep_file.proofs.Values.{answer-size}
 use Rattle.keep.specs.Writing.{writing, refusedKeep, fileWritten}
 use Rattle.keep.specs.Parts.{nodesOf, blocksOf, frontOf, keepFound, endFound, Keepable}
 
@@ -44,14 +45,22 @@ module _ (image : List ℕ) (v : Volume) (path : List ℕ) (index : ℕ) (r : Re
   nodes-length : length nodes ≡ 16 * r .numbers .«node_count»
   nodes-length =
       let ks : List (Kept TableAnswer) = keptBy (tableAnswer (cardOf image) v) (entries (nodesLeft r)) in
-      length-entries 12 answerBytes ks (all-kept _ (λ k. answer-size (k .value)) ks)
+      length-entries 12 answerBytes ks (answers-sized ks)
       ∙ ap (λ (n : ℕ). 16 * n) (length-by (tableAnswer (cardOf image) v) (entries (nodesLeft r)) ∙ length-numbers _ _ _)
 
+  found-filled : Filled (keepFound (cardOf image) v path index r)
+  unfolding keepFound
+  found-filled = record {
+    block = h .whole;
+    blocks = all-by (λ k. length (k .value) ≡ 4096) (cardOf image .block) (entries (blocksLeft r))
+        (all-map (λ b q. length-block image b q) (entries (blocksLeft r)) (h .inside));
+  }
+
   blocks-length : length blocks ≡ 4100 * r .numbers .«block_count»
+  unfolding keepFound
   blocks-length =
       let bs : List ℕ = entries (blocksLeft r) in
-      length-entries 4096 (λ (bytes : List ℕ). bytes) (keptBy (cardOf image .block) bs)
-      (all-by (λ k. length (k .value) ≡ 4096) (cardOf image .block) bs (all-map (λ b q. length-block image b q) bs (h .inside)))
+      length-entries 4096 (λ (bytes : List ℕ). bytes) (keptBy (cardOf image .block) bs) (found-filled .blocks)
       ∙ ap (λ (n : ℕ). 4100 * n) (length-by (cardOf image .block) bs ∙ length-numbers _ _ _)
 
   -- the file is its parts
@@ -65,11 +74,15 @@ module _ (image : List ℕ) (v : Volume) (path : List ℕ) (index : ℕ) (r : Re
   )
 
   pub found-length : length (layout (keepFound (cardOf image) v path index r)) ≡ endFound path r
+  unfolding keepFound
   found-length =
-      let first = front-length v path index (r .numbers) (r .memory .block) (h .whole) in
-      let second = nodes-length in
-      let third = blocks-length in
-      ap length found-parts ∙ simp length-append (omega arith)
+      layout-length (keepFound (cardOf image) v path index r) found-filled
+      ∙ rw (
+        length-by (tableAnswer (cardOf image) v),
+        length-by (cardOf image .block),
+        length-numbers (nodesLeft r .bytes),
+        length-numbers (blocksLeft r .bytes),
+      )
 
   -- laid part by part
   pub file-laid : (d : List ℕ) {d1 d2 d3 : List ℕ} → d1 ≡ laidAt 0 front d → d2 ≡ laidAt (length path + 4140) nodes d1

@@ -42,6 +42,10 @@ keepRun card v path index r = record {
 abbrev pub keepOf : Card → Volume → List ℕ → ℕ → Keep
 keepOf card v path index = keepRun card v path index (pullRun card v path index)
 
+-- the file of it
+abbrev pub fileFrom : Card → Volume → List ℕ → ℕ → List ℕ
+fileFrom card v path index = layout (keepOf card v path index)
+
 -- the most that a path of k names can need: it has at most 256k - 1 bytes, and its lists are the pull's
 abbrev pub keepMost : ℕ → ℕ
 keepMost k = fileEnd (256 * k - 1) (nodesMost k) (blocksMost k)
@@ -67,7 +71,7 @@ fileWritten file room =
     (refusedKeep 17 room)
 
 abbrev pub keepFrom : Card → Opening → List ℕ → ℕ → List ℕ → Writing
-keepFrom card (Opened v) path index room = fileWritten (layout (keepOf card v path index)) room
+keepFrom card (Opened v) path index room = fileWritten (fileFrom card v path index) room
 keepFrom card (Refused answer) path index room = refusedKeep answer room
 
 -- "4 to 8 come first": 4 for the image's length and the path

@@ -35,13 +35,14 @@ use Rattle.keep_file.specs.Reading.{kept, readKeep}
 use Rattle.keep_file.proofs.GivenBack.{given-back}
 use Rattle.keep_file.proofs.Refusing.{refused-exactly}
 use Rattle.keep.specs.declared.Written.{Written}
-use Rattle.keep.specs.Writing.{zeros, keepOf, Writing, writing, keepWritten}
+use Rattle.keep.specs.Writing.{zeros, keepRun, keepOf, Writing, writing, keepWritten}
 use Rattle.keep.proofs.Calls.{eight-room}
+use Rattle.keep.proofs.Kept.{kept-whole}
 use Rattle.keep.proofs.Ends.{ends}
 use Rattle.keep_compare.specs.Compare.{keepCompared}
 use Rattle.keep_compare.proofs.Openings.{file-refused, shape-refused, fresh-refused, fresh-opened}
 use Rattle.keep_again.specs.Demand.{fileOf, GivesKept, KeptAgain}
-use Rattle.keep_again.proofs.Steps.{Wrote, answered-wrote, no-file, kept-whole, run-gives, difference-kept}
+use Rattle.keep_again.proofs.Steps.{Wrote, answered-wrote, no-file, run-gives, difference-kept}
 
 -- a pull that gives what is kept, and one that is the same
 gives-same : {k : Keep} {r q : Result} → GivesKept k r → SamePull r q → GivesKept k q
@@ -126,13 +127,24 @@ module _ (image path : List ℕ) (index : ℕ) (room : List ℕ) (wrote : keepWr
   takes-enough =
       eight-room path enough is-path (length-replicate {A = ℕ} 4096 0) (length-replicate {A = ℕ} 5616 0) (length-replicate {A = ℕ} 7476 0)
 
-  -- Demand 3 without the old image: whenever it says "same", the pull of the kept path and index on the new image gives the kept answer,
-  -- byte count, lists and, with 0 and 1, bytes.
-  pub same-gives-kept : (fresh : List ℕ) → keepCompared file fresh .answer ≡ 15 → (lent : Lent) → lentInShape (partCount path) lent ≡ true
+  same-pull : (fresh : List ℕ) → keepCompared file fresh .answer ≡ 15 → (lent : Lent) → lentInShape (partCount path) lent ≡ true
       → GivesKept keep (pulled fresh path index lent)
-  same-gives-kept fresh e lent takes =
+  same-pull fresh e lent takes =
       let says = ap (λ (c : Compared). c .answer) (sym (compares-as-image enough takes-enough fresh)) ∙ e in
       gives-same (keeps-the-pull enough takes-enough) (whenever-same image fresh path index enough lent takes says)
+
+  -- Demand 3 without the old image: whenever it says "same", the pull of the kept path and index on the new image gives the kept answer,
+  -- byte count, lists and, with 0 and 1, bytes. Nothing is named here but the file and the new image.
+  pub same-gives-kept : (k : Keep) → readKeep file ≡ kept k → (fresh : List ℕ) → keepCompared file fresh .answer ≡ 15 → (lent : Lent)
+      → lentInShape (partCount (k .path)) lent ≡ true → GivesKept k (pulled fresh (k .path) (k .index) lent)
+  unfolding keepRun
+  same-gives-kept k reads fresh e lent = subst Gives (is k reads) (same-pull fresh e lent)
+    where
+      Gives : Keep → Type 0
+      Gives k = lentInShape (partCount (k .path)) lent ≡ true → GivesKept k (pulled fresh (k .path) (k .index) lent)
+
+      is : (k : Keep) → readKeep file ≡ kept k → keep ≡ k
+      is k r = let s = reads-back in cc
 
   -- Compared with the image it was written from, a keep file is "same".
   pub same-as-written : keepCompared file image .answer ≡ 15
@@ -145,7 +157,7 @@ module _ (image path : List ℕ) (index : ℕ) (room : List ℕ) (wrote : keepWr
 nothing-same : (fresh : List ℕ) → keepCompared [] fresh .answer ≡ 15 → ⊥
 unfolding le32 le16
 nothing-same fresh e =
-    let n = rw (file-refused [] fresh (refused-exactly [] .1 (λ r. let size = r .measure .size in omega arith))) at e in
+    let n = rw (file-refused [] fresh (refused-exactly [] .1 (λ r. let size = r .measure .fileLength in omega arith))) at e in
     omega arith
 
 -- "same" is said only of a file that the writer wrote
@@ -157,6 +169,7 @@ said-wrote image path index room fresh e =
 pub again-holds : (image fresh path : List ℕ) (index : ℕ) (room : List ℕ) (lent : Lent) {w : Written} {room' : List ℕ} {c : Compared} {p : Pulled} {left : Lent}
     → writing w room' ≡ keepWritten image path index room → c ≡ keepCompared (fileOf (writing w room')) fresh → result p left ≡ pulled fresh path index lent
     → KeptAgain image fresh path index room room' lent left (record { kept = w; compared = c; second = p })
+unfolding keepRun
 again-holds image fresh path index room lent {w} {room'} {c} {p} {left} wrote compared second = record {
   wrote = wrote;
   compared = compared;
@@ -167,6 +180,8 @@ again-holds image fresh path index room lent {w} {room'} {c} {p} {left} wrote co
       let zero = said-wrote image path index room fresh says in (
         keep image path index room zero,
         ap (λ (w : Writing). readKeep (fileOf w)) wrote ∙ reads-back image path index room zero,
-        subst (GivesKept _) (sym second) (same-gives-kept image path index room zero fresh says lent takes),
+        refl,
+        refl,
+        subst (GivesKept _) (sym second) (same-pull image path index room zero fresh says lent takes),
       );
 }

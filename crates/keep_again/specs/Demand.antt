@@ -13,7 +13,8 @@ use Rattle.keep.specs.Writing.{Writing, writing, keepWritten}
 use Rattle.keep_compare.specs.Compare.{keepCompared}
 use Rattle.keep_again.specs.declared.Again.{Again}
 
--- "keep files so written": the bytes that the writer put into the room, as many as it says. After a refusal there are none
+-- "keep files so written": the bytes that the writer put into the room, as many as it says. After a refusal there are none. K9: "claimed for
+-- keep files written since": a writer that doesn't refuse what K9 refuses is another one
 abbrev pub fileOf : Writing → List ℕ
 fileOf w = take (w .numbers .length) (w .room)
 
@@ -32,4 +33,4 @@ pub record KeptAgain (image fresh path : List ℕ) (index : ℕ) (room room' : L
   pub compared : r .compared ≡ keepCompared (fileOf (writing (r .kept) room')) fresh
   pub second : result (r .second) left ≡ pulled fresh path index lent
   pub same : lentInShape (partCount path) lent ≡ true → r .compared .answer ≡ 15
-      → (k : Keep) × (readKeep (fileOf (writing (r .kept) room')) ≡ kept k) × GivesKept k (result (r .second) left)
+      → (k : Keep) × (readKeep (fileOf (writing (r .kept) room')) ≡ kept k) × (k .path ≡ path) × (k .index ≡ index) × GivesKept k (result (r .second) left)

@@ -1,3 +1,4 @@
 mod Turns
 mod Reading
 pub mod Openings
+pub mod Theorems

@@ -16,27 +16,27 @@ use Rattle.keep_file.proofs.Lengths.{path-length, nodes-length, blocks-
 
 -- all up to the lists lies inside
 pub front-inside : (file : List ℕ) {p : ℕ} → p ≡ pathLength file → Measured file → p + 4140 ≤ length file
-front-inside file path m = let size = m .size in omega arith
+front-inside file path m = let size = m .fileLength in omega arith
 
 -- and the lists start behind the block's bytes
 pub nodes-start : (file : List ℕ) → Measured file → {at : ℕ} → at ≡ le32 file 12 → 4104 ≤ at
-nodes-start file m e = let start = m .nodesAt in omega arith
+nodes-start file m e = let start = m .nodesOffset in omega arith
 
 -- ---- the lists, where the header says that they are
 module _ (file : List ℕ) (m : Measured file) {at n : ℕ} where
   pub nodes-inside : at ≡ le32 file 12 → n ≡ nodeCount file → at + 16 * n ≤ length file
-  nodes-inside e f = let start = m .nodesAt in let size = m .size in omega arith
+  nodes-inside e f = let start = m .nodesOffset in let size = m .fileLength in omega arith
 
   pub nodes-placed : at ≡ le32 file 12 → n ≡ nodeCount file → nodesAt file at n ≡ keepIn file .nodes
   unfolding keepIn
-  nodes-placed e f = ap₂ (nodesAt file) (e ∙ m .nodesAt) f
+  nodes-placed e f = ap₂ (nodesAt file) (e ∙ m .nodesOffset) f
 
   pub blocks-inside : at ≡ le32 file 16 → n ≡ blockCount file → at + 4100 * n ≤ length file
-  blocks-inside e f = let start = m .blocksAt in let size = m .size in omega arith
+  blocks-inside e f = let start = m .blocksOffset in let size = m .fileLength in omega arith
 
   pub blocks-placed : at ≡ le32 file 16 → n ≡ blockCount file → blocksAt file at n ≡ keepIn file .blocks
   unfolding keepIn
-  blocks-placed e f = ap₂ (blocksAt file) (e ∙ m .blocksAt) f
+  blocks-placed e f = ap₂ (blocksAt file) (e ∙ m .blocksOffset) f
 
 -- ---- the bounds
 pub bounds-placed : (file : List ℕ) {p main end : ℕ} → p ≡ pathLength file → main ≡ le32 file (p + 4132) → end ≡ le32 file (p + 4136)
@@ -47,7 +47,7 @@ bounds-placed file path from to = rw (from, to, path)
 -- ---- what code tests and hands out
 module _ (file : List ℕ) {p n b : ℕ} (path : p ≡ pathLength file) (nodes : n ≡ nodeCount file) (blocks : b ≡ blockCount file) where
   pub sized : Measured file → length file ≡ fileEnd p n b
-  sized m = rw (path, nodes, blocks) (m .size)
+  sized m = rw (path, nodes, blocks) (m .fileLength)
 
   -- what stands behind the path
   index-read : {x : ℕ} → x ≡ le32 file (p + 24) → x ≡ keepIn file .index
@@ -97,10 +97,10 @@ module _ (file : List ℕ) {p n b : ℕ} (path : p ≡ pathLength file) (nodes :
         let a = answer-read y in
         let c = count-read z in
         let bounds = bounds-placed file path from to in
-        let ns : nodesAt ≡ nodesStart p = f ∙ m .nodesAt ∙ ap nodesStart (sym path) in
+        let ns : nodesAt ≡ nodesStart p = f ∙ m .nodesOffset ∙ ap nodesStart (sym path) in
         let block : nodesAt - 4104 ≡ blockStart p = omega arith in
-        let bs : blocksAt ≡ blocksStart p n = g ∙ m .blocksAt ∙ ap₂ blocksStart (sym path) (sym nodes) in
-        let end : last ≡ fileEnd p n b = h ∙ m .endAt ∙ sym (m .size) ∙ sized m in
+        let bs : blocksAt ≡ blocksStart p n = g ∙ m .blocksOffset ∙ ap₂ blocksStart (sym path) (sym nodes) in
+        let end : last ≡ fileEnd p n b = h ∙ m .endOffset ∙ sym (m .fileLength) ∙ sized m in
         λ t. record {
           answer = 0;
           «path_len» = lengths t;

@@ -30,7 +30,7 @@ pub part-on : (file : List ℕ) (at n next m : ℕ) → at + n ≡ next → part
 part-on file at n next m h = rw (← h, ← drop-drop n at file) (sym (take-add n m (drop at file)))
 
 -- a number at an offset
-pub number-at : (file : List ℕ) (at x : ℕ) (r : List ℕ) → drop at file ≡ bytesOf (x ∷ []) ++ r → le32 file at ≡ x
+number-at : (file : List ℕ) (at x : ℕ) (r : List ℕ) → drop at file ≡ bytesOf (x ∷ []) ++ r → le32 file at ≡ x
 unfolding column
 number-at file at x r e = let h = column-bytes file at (x ∷ []) r e in cc
 

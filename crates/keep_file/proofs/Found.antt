@@ -23,7 +23,7 @@ module _ {A : Type 0} where
   kept-with f (k ∷ ks) g h = (f k (g .0) (h .0), kept-with f ks (g .1) (h .1))
 
   -- what holds of each number
-  pub kept-numbers : (P : ℕ → Type 0) (ks : List (Kept A)) → AllOf P (numbersOf ks) → AllKept (λ k. P (k .number)) ks
+  kept-numbers : (P : ℕ → Type 0) (ks : List (Kept A)) → AllOf P (numbersOf ks) → AllKept (λ k. P (k .number)) ks
   unfolding numbersOf
   kept-numbers P [] h = tt
   kept-numbers P (k ∷ ks) h = (h .0, kept-numbers P ks (h .1))
@@ -39,7 +39,7 @@ module _ {A : Type 0} where
     found-later k ks {n = n} e = rw (ne-eqb (k .number) n e)
 
     -- each entry of a rising list
-    pub found-each : (ks : List (Kept A)) → Rising (numbersOf ks) → AllKept (λ k. keptOf other ks (k .number) ≡ k .value) ks
+    found-each : (ks : List (Kept A)) → Rising (numbersOf ks) → AllKept (λ k. keptOf other ks (k .number) ≡ k .value) ks
     unfolding numbersOf
     found-each [] r = tt
     found-each (k ∷ ks) r = (found-here k ks refl, kept-with later ks above (found-each ks (r .1)))
@@ -78,11 +78,7 @@ module _ {A : Type 0} where
   length-by f [] = refl
   length-by f (n ∷ ns) = ap suc (length-by f ns)
 
-  -- what holds of each entry
-  pub all-kept : (P : Kept A → Type 0) → ((k : Kept A) → P k) → (ks : List (Kept A)) → AllKept P ks
-  all-kept P h [] = tt
-  all-kept P h (k ∷ ks) = (h k, all-kept P h ks)
-
+  -- what holds of each number holds of its entry
   pub all-by : (P : Kept A → Type 0) (f : ℕ → A) (ns : List ℕ) → AllOf (λ n. P (record { number = n; value = f n })) ns → AllKept P (keptBy f ns)
   unfolding keptBy
   all-by P f [] h = tt

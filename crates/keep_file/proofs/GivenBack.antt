@@ -49,10 +49,10 @@ module _ (k : Keep) (file : List ℕ) (laid : Laid k file) where
   measured-back =
       let h = head-read in
       record {
-        nodesAt = rw path-read (cc);
-        blocksAt = rw (path-read, nodes-read) (cc);
-        endAt = rw (path-read, nodes-read, blocks-read) (cc);
-        size = rw (path-read, nodes-read, blocks-read) (laid .size);
+        nodesOffset = rw path-read (cc);
+        blocksOffset = rw (path-read, nodes-read) (cc);
+        endOffset = rw (path-read, nodes-read, blocks-read) (cc);
+        fileLength = rw (path-read, nodes-read, blocks-read) (laid .size);
       }
 
   result-read : Three file (p + 24) (k .index) (k .answer) (k .count)
@@ -107,10 +107,10 @@ module _ (k : Keep) (w : Whole k) where
   abbrev laid : Laid k (layout k)
   laid = laid-out k (w .filled)
 
-  pub keep-in-layout : keepIn (layout k) ≡ k
+  keep-in-layout : keepIn (layout k) ≡ k
   keep-in-layout = keep-back k (layout k) laid (w .filled)
 
-  pub layout-readable : Readable (layout k)
+  layout-readable : Readable (layout k)
   layout-readable = record {
     measure = measured-back k (layout k) laid;
     some = rw (nodes-read k (layout k) laid) (w .some);

@@ -29,7 +29,7 @@ module _ (file : List ℕ) (small : (i : ℕ) → getD file i 0 < 256) (r : Read
   b = blockCount file
 
   size : length file ≡ fileEnd p n b
-  size = r .measure .size
+  size = r .measure .fileLength
 
   -- ---- the parts
   header-again : header p n b ≡ take 24 file
@@ -37,7 +37,7 @@ module _ (file : List ℕ) (small : (i : ℕ) → getD file i 0 < 256) (r : Read
   header-again =
       let s = size in
       let m = r .measure in
-      rw (← m .endAt, ← m .blocksAt, ← m .nodesAt) (bytes-column file small 0 6 (omega arith))
+      rw (← m .endOffset, ← m .blocksOffset, ← m .nodesOffset) (bytes-column file small 0 6 (omega arith))
 
   result-again : bytesOf (le32 file (p + 24) ∷ le32 file (p + 28) ∷ le32 file (p + 32) ∷ []) ≡ part file (p + 24) 12
   result-again =

@@ -52,10 +52,3 @@ module _ {A : Type 0} (width : ℕ) (value : List ℕ → ℕ → A) (file : Lis
   unfolding keptAt
   kept-each P at zero h = λ i l. absurd (omega arith)
   kept-each P at (suc n) h = each-cons (λ a. P (entryAt value file a)) width at n (h .0) (kept-each P (at + width) n (h .1))
-
-  pub each-kept : (P : Kept A → Type 0) (at n : ℕ) → Each (λ a. P (entryAt value file a)) width at n → AllKept P (keptAt width value file at n)
-  unfolding keptAt
-  each-kept P at zero f = tt
-  each-kept P at (suc n) f =
-      let Q : ℕ → Type 0 = λ a. P (entryAt value file a) in
-      (each-first Q width at n f, each-kept P (at + width) n (each-rest Q width at n f))

@@ -13,7 +13,7 @@ use Rattle.compare.proofs.Shapes.{rising-test, test-rising, main-test, test-mai
 use Rattle.keep_file.specs.Keep.{numbersOf, Keep}
 use Rattle.keep_file.specs.Layout.{nodesStart}
 use Rattle.keep_file.specs.Reading.{isAnswer, areAnswers, pathLength, nodeCount, keepIn, measured, listsReadable, readable}
-use Rattle.keep_file.specs.Reading.{unreadable, kept, readKeep}
+use Rattle.keep_file.specs.Reading.{unreadable, kept, readKeep, fieldsRead}
 use Rattle.keep_file.specs.Readable.{Measured, TableAnswerAt, Readable}
 use Rattle.keep_file.proofs.Places.{Each, each-first, each-rest, each-cons}
 
@@ -38,13 +38,13 @@ module _ (file : List ℕ) where
   abbrev AnswerIn : ℕ → Type 0
   AnswerIn at = TableAnswerAt file (at + 4)
 
-  pub answers-test : (at n : ℕ) → Each (λ a. TableAnswerAt file (a + 4)) 16 at n → areAnswers file at n ≡ true
+  answers-test : (at n : ℕ) → Each (λ a. TableAnswerAt file (a + 4)) 16 at n → areAnswers file at n ≡ true
   unfolding areAnswers
   answers-test at zero f = refl
   answers-test at (suc n) f =
       rw (answer-test (at + 4) (each-first AnswerIn 16 at n f)) (answers-test (at + 16) n (each-rest AnswerIn 16 at n f))
 
-  pub test-answers : (at n : ℕ) → areAnswers file at n ≡ true → Each (λ a. TableAnswerAt file (a + 4)) 16 at n
+  test-answers : (at n : ℕ) → areAnswers file at n ≡ true → Each (λ a. TableAnswerAt file (a + 4)) 16 at n
   unfolding areAnswers
   test-answers at zero h = λ i l. absurd (omega arith)
   test-answers at (suc n) h =
@@ -52,17 +52,17 @@ module _ (file : List ℕ) where
       each-cons AnswerIn 16 at n (test-answer (at + 4) (t .0)) (test-answers (at + 16) n (t .1))
 
   -- ---- the offsets and the length
-  pub measured-test : Measured file → measured file ≡ true
+  measured-test : Measured file → measured file ≡ true
   unfolding measured
-  measured-test m = rw (eq-eqb _ _ (m .nodesAt), eq-eqb _ _ (m .blocksAt), eq-eqb _ _ (m .endAt)) (eq-eqb _ _ (m .size))
+  measured-test m = rw (eq-eqb _ _ (m .nodesOffset), eq-eqb _ _ (m .blocksOffset), eq-eqb _ _ (m .endOffset)) (eq-eqb _ _ (m .fileLength))
 
   pub test-measured : measured file ≡ true → Measured file
   unfolding measured
   test-measured h = record {
-    nodesAt = needed-eq (λ p. rw p) h;
-    blocksAt = needed-eq (λ p. simp (p, and-false)) h;
-    endAt = needed-eq (λ p. simp (p, and-false)) h;
-    size = needed-eq (λ p. simp (p, and-false)) h;
+    nodesOffset = needed-eq (λ p. rw p) h;
+    blocksOffset = needed-eq (λ p. simp (p, and-false)) h;
+    endOffset = needed-eq (λ p. simp (p, and-false)) h;
+    fileLength = needed-eq (λ p. simp (p, and-false)) h;
   }
 
   -- ---- the file
@@ -89,7 +89,7 @@ module _ (file : List ℕ) where
     inside = test-main (keepIn file .bounds) (numbersOf (keepIn file .blocks)) (needed (λ p. simp (p, and-false)) h);
   }
 
-  -- "Reading refuses .. exactly the files with .."
+  -- the test in plain propositions
   pub readable-exactly : (readable file ≡ true) ↔ Readable file
   readable-exactly = (test-readable, readable-test)
 
@@ -104,11 +104,16 @@ module _ (file : List ℕ) where
   not-both : {k : Keep} → readKeep file ≡ kept k → readKeep file ≡ unreadable → ⊥
   not-both e g = let z : _≡_ {A = ℕ} 0 1 = cc in omega arith
 
+  -- "Reading refuses .. exactly the files with .."
   pub refused-exactly : (readKeep file ≡ unreadable) ↔ (Readable file → ⊥)
   refused-exactly = (
     λ e r. not-both (read-readable (readable-test r)) e,
     λ f. ⊎-elim (λ h. absurd (f (test-readable h))) read-refused (either (readable file)),
   )
+
+  -- "with 18", and all other files are read
+  pub refused-with-18 : (fieldsRead (readKeep file) .answer ≡ 18) ↔ (Readable file → ⊥)
+  refused-with-18 = (λ a r. let n = rw (read-readable (readable-test r)) at a in omega arith, λ f. rw (refused-exactly .1 f) refl)
 
   -- what was read is what the file holds
   pub read-kept : {k : Keep} → readKeep file ≡ kept k → Readable file × (k ≡ keepIn file)

@@ -1,4 +1,5 @@
--- Which files are keep files, in plain propositions, and which keeps a file can hold.
+-- Which files are keep files, in plain propositions, and which keeps reading gives back. Of a keep's numbers and bytes no bound is asked: the bytes of
+-- a number (`bytesOf`) give it back, however large it is.
 use Prim.Native.Nat.{ℕ, _+_, _*_, _≤_, _<_}
 use mathlib.Core.Path.{_≡_}
 use mathlib.Core.Bool.{true}
@@ -14,10 +15,10 @@ use Rattle.keep_file.specs.Reading.{pathLength, nodeCount, blockCount, k
 
 -- "an offset or file length [as] the first three numbers give"
 pub record Measured (file : List ℕ) : Type 0 where
-  pub nodesAt : le32 file 12 ≡ nodesStart (pathLength file)
-  pub blocksAt : le32 file 16 ≡ blocksStart (pathLength file) (nodeCount file)
-  pub endAt : le32 file 20 ≡ fileEnd (pathLength file) (nodeCount file) (blockCount file)
-  pub size : length file ≡ fileEnd (pathLength file) (nodeCount file) (blockCount file)
+  pub nodesOffset : le32 file 12 ≡ nodesStart (pathLength file)
+  pub blocksOffset : le32 file 16 ≡ blocksStart (pathLength file) (nodeCount file)
+  pub endOffset : le32 file 20 ≡ fileEnd (pathLength file) (nodeCount file) (blockCount file)
+  pub fileLength : length file ≡ fileEnd (pathLength file) (nodeCount file) (blockCount file)
 
 -- "its table answer (9, 0, 0 or 0, inode, address)"
 abbrev pub TableAnswerAt : List ℕ → ℕ → Type 0

@@ -22,6 +22,7 @@ answerAt file at = choose (eqb (le32 file at) 0) (Entry (le32 file (at + 4)) (le
 unfoldable pub isAnswer : List ℕ → ℕ → Bool
 isAnswer file at = eqb (le32 file at) 0 || (eqb (le32 file at) 9 && eqb (le32 file (at + 4)) 0 && eqb (le32 file (at + 8)) 0)
 
+-- a block's bytes
 unfoldable pub bytesAt : List ℕ → ℕ → List ℕ
 bytesAt file at = take 4096 (drop at file)
 

@@ -84,14 +84,14 @@ fn is_measured(file: &[u8]) -> bool
     let blocks = field::get32(file, 8) as usize;
     let nodes_at = path + 4140;
     let blocks_at = nodes_at + 16 * nodes;
-    let end = blocks_at + 4100 * blocks;
+    let end = file_end(path, nodes, blocks);
     (field::get32(file, 12) as usize == nodes_at)
         & (field::get32(file, 16) as usize == blocks_at)
         & (field::get32(file, 20) as usize == end)
         & (file.len() == end)
 }
 
-// Whether some node is listed, both lists rise, and what they list can have been listed.
+// Whether some node is listed, both lists rise, each node has a table answer, and each block lies in the bounds.
 fn lists_readable(file: &[u8]) -> bool
     requires { ⌜ measured (now file) ≡ true ⌝ }
     ensures { λ r. ⌜ r ≡ listsReadable (now (file .entry)) ⌝ }
@@ -150,6 +150,7 @@ fn fields_in(file: &[u8]) -> Fields
         node_count: field::get32(file, 4),
         block_count: field::get32(file, 8),
         path_at: 24,
+        // the block's bytes and the bounds lie between
         block_at: nodes_at - 4104,
         nodes_at,
         blocks_at: field::get32(file, 16),

@@ -1,20 +1,17 @@
 -- Numbers that stand a width apart, as a loop sees them: at turn i of n it stands at an offset, and `column w l at (n - i)` is left.
-use Prim.Native.Nat.{ℕ, zero, suc, _+_, _-_, _*_, _≤_, _<_}
-use mathlib.Core.Path.{_≡_, refl, ap}
+use Prim.Native.Nat.{ℕ, suc, _+_, _-_, _*_, _≤_, _<_}
+use mathlib.Core.Path.{_≡_, sym, ap}
 use mathlib.Core.List.{List, [], _∷_}
 use native.Mathlib.Nat.{mul-zero, mul-suc, mul-le-mul-left}
 use native.Mathlib.Numerals.{add-one}
 use native.Mathlib.Omega.{arith}
 use Rattle.field.specs.Number.{le32}
 use Rattle.list.specs.Lists.{numbers, column}
+use Rattle.list.proofs.Written.{column-numbers}
 
 -- entries are the numbers four bytes apart
 pub numbers-column : (l : List ℕ) (i k : ℕ) → numbers l i k ≡ column 4 l (4 * i) k
-unfolding numbers column
-numbers-column l i zero = refl
-numbers-column l i (suc k) =
-    let e : 4 * (i + 1) ≡ 4 * i + 4 = omega arith in
-    ap (λ (s : List ℕ). le32 l (4 * i) ∷ s) (rw e at (numbers-column l (i + 1) k))
+numbers-column l i k = let e : 0 + 4 * i ≡ 4 * i = omega arith in sym (rw e at (column-numbers l 0 i k))
 
 -- ---- offsets
 module _ (w i : ℕ) where
@@ -26,7 +23,7 @@ module _ (w i : ℕ) where
   offset-next s = omega (arith, width-next)
 
   -- each of n lies inside the n widths
-  pub width-inside : (n : ℕ) → i < n → w * i + w ≤ w * n
+  width-inside : (n : ℕ) → i < n → w * i + w ≤ w * n
   width-inside n h = omega (arith, width-next, mul-le-mul-left {m = i + 1} {n = n} w (omega arith))
 
 -- a loop over n numbers, the first at s: turn i stands at `at`

@@ -1,5 +1,5 @@
 -- Numbers written as bytes are the numbers read, and what stands at the front of lent bytes as the equation of a public contract.
--- Here, and only here, it matters that a byte is below 256, which code knows of every byte of its slices.
+-- Where bytes are given back it matters that each is below 256, which code knows of every byte of its slices.
 use Prim.Native.Nat.{ℕ, zero, suc, _+_, _*_, _/_, _%_, _≤_, _<_}
 use native.Mathlib.Omega.{arith}
 use native.Mathlib.Numerals.{add-one}
@@ -95,7 +95,7 @@ unfolding over
 over-inside ns d = omega (arith, length-append (bytesOf ns) (drop (4 * length ns) d), length-bytes ns)
 
 -- ---- the same at an offset: numbers without gaps
-column-numbers : (l : List ℕ) (at i k : ℕ) → column 4 l (at + 4 * i) k ≡ numbers (drop at l) i k
+pub column-numbers : (l : List ℕ) (at i k : ℕ) → column 4 l (at + 4 * i) k ≡ numbers (drop at l) i k
 unfolding column numbers
 column-numbers l at i zero = refl
 column-numbers l at i (suc k) =

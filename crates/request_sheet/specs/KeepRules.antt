@@ -47,10 +47,14 @@ keepRules =
     ∷ ((nodesStart 9 ∷ blocksStart 9 2 ∷ fileEnd 9 2 4 ∷ []) is (4149 ∷ 4181 ∷ 20581 ∷ []))
     -- "an offset or file length other than the first three numbers give"; fewer than 24 bytes are none
     ∷ ((reads smallest ∷ reads (smallest ++ 0 ∷ []) ∷ reads (take 4156 smallest) ∷ reads (take 23 smallest) ∷ reads [] ∷ []) is (1 ∷ 0 ∷ 0 ∷ 0 ∷ 0 ∷ []))
-    ∷ (List.map (λ at. reads (set smallest at 44)) (12 ∷ 16 ∷ 20 ∷ []) is (0 ∷ 0 ∷ 0 ∷ []))
+    ∷ (List.map (λ x. reads (set smallest 12 x)) (44 ∷ 45 ∷ 46 ∷ []) is (0 ∷ 1 ∷ 0 ∷ []))
+    ∷ (List.map (λ x. reads (set smallest 16 x)) (60 ∷ 61 ∷ 62 ∷ []) is (0 ∷ 1 ∷ 0 ∷ []))
+    ∷ (List.map (λ x. reads (set smallest 20 x)) (60 ∷ 61 ∷ 62 ∷ []) is (0 ∷ 1 ∷ 0 ∷ []))
+    -- sums never wrap: 2^30 blocks have a multiple of 2^32 bytes
+    ∷ ((reads (set smallest 11 64) ∷ []) is (0 ∷ []))
     ∷ (List.map (λ at. reads (set smallest at 2)) (0 ∷ 4 ∷ 8 ∷ []) is (0 ∷ 0 ∷ 0 ∷ []))
-    -- name, index, answer, count and block bytes aren't tested
-    ∷ (List.map (λ at. reads (set smallest at 47)) (24 ∷ 25 ∷ 29 ∷ 33 ∷ 37 ∷ 4132 ∷ []) is (1 ∷ 1 ∷ 1 ∷ 1 ∷ 1 ∷ 1 ∷ []))
+    -- name, index, answer, count and block bytes aren't tested, and the bounds only against listed blocks
+    ∷ (List.map (λ at. reads (set smallest at 47)) (24 ∷ 25 ∷ 29 ∷ 33 ∷ 37 ∷ 4132 ∷ 4133 ∷ 4137 ∷ []) is (1 ∷ 1 ∷ 1 ∷ 1 ∷ 1 ∷ 1 ∷ 1 ∷ 1 ∷ []))
     -- "no node"
     ∷ ((reads (file [] []) ∷ []) is (0 ∷ []))
     -- "a list not strictly rising"

@@ -24,11 +24,11 @@ use Rattle.pull.specs.Walk.{Block}
 use Rattle.pull.specs.Pull.{Lent, lending, Result, result, lentInShape, written, pullRun, pulled}
 use Rattle.pull.proofs.Results.{call-in-shape, call-opens}
 use Rattle.checkpoint.proofs.Inside.{image-volume}
-use Rattle.keep_file.specs.Layout.{fileEnd, layout}
-use Rattle.keep.specs.Writing.{keepOf, writing, refusedKeep, fileWritten, keepWritten}
+use Rattle.keep_file.specs.Layout.{fileEnd}
+use Rattle.keep.specs.Writing.{fileFrom, writing, refusedKeep, fileWritten, keepWritten}
 use Rattle.keep.proofs.Calls as keep
 use Rattle.keep.proofs.Found.{room-fits, room-short}
-use Rattle.keep.proofs.Lengths.{keep-length}
+use Rattle.keep.proofs.Kept.{keep-length}
 use Rattle.sample_card.specs.Image.{filled, name, missing, content, inlineName, inlineContent, inlineInode, dataBlock}
 use Rattle.sample_card.specs.Image.{innerPath, throughFile, throughMissing, innerContent, innerBlock, image, card}
 use Rattle.sample_card.specs.Volume.{volume}
@@ -129,27 +129,27 @@ unfolding reportOf offOn over bytesOf
 a-report-answers-0 list h = made image list volume opens-with-sit h ∙ rw (image-card, segments .0, segments .1)
 
 -- ---- K6, the writer: of block 1 of "brake.log", with 9 bytes of path, two nodes and four blocks, the file has 20,581 bytes
-file-length : length (layout (keepOf (cardOf image) volume name 1)) ≡ 20581
-unfolding partsOf partCount areNames isPath nameBytes
+file-length : length (fileFrom (cardOf image) volume name 1) ≡ 20581
+unfolding nameBytes
 file-length =
-    keep-length image volume name 1 (image-volume image volume some-card-opens) refl
+    keep-length image volume name 1 (image-volume image volume some-card-opens)
     ∙ ap (λ (c : Card). let seen = pullRun c volume name 1 .seen in fileEnd 9 (length (seen .nodes)) (length (seen .blocks))) image-card
     ∙ ap (λ (r : Ran (Outcome Block)). fileEnd 9 (length (r .seen .nodes)) (length (r .seen .blocks))) (walks .0)
 
-writer-opens : (room : List ℕ) → keepWritten image name 1 room ≡ fileWritten (layout (keepOf (cardOf image) volume name 1)) room
+writer-opens : (room : List ℕ) → keepWritten image name 1 room ≡ fileWritten (fileFrom (cardOf image) volume name 1) room
 unfolding partsOf partCount areNames isPath nameBytes
 writer-opens room = keep.call-opens image name 1 room (Opened volume) (rw image-shape refl) some-card-opens
 
 -- 0, the file, and later bytes as they were, if it fits
 pub a-keep-answers-0 : (room : List ℕ) → 20581 ≤ length room
-    → keepWritten image name 1 room ≡ writing (record { answer = 0; length = 20581 }) (layout (keepOf card volume name 1) ++ drop 20581 room)
+    → keepWritten image name 1 room ≡ writing (record { answer = 0; length = 20581 }) (fileFrom card volume name 1 ++ drop 20581 room)
 a-keep-answers-0 room h =
-    let file : List ℕ = layout (keepOf (cardOf image) volume name 1) in
+    let file : List ℕ = fileFrom (cardOf image) volume name 1 in
     writer-opens room ∙ room-fits file room (omega (arith, file-length))
     ∙ ap (λ (n : ℕ). writing (record { answer = 0; length = n }) (file ++ drop n room)) file-length
-    ∙ ap (λ (c : Card). writing (record { answer = 0; length = 20581 }) (layout (keepOf c volume name 1) ++ drop 20581 room)) image-card
+    ∙ ap (λ (c : Card). writing (record { answer = 0; length = 20581 }) (fileFrom c volume name 1 ++ drop 20581 room)) image-card
 
 -- 17, and nothing written, if it doesn't
 pub a-short-room-answers-17 : (room : List ℕ) → length room < 20581 → keepWritten image name 1 room ≡ refusedKeep 17 room
 a-short-room-answers-17 room h =
-    writer-opens room ∙ sym (room-short (layout (keepOf (cardOf image) volume name 1)) room file-length h)
+    writer-opens room ∙ sym (room-short (fileFrom (cardOf image) volume name 1) room file-length h)
