@@ -1,6 +1,6 @@
 -- An image whose length is out of shape is answered with 4 by each call that takes one, whatever its bytes and whatever else is
--- asked, but that a keep file that is none comes first, with 18: all other numbers are 0, and what was lent stays as it was. K8's "one more is 4" is this and `past-the-limit`
--- (superblock/proofs/Shaped.antt).
+-- asked, but that a keep file that is none comes first, with 18: all other numbers are 0, and what was lent stays as it was. K8's "one
+-- more is 4" is this and `past-the-limit` (superblock/proofs/Shaped.antt).
 use mathlib.Core.Path.{_≡_}
 use mathlib.Core.Bool.{false, and-false}
 use mathlib.Core.List.{List}

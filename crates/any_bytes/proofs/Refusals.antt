@@ -1,5 +1,6 @@
 -- An image that opening refuses is refused by each call that takes one, with the same answer, but that a keep file that is none comes first,
--- with 18: all other numbers are 0 but the side of a comparison, and what was lent stays as it was. K9's "Answer 8 also if" is this and the laws in checkpoint/proofs/Damage.antt.
+-- with 18: all other numbers are 0 but the side of a comparison, and what was lent stays as it was. K9's "Answer 8 also if" is this and the
+-- laws in checkpoint/proofs/Damage.antt.
 use mathlib.Core.Path.{_≡_}
 use mathlib.Core.Bool.{true, _&&_}
 use mathlib.Core.List.{List}

@@ -72,6 +72,7 @@ outcome-zeros (ok b) n = content (b .content) n
     content (held block) n = absurd (n refl)
 outcome-zeros (stop answer) n = refl
 
-pub zeros-unless-0 : (card : Card) (v : Volume) (path : List ℕ) (index : ℕ) → (keepOf card v path index .answer ≡ 0 → ⊥) → keepOf card v path index .block ≡ zeros
+pub zeros-unless-0 : (card : Card) (v : Volume) (path : List ℕ) (index : ℕ) → (keepOf card v path index .answer ≡ 0 → ⊥)
+    → keepOf card v path index .block ≡ zeros
 unfolding keepRun
 zeros-unless-0 card v path index n = outcome-zeros (pullRun card v path index .value) n

@@ -61,7 +61,9 @@ module _ (v : View) (m : Bounds) (whole : WholeMain v m) (index : ℕ) where
           → Comes v (Enough (countIn (inodeOf inode) index)) (contentWalk m index ino inode)
       content inside regular =
           comes-if (hasInlineData (inodeOf inode)) (λ own. comes-done (ok (held (drop inlineStart inode))) (in-inode inside regular own))
-          (λ _. comes-map (fetched-enough _ (count-in-block (inodeOf inode) index inside .1)) (block-whole v m whole ino inode (addressesIn (inodeOf inode)) index))
+          (λ _.
+          comes-map (fetched-enough _ (count-in-block (inodeOf inode) index inside .1))
+          (block-whole v m whole ino inode (addressesIn (inodeOf inode)) index))
 
   pull-enough : (path : List ℕ) → Comes v HasEnough (pullWalk m path index)
   unfolding pullWalk namedFileWalk fileWalk
