@@ -14,7 +14,7 @@
 /* A keep file of one block: what was asked, the answer, and all that it rested on. It may go to a disk and come back. */
 struct kept {
     struct harptimber_kept file;
-    uint8_t bytes[HARPTIMBER_KEEP_BYTES_OF(2)]; /* room for a path of two names */
+    uint8_t bytes[HARPTIMBER_KEEP_BYTES_OF(2)]; /* always enough for two names: 1.9 MB, too many for a small stack */
 };
 
 /* Keeps block 0 of roads/road.bin. The card isn't needed any more then. */
@@ -25,10 +25,14 @@ static int keep_road(struct kept *k, const uint8_t *card, size_t card_len)
     return k->file.answer == HARPTIMBER_DATA;
 }
 
-/* What was kept: the pull's answer, its byte count, and at block_at the bytes. With data or a hole there are some. */
-static struct harptimber_keep_fields what_is_kept(const struct kept *k)
+/* The kept bytes and how many they are, or NULL. Of a file that comes from elsewhere every number is looked at first. */
+static const uint8_t *kept_bytes(const struct kept *k, uint32_t *byte_count)
 {
-    return harptimber_keep_read(k->bytes, k->file.length);
+    struct harptimber_keep_fields f = harptimber_keep_read(k->bytes, k->file.length);
+    *byte_count = f.byte_count;
+    return f.answer == HARPTIMBER_DATA && f.pull_answer <= HARPTIMBER_HOLE && f.byte_count <= HARPTIMBER_BLOCK_BYTES
+               ? k->bytes + f.block_at
+               : NULL;
 }
 
 /* Later, with a new card. Returns HARPTIMBER_SAME if what is kept is still good. */
@@ -94,10 +98,11 @@ static int keep_from(const char *path, struct kept *kept)
 /* Prints the kept block's bytes; of the old card only the keep file is left. */
 static int print_kept(const char *path, const struct kept *kept)
 {
-    struct harptimber_keep_fields fields = what_is_kept(kept);
-    if (fields.pull_answer != HARPTIMBER_DATA && fields.pull_answer != HARPTIMBER_HOLE)
-        return failed(path, harptimber_answer_words(fields.pull_answer));
-    if (fwrite(kept->bytes + fields.block_at, 1, fields.byte_count, stdout) != fields.byte_count || fflush(stdout) != 0)
+    uint32_t byte_count;
+    const uint8_t *bytes = kept_bytes(kept, &byte_count);
+    if (bytes == NULL)
+        return failed(path, "has no such block");
+    if (fwrite(bytes, 1, byte_count, stdout) != byte_count || fflush(stdout) != 0)
         return failed("standard output", strerror(errno));
     return 1;
 }

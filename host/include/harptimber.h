@@ -57,7 +57,10 @@ extern "C" {
 #define HARPTIMBER_KEEP_LENGTH_OF(path_len, node_count, block_count) \
     (4140 + (path_len) + 16 * (node_count) + 4100 * (block_count))
 
-/* The most bytes of one for a path with k names, each of 255 bytes: 958,356k + 24,703. A room of that is never too small. */
+/*
+ * The most bytes of one for a path with k names, each of 255 bytes: 958,356k + 24,703. A room of that is never too
+ * small; for one name it is 983,059 bytes, too many for a small stack.
+ */
 #define HARPTIMBER_KEEP_BYTES_OF(k) \
     HARPTIMBER_KEEP_LENGTH_OF(256 * (k) - 1, HARPTIMBER_NODES_MOST_OF(k), HARPTIMBER_BLOCKS_MOST_OF(k))
 

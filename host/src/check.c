@@ -12,7 +12,8 @@
 struct checked {
     const char *path;
     struct keep_file keep;
-    struct comparison comparison; /* if it is one */
+    const char *fault;            /* if it is one, but not as `keep` wrote it: how the card shows that; else null */
+    struct comparison comparison; /* if it is one without fault */
 };
 
 /* All of them. One is open at a time, so that there may be any number. */
@@ -31,14 +32,21 @@ static bool is_keep_file(const struct checked *checked)
     return checked->keep.fields.answer == HARPTIMBER_DATA;
 }
 
+static bool is_compared(const struct checked *checked)
+{
+    return is_keep_file(checked) && checked->fault == NULL;
+}
+
 static uint32_t answer_of(const struct checked *checked)
 {
+    if (checked->fault != NULL)
+        return HARPTIMBER_BAD_KEEP_FILE;
     return is_keep_file(checked) ? compare_answer(&checked->comparison) : checked->keep.fields.answer;
 }
 
 static enum status status_of(const struct checked *checked)
 {
-    return is_keep_file(checked) ? compare_status(&checked->comparison) : REFUSED;
+    return is_compared(checked) ? compare_status(&checked->comparison) : REFUSED;
 }
 
 /* What the kept card had under the path: a walk past the end needs no more than any pull that comes to the inode. */
@@ -50,13 +58,45 @@ static struct holding held_then(const struct pulled *kept)
     return (struct holding){answer, walk_inode(kept->source, kept->path, kept->path_len, answer)};
 }
 
+/* Whether a pull on the card gives all that the file keeps. */
+static bool gives_again(const struct card *card, const struct pulled *kept)
+{
+    uint8_t block[BLOCK_SIZE] = {0}; /* a pull without data leaves zeros, which the file has then too */
+    struct lists lists;
+    struct pulled now = pulled_from(card, kept->path, kept->path_len, kept->index, block, &lists);
+    return now.gave.answer == kept->gave.answer && now.gave.byte_count == kept->gave.byte_count &&
+           memcmp(block, kept->block, BLOCK_SIZE) == 0 && lists_agree(&now.nodes, &kept->nodes) &&
+           lists_agree(&now.blocks, &kept->blocks);
+}
+
+/* Whether `keep` writes a file with this answer: it does for each that comes behind opening. */
+static bool is_kept(uint32_t answer)
+{
+    return answer <= HARPTIMBER_MALFORMED_SLOT && !is_before_walk(answer);
+}
+
+/*
+ * Why a file can't be as `keep` wrote it; null if it can. The library compares only what is listed. If that is the same, so is
+ * the pull, by proof, and any difference is the file's. If it changed, the pull may differ, and what can be told are an answer
+ * and a path that are never kept: the card opens, so that an answer before the walk is about the path.
+ */
+static const char *find_fault(const struct comparison *c, const struct pulled *kept, uint32_t verdict)
+{
+    if (verdict == HARPTIMBER_SAME && !gives_again(c->new, kept))
+        return "what it keeps isn't what the card gives: the keep file was changed after it was written";
+    if (!is_kept(kept->gave.answer) || is_before_walk(c->has.answer))
+        return "no pull is kept with such a path or answer: the keep file was changed after it was written";
+    return NULL;
+}
+
 /* Asks the library whether a keep file still holds. The comparison needs the file's bytes as long as it is there. */
 static void compare_kept(struct checked *checked, const struct card *card)
 {
     const struct keep_file *keep = &checked->keep;
     struct pulled kept = pulled_kept(keep);
     struct comparison *c = &checked->comparison;
-    *c = (struct comparison){.path = kept.path, .path_len = kept.path_len, .kept = kept.source, .new = card};
+    *c = (struct comparison){
+        .command = "check", .path = kept.path, .path_len = kept.path_len, .kept = kept.source, .new = card};
     struct finding found = {.pulled = kept.gave, .block = kept.block};
     found.pulled.byte_count = pulled_len(&kept);
     found.verdict = harptimber_keep_compare(keep->bytes, keep->len, card->bytes, card->len);
@@ -67,7 +107,9 @@ static void compare_kept(struct checked *checked, const struct card *card)
     }
     c->had = held_then(&kept);
     c->has = held_by(card, c->path, c->path_len);
-    comparison_add(c, kept.index, &found);
+    checked->fault = find_fault(c, &kept, answer);
+    if (checked->fault == NULL)
+        comparison_add(c, kept.index, &found);
 }
 
 /* A card that doesn't open is told by its own name, and not by that of a file that was to be checked. */
@@ -79,18 +121,24 @@ static void show_words(const struct checked *checked)
         show(stdout, checked->path);
         printf(": ");
     }
-    if (is_keep_file(checked)) {
+    if (is_compared(checked)) {
         compare_words(&checked->comparison, true);
-    } else {
-        show_asked(stdout, answer, harptimber_answer_words(answer), &asked);
-        printf("\n");
+        return;
     }
+    if (checked->fault != NULL)
+        show_with_reason(stdout, answer, harptimber_answer_words(answer), checked->fault);
+    else
+        show_asked(stdout, answer, harptimber_answer_words(answer), &asked);
+    printf("\n");
 }
 
 static void json_refusal(struct json *json, const struct checked *checked)
 {
     struct asked asked = reading_of(&checked->keep);
-    json_asked(json, answer_of(checked), &asked);
+    if (checked->fault != NULL)
+        json_string(json, "reason", checked->fault);
+    else
+        json_asked(json, answer_of(checked), &asked);
     json_number(json, "status", status_of(checked));
     json_string(json, "verdict", "refused");
 }
@@ -103,7 +151,7 @@ static void add_json(struct json *json, const struct checked *checked, bool seve
         json_answer(json, answer_of(checked), harptimber_answer_words(answer_of(checked)));
     }
     json_string(json, "file", checked->path);
-    if (is_keep_file(checked))
+    if (is_compared(checked))
         json_comparison(json, &checked->comparison);
     else
         json_refusal(json, checked);

@@ -89,7 +89,8 @@ const struct command commands[] = {
      "changed, or is the same for certain. What changed follows.\n",
      "  0  each block is the same, for certain\n"
      "  1  something that it rests on has changed, its bytes or not\n"
-     "  2  FILE is no keep file, or has no block; or the card can't be read\n"
+     "  2  FILE is no keep file or a damaged one, or has no block and that hasn't changed; or the card\n"
+     "     can't be read\n"
      "  4  the path was missing when it was kept, and still is\n"
      "     With several files it is the highest of theirs.\n",
      run_check},

@@ -87,7 +87,8 @@ static enum status compare_cards(const struct request *request, const struct car
     }
     for (size_t i = 0; i < count; i++) {
         const char *path = request->words[2 + i];
-        all[i] = (struct comparison){.path = path,
+        all[i] = (struct comparison){.command = request->command,
+                                     .path = path,
                                      .path_len = strlen(path),
                                      .whole = request->index == NULL,
                                      .kept = source_of_card(kept),

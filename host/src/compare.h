@@ -46,6 +46,7 @@ struct holding {
 };
 
 struct comparison {
+    const char *command; /* that compares, for messages */
     const char *path;
     size_t path_len;
     bool whole; /* every block was asked for */
@@ -78,6 +79,9 @@ void comparison_add(struct comparison *c, uint32_t index, const struct finding *
 
 /* Notes that a card doesn't open, or that the path is bad. */
 void comparison_refuse(struct comparison *c, uint32_t answer, uint32_t side);
+
+/* Says that there is no memory, and ends the program. */
+_Noreturn void comparison_fail(const struct comparison *c);
 
 void comparison_free(struct comparison *c);
 

@@ -3,7 +3,6 @@
 
 #include "compare.h"
 #include "json.h"
-#include "text.h"
 #include "words.h"
 
 /* What became of a file, in a word or two. */
@@ -32,10 +31,8 @@ static void json_difference(struct json *json, const struct comparison *c, const
     FILE *out = open_memstream(&text, &len);
     if (out != NULL)
         show_ground(out, c, run);
-    if (out == NULL || fclose(out) != 0) {
-        complain("compare", "out of memory");
-        exit(REFUSED);
-    }
+    if (out == NULL || fclose(out) != 0)
+        comparison_fail(c);
     json_string(json, "difference", text);
     free(text);
 }

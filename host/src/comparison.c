@@ -31,6 +31,12 @@ void comparison_refuse(struct comparison *c, uint32_t answer, uint32_t side)
     c->side = side;
 }
 
+void comparison_fail(const struct comparison *c)
+{
+    complain(c->command, "out of memory");
+    exit(REFUSED);
+}
+
 void comparison_free(struct comparison *c)
 {
     free(c->runs);
@@ -46,15 +52,13 @@ struct holding held_by(const struct card *card, const char *path, size_t path_le
 }
 
 /* Room for one thing more behind so many. */
-static void *grow(void *things, size_t count, size_t size)
+static void *grow(const struct comparison *c, void *things, size_t count, size_t size)
 {
     if ((count & (count - 1)) != 0) /* there is room up to the next power of two */
         return things;
     things = reallocarray(things, count == 0 ? 1 : 2 * count, size);
-    if (things == NULL) {
-        complain("compare", "out of memory");
-        exit(REFUSED);
-    }
+    if (things == NULL)
+        comparison_fail(c);
     return things;
 }
 
@@ -82,7 +86,7 @@ static size_t find_ground(struct comparison *c, uint32_t index, const struct har
     }
     if (i != c->ground_count)
         return i;
-    c->grounds = grow(c->grounds, c->ground_count, sizeof *c->grounds);
+    c->grounds = grow(c, c->grounds, c->ground_count, sizeof *c->grounds);
     c->grounds[c->ground_count] = ground;
     return c->ground_count++;
 }
@@ -121,7 +125,7 @@ static void add_run(struct comparison *c, const struct run *run)
         last->last = run->last;
         return;
     }
-    c->runs = grow(c->runs, c->run_count, sizeof *c->runs);
+    c->runs = grow(c, c->runs, c->run_count, sizeof *c->runs);
     c->runs[c->run_count++] = *run;
 }
 

@@ -12,9 +12,21 @@ bool output_is_standard(const char *word)
     return word == NULL || strcmp(word, "-") == 0;
 }
 
+/* Whether an open file is this one: the same file, pipe or device, by whatever name. */
+static bool is_open_as(int file, const struct stat *info)
+{
+    struct stat open;
+    return fstat(file, &open) == 0 && open.st_dev == info->st_dev && open.st_ino == info->st_ino;
+}
+
+/* A file that standard output goes to isn't replaced, so that its name leads to it also once the bytes are there. */
 FILE *output_beside(const char *word)
 {
-    return word != NULL && output_is_standard(word) ? stderr : stdout;
+    struct stat info;
+    if (word == NULL)
+        return stdout;
+    bool mixed = output_is_standard(word) || (stat(word, &info) == 0 && is_open_as(STDOUT_FILENO, &info));
+    return mixed ? stderr : stdout;
 }
 
 /* Why an open file can't be the output; null if it can. */
@@ -25,14 +37,10 @@ static const char *judge(const struct mapping *read, const struct stat *info)
     return S_ISBLK(info->st_mode) ? "is a block device" : NULL; /* which may hold the card */
 }
 
-/* Whether a file is where words go, as /dev/stdout may be. They would be lost in a file that is replaced. */
+/* Whether a file is standard output or error, as /dev/stdout may be. What goes there would be lost if it were replaced. */
 static bool has_words(const struct stat *info)
 {
-    struct stat words;
-    for (int file = STDOUT_FILENO; file <= STDERR_FILENO; file++)
-        if (fstat(file, &words) == 0 && words.st_dev == info->st_dev && words.st_ino == info->st_ino)
-            return true;
-    return false;
+    return is_open_as(STDOUT_FILENO, info) || is_open_as(STDERR_FILENO, info);
 }
 
 /* Makes a file ready that is seen once it is whole. `old` is the one that it replaces, or null. Returns why not. */

@@ -20,7 +20,10 @@ struct output {
 /* Whether -o's word, null without one, means standard output. */
 bool output_is_standard(const char *word);
 
-/* Where words go: beside the bytes, if these go to standard output by -o's word. */
+/*
+ * Where words go: to standard error, if -o's word leads to what standard output is, by '-' or by any path. Among the
+ * bytes they would spoil them.
+ */
 FILE *output_beside(const char *word);
 
 /* These three say what went wrong, and return false. The file that is read isn't opened to be written. */

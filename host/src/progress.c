@@ -51,7 +51,7 @@ void progress_show(struct progress *progress, uint32_t blocks)
     uint32_t total = (progress->total + BLOCKS_A_MIB - 1) / BLOCKS_A_MIB;
     progress->width = 0;
     if (strlen(progress->path) <= MOST_PATH_BYTES) {
-        progress->width += show(stderr, progress->path);
+        progress->width += (int)show(stderr, progress->path);
         progress->width += fprintf(stderr, ": ");
     }
     progress->width += show_number(stderr, blocks / BLOCKS_A_MIB);

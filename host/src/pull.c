@@ -37,11 +37,7 @@ static enum status pull_and_tell(const struct request *request, const struct car
     uint8_t block[BLOCK_SIZE];
     struct lists lists;
     const char *path = request->words[1];
-    struct pulled pulled = {
-        .source = source_of_card(card), .path = path, .path_len = strlen(path), .index = index, .block = block};
-    pulled.gave = card_pull(card, path, pulled.path_len, index, block, &lists);
-    pulled.nodes = (struct list){lists.nodes, 4, pulled.gave.node_count};
-    pulled.blocks = (struct list){lists.blocks, 4, pulled.gave.block_count};
+    struct pulled pulled = pulled_from(card, path, strlen(path), index, block, &lists);
     return tell(request, &pulled, card);
 }
 

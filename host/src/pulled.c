@@ -7,6 +7,22 @@
 #include "output.h"
 #include "text.h"
 
+struct pulled pulled_from(const struct card *card, const char *path, size_t path_len, uint32_t index, uint8_t *block,
+                          struct lists *lists)
+{
+    struct harptimber_pulled gave = card_pull(card, path, path_len, index, block, lists);
+    return (struct pulled){
+        .source = source_of_card(card),
+        .path = path,
+        .path_len = path_len,
+        .index = index,
+        .gave = gave,
+        .block = block,
+        .nodes = {lists->nodes, 4, gave.node_count},
+        .blocks = {lists->blocks, 4, gave.block_count},
+    };
+}
+
 struct pulled pulled_kept(const struct keep_file *keep)
 {
     return (struct pulled){

@@ -20,6 +20,10 @@ struct pulled {
     struct list nodes, blocks;
 };
 
+/* A pull on a card. The block, of 4,096 bytes, and the lists are the caller's room for it. */
+struct pulled pulled_from(const struct card *card, const char *path, size_t path_len, uint32_t index, uint8_t *block,
+                          struct lists *lists);
+
 /* What a keep file has of its pull; this stands as long as the file does. */
 struct pulled pulled_kept(const struct keep_file *keep);
 

@@ -4,6 +4,8 @@
 #include <stdarg.h>
 #include <string.h>
 
+#include "harptimber.h"
+
 size_t utf8_read(const char *text, size_t text_len, uint32_t *character)
 {
     /* For each number of bytes: how the first one looks, and the lowest character that needs so many. */
@@ -35,22 +37,28 @@ bool is_control(uint32_t character)
     return character < 0x20 || (character >= 0x7F && character <= 0x9F);
 }
 
-/* Prints a character of so many bytes; 0 if they aren't UTF-8. */
-static int show_character(FILE *out, const char *text, size_t len, uint32_t character)
+/* Prints a character of so many bytes; 0 if they aren't UTF-8. Returns how many bytes that makes. */
+static size_t show_character(FILE *out, const char *text, size_t len, uint32_t character)
 {
-    if (len != 0 && character == '\\')
-        return fprintf(out, "\\\\");
-    if (len != 0 && !is_control(character))
-        return fprintf(out, "%.*s", (int)len, text);
-    int printed = 0;
-    for (size_t i = 0; i < (len == 0 ? 1 : len); i++)
-        printed += fprintf(out, "\\x%02X", (unsigned)(uint8_t)text[i]);
-    return printed;
+    if (len != 0 && !is_control(character)) {
+        if (character == '\\')
+            fputc('\\', out);
+        fwrite(text, 1, len, out);
+        return len + (character == '\\');
+    }
+    size_t count = len == 0 ? 1 : len;
+    for (size_t i = 0; i < count; i++)
+        fprintf(out, "\\x%02X", (unsigned)(uint8_t)text[i]);
+    return count * strlen("\\xNN");
 }
 
-int show_bytes(FILE *out, const char *text, size_t len)
+static size_t show_all(FILE *out, const char *text, size_t len)
 {
-    int printed = len == 0 ? fprintf(out, "''") : 0;
+    size_t printed = 0;
+    if (len == 0) {
+        fputs("''", out);
+        printed = strlen("''");
+    }
     for (size_t at = 0; at < len;) {
         uint32_t character = 0;
         size_t bytes = utf8_read(text + at, len - at, &character);
@@ -60,9 +68,19 @@ int show_bytes(FILE *out, const char *text, size_t len)
     return printed;
 }
 
-int show(FILE *out, const char *text)
+size_t show(FILE *out, const char *text)
 {
-    return show_bytes(out, text, strlen(text));
+    return show_all(out, text, strlen(text));
+}
+
+void show_bytes(FILE *out, const char *text, size_t len)
+{
+    size_t shown = len < HARPTIMBER_PATH_BYTES_MOST ? len : HARPTIMBER_PATH_BYTES_MOST;
+    show_all(out, text, shown);
+    if (shown == len)
+        return;
+    fputs(" and ", out);
+    show_count(out, len - shown, "more byte");
 }
 
 const char *number_text(char room[NUMBER_ROOM], uint64_t number)

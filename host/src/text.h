@@ -17,10 +17,13 @@ bool is_control(uint32_t character);
  * Prints a name or path: control characters, and bytes that aren't UTF-8, as \xNN, a backslash as two;
  * no bytes as ''. Returns how many bytes were printed.
  */
-int show(FILE *out, const char *text);
+size_t show(FILE *out, const char *text);
 
-/* The same for a text that may have zero bytes. */
-int show_bytes(FILE *out, const char *text, size_t len);
+/*
+ * The same for a name or path on a card, which may have zero bytes. In a keep file that nobody kept it may have 4 GiB: behind
+ * as many bytes as a path can have, only the number of the others is printed.
+ */
+void show_bytes(FILE *out, const char *text, size_t len);
 
 /*
  * Prints a quantity as people write it: 4,096. Numbers that name something, a block, a node or an answer,

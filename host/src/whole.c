@@ -2,7 +2,7 @@
  * Where the file system can, the file has no name at all while it is written (O_TMPFILE), so that nothing of it
  * is left however the program ends. Elsewhere it has a temporary name, which signals that can be caught take away.
  */
-#define _GNU_SOURCE /* O_PATH, O_TMPFILE */
+#define _GNU_SOURCE /* O_PATH, O_TMPFILE, syncfs */
 #include "whole.h"
 
 #include <errno.h>
@@ -198,14 +198,29 @@ static bool name_file(struct whole *whole)
     return true;
 }
 
-/* Puts the name on the medium too. Where that fails, a cut may leave what was there before. */
-static void settle_name(const struct whole *whole)
+/* Puts the folder on the medium. One that may not be read can't be opened for that: then its whole file system is. */
+static int sync_folder(const struct whole *whole)
 {
     int folder = openat(whole->folder, ".", O_RDONLY | O_DIRECTORY | O_CLOEXEC);
     if (folder < 0)
-        return;
-    fsync(folder);
+        return errno == EACCES ? syncfs(whole->file) : -1;
+    int status = fsync(folder), error = errno;
     close(folder);
+    errno = error;
+    return status;
+}
+
+/*
+ * Puts the name on the medium too. Where that fails, a cut may leave what was there before, so that it is told: returns
+ * why, or null. A file system that has no such call for folders keeps names as well as it can.
+ */
+static const char *settle_name(const struct whole *whole)
+{
+    static char why[120];
+    if (sync_folder(whole) == 0 || errno == EINVAL || errno == ENOTSUP || errno == ENOSYS || errno == EROFS)
+        return NULL;
+    snprintf(why, sizeof why, "is whole, but may be lost if the power fails: its folder: %s", strerror(errno));
+    return why;
 }
 
 /* A name is given only to bytes that have arrived, so that a cut at any time leaves the old file or the new one, whole. */
@@ -215,9 +230,7 @@ const char *whole_end(struct whole *whole)
     int error = errno;
     sigset_t before = hold_signals();
     bool named = arrived && name_file(whole);
-    const char *why = named ? NULL : strerror(arrived ? errno : error);
-    if (named)
-        settle_name(whole);
+    const char *why = named ? settle_name(whole) : strerror(arrived ? errno : error);
     whole_drop(whole);
     let_signals(before);
     return why;

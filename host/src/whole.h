@@ -20,7 +20,10 @@ struct whole {
  */
 const char *whole_begin(struct whole *whole, const char *path, const struct stat *old);
 
-/* Ends it: gives the file its name, or returns why not and leaves nothing. */
+/*
+ * Ends it: gives the file its name, or returns why not and leaves nothing. Where the name is given but may not outlast a
+ * power failure, it returns that, and the file stays.
+ */
 const char *whole_end(struct whole *whole);
 
 /* Ends it with nothing left. */

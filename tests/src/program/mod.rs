@@ -99,16 +99,21 @@ pub fn run(words: Words) -> Ran {
 
 /// As somebody who may not read or write what isn't theirs, as root may.
 pub fn run_without_privilege(words: Words) -> Ran {
+    ran(&mut command_without_privilege(words), Stdio::piped())
+}
+
+/// A command line that runs so.
+pub fn command_without_privilege(words: Words) -> Command {
     let command = command(words);
     if fs::metadata("/proc/self").unwrap().uid() != 0 {
-        return run(words);
+        return command;
     }
     let mut without = Command::new("setpriv");
     let none = "-dac_override,-dac_read_search";
     without.arg(format!("--bounding-set={none}"));
     without.arg(format!("--inh-caps={none}"));
     without.arg(command.get_program()).args(command.get_args());
-    ran(&mut without, Stdio::piped())
+    without
 }
 
 /// With its standard output going to a file that is there.

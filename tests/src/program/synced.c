@@ -1,6 +1,7 @@
 /*
- * Loaded into the program before its other libraries: notes in the file SYNCED_IN, in their order, when a file or a folder is put on
- * the disk, and when a file is given a name. If SYNCED_FAILS is set, putting a file there fails.
+ * Loaded into the program before its other libraries: notes in the file SYNCED_IN, in their order, when a file, a folder or a whole
+ * file system is put on the disk, and when a file is given a name. What SYNCED_FAILS names fails to get there, with the error
+ * SYNCED_ERROR.
  */
 #define _GNU_SOURCE
 #include <dlfcn.h>
@@ -19,17 +20,30 @@ static void note(const char *what)
     close(file);
 }
 
+/* Notes it, and does it by the library's own function of this name, unless it is to fail. */
+static int sync_by(const char *function, int file, const char *what)
+{
+    const char *fails = getenv("SYNCED_FAILS");
+    int (*next)(int);
+    *(void **)&next = dlsym(RTLD_NEXT, function);
+    note(what);
+    note(" synced\n");
+    if (fails == NULL || strcmp(fails, what) != 0)
+        return next(file);
+    errno = atoi(getenv("SYNCED_ERROR"));
+    return -1;
+}
+
 int fsync(int file)
 {
     struct stat info;
-    int (*next)(int);
-    *(void **)&next = dlsym(RTLD_NEXT, "fsync");
     int is_folder = fstat(file, &info) == 0 && S_ISDIR(info.st_mode);
-    note(is_folder ? "folder synced\n" : "file synced\n");
-    if (is_folder || getenv("SYNCED_FAILS") == NULL)
-        return next(file);
-    errno = EIO;
-    return -1;
+    return sync_by("fsync", file, is_folder ? "folder" : "file");
+}
+
+int syncfs(int file)
+{
+    return sync_by("syncfs", file, "file system");
 }
 
 int linkat(int from_folder, const char *from, int folder, const char *name, int flags)

@@ -1,12 +1,12 @@
 //! Runs of the program of which it is noted when they put files on the disk, and when they name them.
 
 use std::fs;
-use std::process::Stdio;
+use std::process::{Command, Stdio};
 use std::sync::Arc;
 
 use crate::cards::on_disk::Shared;
 use crate::program::preloaded::Preloaded;
-use crate::program::{command, ran, Ran, Words};
+use crate::program::{ran, Ran};
 use crate::tools::published::Scratch;
 
 /// The library that notes it.
@@ -19,14 +19,15 @@ impl Synced {
         SYNCED.get(|| Synced(Preloaded::of("synced.c")))
     }
 
-    /// Runs the program. Returns what it did in which order, too; its files may fail to get on the disk.
-    pub fn run(&self, words: Words, fails: bool) -> (Ran, Vec<String>) {
+    /// Runs a command line of the program. Returns what it did in which order, too; its files, its folders or the whole file
+    /// system may fail to get on the disk, with an error's number.
+    pub fn run(&self, mut command: Command, fails: Option<(&str, i32)>) -> (Ran, Vec<String>) {
         let scratch = Scratch::new();
         let notes = scratch.path("notes");
-        let mut command = command(words);
         self.0.load(&mut command).env("SYNCED_IN", &notes);
-        if fails {
-            command.env("SYNCED_FAILS", "");
+        if let Some((what, error)) = fails {
+            command.env("SYNCED_FAILS", what);
+            command.env("SYNCED_ERROR", error.to_string());
         }
         let ran = ran(&mut command, Stdio::piped());
         let notes = fs::read_to_string(notes).unwrap_or_default();

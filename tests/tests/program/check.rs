@@ -11,7 +11,7 @@ use harptimber_tests::cards::on_disk::OnDisk;
 use harptimber_tests::program::card::{ProgramCard, ROAD};
 use harptimber_tests::program::held::{Hold, Holder};
 use harptimber_tests::program::json::Json;
-use harptimber_tests::program::keeps::{beside, kept, kept_beside};
+use harptimber_tests::program::keeps::{beside, kept, kept_beside, parts};
 use harptimber_tests::program::page::{expect_head, meaning};
 use harptimber_tests::program::{run, run_by_shell, Ran, Word, Words};
 
@@ -90,6 +90,9 @@ impl Checks {
             })
             .collect();
         files.push((beside(&new, "text", b"this is no keep file at all"), 2));
+        let mut rotten = parts(&fs::read(&files[0].0).unwrap());
+        rotten.block[0] ^= 1;
+        files.push((beside(&new, "rotten.keep", &rotten.laid_out()), 2));
         files.push((beside(&new, "empty", b""), 2));
         Checks {
             new,

@@ -10,9 +10,10 @@ use harptimber_tests::cards::walk_damage::strike_block;
 use harptimber_tests::program::card::{pulled, shared_card, ProgramCard, LONG, ROAD};
 use harptimber_tests::program::held::{Files, Hold, Holder};
 use harptimber_tests::program::json::Json;
-use harptimber_tests::program::keeps::{kept, parts};
+use harptimber_tests::program::keeps::{beside, kept, parts};
 use harptimber_tests::program::page::{counted, expect_head, expect_name, meaning, status_of};
 use harptimber_tests::program::synced::Synced;
+use harptimber_tests::program::{command, command_without_privilege};
 use harptimber_tests::program::{run, run_by_shell, run_without_privilege, Words};
 use harptimber_tests::tools::published::Scratch;
 
@@ -232,6 +233,10 @@ fn unwritable_folder() {
     });
 }
 
+/// Errors' numbers: of a disk that fails, and of file systems that can't do it.
+const EIO: i32 = 5;
+const CANT: [i32; 4] = [22, 30, 38, 95];
+
 /// The bytes are on the disk before they get a name, and then the name is. If they can't be put there, the old file stays.
 #[test]
 fn on_the_disk() {
@@ -244,7 +249,7 @@ fn on_the_disk() {
     ];
     for line in lines {
         place.expect_nothing_new(|| {
-            let (ran, notes) = synced.run(line, true);
+            let (ran, notes) = synced.run(command(line), Some(("file", EIO)));
             ran.expect_message(2, &["output: Input/output error\n"]);
             assert_eq!(notes, ["file synced"]);
         });
@@ -253,12 +258,67 @@ fn on_the_disk() {
             false => [&["renamed"][..], &["renamed"]],
         };
         for named in names {
-            let (ran, notes) = synced.run(line, false);
+            let (ran, notes) = synced.run(command(line), None);
             ran.expect(0);
             let expected = [&["file synced"], named, &["folder synced"]].concat();
             assert_eq!(notes, expected);
             assert_eq!(place.0.names(), ["output"]);
         }
         fs::remove_file(&output).unwrap();
+    }
+}
+
+/// A name that can't be put on the disk is told, old or new, and the file stays; where no file system does that, nothing is told.
+#[test]
+fn name_on_the_disk() {
+    let (card, place, synced) = (shared_card(), Place::new(), Synced::shared());
+    let (image, output) = (card.disk.path(), place.output());
+    let file = kept(&card.disk.image, ROAD, 0).unwrap();
+    let words: Words = &[&"keep", &"-o", &output, &image, &ROAD];
+    let lost =
+        "output: is whole, but may be lost if the power fails: its folder: Input/output error\n";
+    let allow = |mode| fs::set_permissions(place.0.folder(), Permissions::from_mode(mode)).unwrap();
+    let expect = |command, fails: (&str, i32), mode| {
+        allow(mode);
+        let (ran, notes) = synced.run(command, Some(fails));
+        allow(0o700);
+        assert_eq!(notes.last().unwrap(), &format!("{} synced", fails.0));
+        match fails.1 {
+            EIO => ran.expect_message(2, &[lost]),
+            _ => ran.expect(0),
+        };
+        place.expect_alone(&file);
+    };
+    for error in [EIO].into_iter().chain(CANT) {
+        for _ in 0..2 {
+            expect(command(words), ("folder", error), 0o700);
+        }
+        // A folder that may be written but not read: in its place, all of its file system is put there.
+        let without = command_without_privilege(words);
+        expect(without, ("file system", error), 0o300);
+        fs::remove_file(&output).unwrap();
+    }
+}
+
+/// Of a path that is longer than any, words have as much as a path can have, and JSON has all of it.
+#[test]
+fn path_longer_than_any() {
+    let card = OnDisk::new(shared_card().disk.image.clone());
+    let sound = parts(&kept(&card.image, ROAD, 0).unwrap());
+    let path = "p\\".repeat(1500);
+    for (len, shown, rest) in [
+        (2047, 2047, ""),
+        (2048, 2047, " and 1 more byte"),
+        (2049, 2047, " and 2 more bytes"),
+        (3000, 2047, " and 953 more bytes"),
+    ] {
+        let long = sound.with(|parts| parts.path = path.as_bytes()[..len].to_vec());
+        let file = beside(&card, "long.keep", &long.laid_out());
+        let ran = run(&[&"show", &file]).expect(0);
+        let said = path[..shown].replace('\\', "\\\\");
+        let start = format!("{said}{rest}, block 0: ");
+        assert!(ran.words().starts_with(&start), "{ran:?}");
+        let json = run(&[&"show", &"--json", &file]).expect(0).json();
+        expect_name(&json, &path.as_bytes()[..len]);
     }
 }

@@ -185,6 +185,18 @@ fn library_against_fault() {
     assert!(json.get("reason").is_none(), "{json:?}");
 }
 
+/// What is said of a keep file that the card's own pull contradicts, and of one that no pull on any card gives.
+const CHANGED: &str =
+    "what it keeps isn't what the card gives: the keep file was changed after it was written";
+const NEVER_KEPT: &str =
+    "no pull is kept with such a path or answer: the keep file was changed after it was written";
+
+/// Whether a check refused a keep file, which reading takes, for one of these reasons.
+fn is_refused(json: &Json) -> bool {
+    let reason = json.get("reason").map(Json::text);
+    reason.is_some_and(|reason| [CHANGED, NEVER_KEPT].contains(&reason))
+}
+
 /// The answer of a check, and that of the compare inside.
 fn verdict(json: &Json) -> u64 {
     let runs = json.get("runs").map_or(&[][..], Json::list);
@@ -209,13 +221,120 @@ fn expect_any(run: impl Fn(Words) -> Ran, card: &OnDisk, bytes: &[u8]) -> u32 {
     assert_eq!(words.err, "", "{words:?}");
     let checked = run(&[&"check", &"--json", &file, &new]);
     let json = checked.json();
-    assert_eq!(verdict(&json), u64::from(compared.answer), "{json:?}");
+    if is_refused(&json) {
+        assert_eq!((fields.answer, verdict(&json)), (0, 18), "{json:?}");
+        assert_eq!((checked.status, json["verdict"].text()), (2, "refused"));
+    } else {
+        assert_eq!(verdict(&json), u64::from(compared.answer), "{json:?}");
+    }
     assert_eq!(json["status"].number(), checked.status as u64, "{json:?}");
     let words = run(&[&"check", &file, &new]).expect(checked.status);
     assert_eq!(words.err, "", "{words:?}");
+    run(&[&"check", &"-q", &file, &new]).expect(checked.status);
+    if checked.status == 0 {
+        assert_eq!(compared.answer, 15, "{json:?}");
+        assert!(fields.pull_answer < 2, "{fields:?}");
+        assert_eq!(json["verdict"].text(), "same", "{json:?}");
+        assert!(words.words().ends_with(": is the same\n"), "{words:?}");
+    }
     let output = card.scratch.path("any.block");
     run(&[&"show", &"-o", &output, &file]);
     compared.answer
+}
+
+/// A byte of what the library's compare doesn't look at: the card, which gives something else, refuses it.
+#[test]
+fn changed_after_it_was_written() {
+    let sound = Sound::new();
+    let new = sound.card.path();
+    let file = beside(&sound.card, "sound.keep", &sound.file);
+    let same = run(&[&"check", &file, &new]).expect(0);
+    assert!(same.words().ends_with(": is the same\n"), "{same:?}");
+    let changes: [fn(&mut Parts); 16] = [
+        |parts| parts.path[0] ^= 1,
+        |parts| parts.path.clear(),
+        |parts| parts.path = b"/".to_vec(),
+        |parts| parts.path = [&b"x"[..]; 9].join(&b'/'),
+        |parts| parts.pull[0] ^= 1,
+        |parts| parts.pull[0] ^= 1 << 24,
+        |parts| parts.pull[1] = 1,
+        |parts| parts.pull[1] = 2,
+        |parts| parts.pull[1] = 4,
+        |parts| parts.pull[1] = 15,
+        |parts| parts.pull[1] = 16,
+        |parts| parts.pull[1] = 18,
+        |parts| parts.pull[2] ^= 1,
+        |parts| parts.pull[2] ^= 1 << 24,
+        |parts| parts.block[0] ^= 1,
+        |parts| parts.block[BLOCK_SIZE - 1] ^= 0x80,
+    ];
+    for (nth, change) in changes.into_iter().enumerate() {
+        let bytes = sound.changed(change);
+        let compared = reference_compare(&bytes, sound.card.image.bytes());
+        assert_eq!(compared.answer, 15, "change {nth}");
+        expect_refused(&sound.card, &bytes, CHANGED);
+    }
+}
+
+/// What a check says of a keep file that `keep` can't have written so.
+fn expect_refused(card: &OnDisk, bytes: &[u8], reason: &str) {
+    let (file, new) = (beside(card, "changed.keep", bytes), card.path());
+    let ran = run(&[&"check", &file, &new]).expect(2);
+    let said = format!("{} (answer 18): {reason}\n", meaning("check", 18));
+    assert_eq!(ran.words(), format!("{}: {said}", file.display()));
+    let quiet = run(&[&"check", &"-q", &file, &new]).expect(2);
+    assert_eq!((quiet.words(), quiet.err.as_str()), ("", ""));
+    let json = run(&[&"check", &"--json", &file, &new]).expect(2).json();
+    expect_head(&json, "check", 18);
+    assert_eq!(json["reason"].text(), reason);
+    assert_eq!(json["verdict"].text(), "refused");
+    assert_eq!(json["status"].number(), 2);
+}
+
+/// Of a kept answer that is no block the 4,096 bytes are zeros, and the lists are all that it rests on.
+#[test]
+fn changed_without_data() {
+    let sound = Sound::new();
+    for (path, index, status) in [(ROAD, 6, 2), (b"missing".as_slice(), 0, 4)] {
+        let file = kept(&sound.card.image, path, index).unwrap();
+        let whole = beside(&sound.card, "none.keep", &file);
+        run(&[&"check", &whole, &sound.card.path()]).expect(status);
+        let parts = parts(&file);
+        let changes: [fn(&mut Parts); 3] = [
+            |parts| parts.block[7] = 1,
+            |parts| parts.pull[2] = 1,
+            |parts| drop(parts.blocks.pop()),
+        ];
+        for change in changes {
+            expect_refused(&sound.card, &parts.with(change).laid_out(), CHANGED);
+        }
+    }
+}
+
+/// Where what is listed changed, a pull may give anything, but never has a keep file such an answer or path.
+#[test]
+fn never_kept() {
+    let sound = Sound::new();
+    let strike = |change: &dyn Fn(&mut Parts)| {
+        sound.changed(|parts| {
+            parts.blocks[0].1[BLOCK_SIZE - 1] ^= 1;
+            change(parts);
+        })
+    };
+    for answer in (0..20).chain([u32::MAX]) {
+        let bytes = strike(&|parts| parts.pull[1] = answer);
+        match answer {
+            0..4 | 9..15 => {
+                let file = beside(&sound.card, "other.keep", &bytes);
+                run(&[&"check", &file, &sound.card.path()]).expect(1);
+            }
+            _ => expect_refused(&sound.card, &bytes, NEVER_KEPT),
+        }
+    }
+    for path in [&b""[..], b"/", b"a/", &[&b"x"[..]; 9].join(&b'/')] {
+        let bytes = strike(&|parts| parts.path = path.to_vec());
+        expect_refused(&sound.card, &bytes, NEVER_KEPT);
+    }
 }
 
 /// A byte count of more than a block: no more than the block is written, or compared.
@@ -252,8 +371,11 @@ fn any_path(random: &mut Random, path: &[u8]) -> Vec<u8> {
 
 /// Changes something that reading doesn't look at, or only roughly.
 fn strike(parts: &mut Parts, random: &mut Random) {
-    let any = [0, 1, 3, 4, 5, 8, 12, 16, 18, 4097, 1 << 20, u32::MAX];
-    let number = pick(random, &any);
+    let answers = [0, 1, 2, 3, 4, 5, 8, 12, 15, 16, 17, 18];
+    let number = match random.below(5) {
+        0 => pick(random, &[4097, 1 << 20, u32::MAX]),
+        _ => pick(random, &answers),
+    };
     let (node, block) = (
         random.below(parts.nodes.len() as u64) as usize,
         random.below(parts.blocks.len() as u64) as usize,

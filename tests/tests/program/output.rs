@@ -8,8 +8,9 @@ use std::process::{Command, Stdio};
 use harptimber_tests::cards::on_disk::OnDisk;
 use harptimber_tests::program::card::{shared_card, ProgramCard, ROAD};
 use harptimber_tests::program::json::Json;
-use harptimber_tests::program::keeps::kept_beside;
+use harptimber_tests::program::keeps::{kept, kept_beside};
 use harptimber_tests::program::{ran, run, run_by_shell, run_to, Words};
+use harptimber_tests::tools::published::Scratch;
 
 /// Bytes up to the byte count, whatever the file had before.
 #[test]
@@ -50,6 +51,53 @@ fn to_standard_output() {
     let json = Json::parse(&whole.err).expect("an object");
     assert_eq!(json["bytes"].number(), road.size);
     assert_eq!(json["output"].text(), "-");
+}
+
+/// Standard output by a path has the bytes alone too: through a pipe, in a file, and in one that `-o` names itself or by a link.
+#[test]
+fn to_standard_output_by_path() {
+    let card = shared_card();
+    let (scratch, path) = (Scratch::new(), card.disk.path());
+    let [output, linked] = ["output", "linked"].map(|name| scratch.path(name));
+    File::create(&output).unwrap();
+    fs::hard_link(&output, &linked).unwrap();
+    let block = card.file(ROAD).block(&card.card.image, 5);
+    let file = kept(&card.disk.image, ROAD, 5).unwrap();
+    for (command, bytes) in [("pull", block), ("keep", file)] {
+        let stdout = PathBuf::from("/dev/stdout");
+        let words: Words = &[&command, &"-o", &stdout, &path, &ROAD, &"5"];
+        let piped = run(words).expect(0);
+        assert!(piped.out == bytes, "bytes of {piped:?}");
+        assert!(piped.err.contains("(answer 0), 100 bytes"), "{piped:?}");
+        let json = run(&[words, &[&"--json"]].concat()).expect(0);
+        assert!(json.out == bytes, "bytes of {json:?}");
+        assert_eq!(Json::parse(&json.err).unwrap()["answer"].number(), 0);
+        for to in [&stdout, &output, &linked] {
+            for mode in [">", ">>"] {
+                let line = format!("exec \"$@\" {mode} '{}'", output.display());
+                let words: Words = &[&command, &"-o", to, &path, &ROAD, &"5"];
+                let ran = run_by_shell(&line, words).expect(0);
+                assert!(fs::read(&output).unwrap() == bytes, "bytes of {ran:?}");
+                assert_eq!(ran.err, piped.err);
+            }
+        }
+    }
+}
+
+/// Words go to a standard output that the bytes don't go to, also where the output replaces another file.
+#[test]
+fn words_beside_another_file() {
+    let card = shared_card();
+    let scratch = Scratch::new();
+    let [output, words] = ["output", "words"].map(|name| scratch.path(name));
+    for name in [&output, &words] {
+        fs::write(name, "").unwrap();
+    }
+    let image = card.disk.path();
+    let ran = run_to(&words, &[&"pull", &"-o", &output, &image, &ROAD, &"5"]).expect(0);
+    assert_eq!(ran.err, "");
+    let said = fs::read_to_string(&words).unwrap();
+    assert!(said.contains("(answer 0), 100 bytes"), "{said}");
 }
 
 /// A refused pull touches no file and makes none.
