@@ -191,10 +191,13 @@ const CHANGED: &str =
 const NEVER_KEPT: &str =
     "no pull is kept with such a path or answer: the keep file was changed after it was written";
 
-/// Whether a check refused a keep file, which reading takes, for one of these reasons.
-fn is_refused(json: &Json) -> bool {
-    let reason = json.get("reason").map(Json::text);
-    reason.is_some_and(|reason| [CHANGED, NEVER_KEPT].contains(&reason))
+/// What the library's compare says of a keep file, which reading takes, that a check refuses for one of these reasons.
+fn refused_by(json: &Json) -> Option<u32> {
+    match json.get("reason").map(Json::text) {
+        Some(CHANGED) => Some(15),
+        Some(NEVER_KEPT) => Some(16),
+        _ => None,
+    }
 }
 
 /// The answer of a check, and that of the compare inside.
@@ -221,7 +224,8 @@ fn expect_any(run: impl Fn(Words) -> Ran, card: &OnDisk, bytes: &[u8]) -> u32 {
     assert_eq!(words.err, "", "{words:?}");
     let checked = run(&[&"check", &"--json", &file, &new]);
     let json = checked.json();
-    if is_refused(&json) {
+    if let Some(answer) = refused_by(&json) {
+        assert_eq!(compared.answer, answer, "{json:?}");
         assert_eq!((fields.answer, verdict(&json)), (0, 18), "{json:?}");
         assert_eq!((checked.status, json["verdict"].text()), (2, "refused"));
     } else {
