@@ -7,5 +7,6 @@
 pub mod agreed;
 pub mod grid;
 pub mod pulls;
+pub mod run_reader;
 pub mod system;
 pub mod table;

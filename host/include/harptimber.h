@@ -1,7 +1,7 @@
 /*
- * Harptimber: a proved library for reading F2FS cards. It pulls one block of a file, by its path, from a card
- * image, lists what the answer rested on, and says from those lists whether another image gives the
- * same answer. It writes the answer and what it rested on as a keep file, by which that is said without the
+ * Harptimber: a proved library for reading F2FS cards. It pulls one block of a file, or a run of them, by its
+ * path, from a card image, lists what the answer rested on, and says from those lists whether another image
+ * gives the same answer. It writes the answer and what it rested on as a keep file, by which that is said without the
  * old image. It also says which segments' valid counts are off.
  *
  * Link with -lharptimber, as `pkg-config --libs harptimber` says. A call keeps nothing for the next one
@@ -43,15 +43,21 @@ extern "C" {
 
 /* The version of this header, and of the library that is installed with it. */
 #define HARPTIMBER_VERSION_MAJOR 0
-#define HARPTIMBER_VERSION_MINOR 9
+#define HARPTIMBER_VERSION_MINOR 10
 #define HARPTIMBER_VERSION_PATCH 0
-#define HARPTIMBER_VERSION "0.9.0"
+#define HARPTIMBER_VERSION "0.10.0"
 
 /* The most that a pull of a path with k names, 1 to 8, rests on, and the bytes to lend for a list of that. */
 #define HARPTIMBER_NODES_MOST_OF(k) (175 * (k) + 4)
 #define HARPTIMBER_BLOCKS_MOST_OF(k) (233 * (k) + 5)
 #define HARPTIMBER_NODES_BYTES_OF(k) (4 * HARPTIMBER_NODES_MOST_OF(k))
 #define HARPTIMBER_BLOCKS_BYTES_OF(k) (4 * HARPTIMBER_BLOCKS_MOST_OF(k))
+
+/* The same for a run of pulls, however many blocks it has. */
+#define HARPTIMBER_RUN_NODES_MOST_OF(k) (175 * (k) + 6)
+#define HARPTIMBER_RUN_BLOCKS_MOST_OF(k) (233 * (k) + 518)
+#define HARPTIMBER_RUN_NODES_BYTES_OF(k) (4 * HARPTIMBER_RUN_NODES_MOST_OF(k))
+#define HARPTIMBER_RUN_BLOCKS_BYTES_OF(k) (4 * HARPTIMBER_RUN_BLOCKS_MOST_OF(k))
 
 /* The bytes of a keep file whose path has so many bytes, and whose pull listed so many nodes and blocks. */
 #define HARPTIMBER_KEEP_LENGTH_OF(path_len, node_count, block_count) \
@@ -77,6 +83,14 @@ enum {
     HARPTIMBER_BLOCKS_MOST = HARPTIMBER_BLOCKS_MOST_OF(HARPTIMBER_NAMES_MOST),
     HARPTIMBER_NODES_BYTES = HARPTIMBER_NODES_BYTES_OF(HARPTIMBER_NAMES_MOST),
     HARPTIMBER_BLOCKS_BYTES = HARPTIMBER_BLOCKS_BYTES_OF(HARPTIMBER_NAMES_MOST),
+    /* The most blocks of a run, and the bytes of a buffer for so many, 2 MiB: too many for a small stack. */
+    HARPTIMBER_RUN_MOST = 512,
+    HARPTIMBER_RUN_BYTES = HARPTIMBER_RUN_MOST * HARPTIMBER_BLOCK_BYTES,
+    /* The most that a run of any path rests on, 1,406 nodes and 2,382 blocks, and the bytes that are always enough. */
+    HARPTIMBER_RUN_NODES_MOST = HARPTIMBER_RUN_NODES_MOST_OF(HARPTIMBER_NAMES_MOST),
+    HARPTIMBER_RUN_BLOCKS_MOST = HARPTIMBER_RUN_BLOCKS_MOST_OF(HARPTIMBER_NAMES_MOST),
+    HARPTIMBER_RUN_NODES_BYTES = HARPTIMBER_RUN_NODES_BYTES_OF(HARPTIMBER_NAMES_MOST),
+    HARPTIMBER_RUN_BLOCKS_BYTES = HARPTIMBER_RUN_BLOCKS_BYTES_OF(HARPTIMBER_NAMES_MOST),
     /* The bytes that are always enough for a keep file, 7,691,551: too many for a stack. */
     HARPTIMBER_KEEP_BYTES = HARPTIMBER_KEEP_BYTES_OF(HARPTIMBER_NAMES_MOST),
     HARPTIMBER_SEGMENT_BLOCKS = 512,
@@ -261,6 +275,36 @@ struct harptimber_pulled harptimber_pull(const uint8_t *image, size_t image_len,
                                          size_t block_len, uint8_t *nodes, size_t nodes_len,
                                          uint8_t *blocks, size_t blocks_len);
 
+/* The result of harptimber_pull_run. */
+struct harptimber_run {
+    uint32_t answer;      /* HARPTIMBER_DATA if all blocks stand, holes too; else the first other answer, 2 to 14 */
+    uint32_t count;       /* how many blocks stand in the buffer, with a refusal too */
+    uint32_t byte_count;  /* how many bytes of the last of them are the file's, 1 to 4,096; 0 if none stands */
+    uint32_t node_count;  /* how many numbers of the node list were written, at most 175k + 6 for k names */
+    uint32_t block_count; /* how many numbers of the block list were written, at most 233k + 518 */
+};
+
+/*
+ * A run of pulls: blocks `index`, `index` + 1 and so on of the file that a path leads to, as many as `blocks_wanted`,
+ * and what all of them rested on. The directories on the path are walked once. Paths and lists are as
+ * harptimber_pull has them. `blocks_wanted` is 1 to HARPTIMBER_RUN_MOST, `buffer` has exactly
+ * HARPTIMBER_BLOCK_BYTES for each, and for k names `nodes` has at least HARPTIMBER_RUN_NODES_BYTES_OF(k) and
+ * `blocks` at least HARPTIMBER_RUN_BLOCKS_BYTES_OF(k); HARPTIMBER_RUN_NODES_BYTES and HARPTIMBER_RUN_BLOCKS_BYTES are
+ * enough for every path. Otherwise the answer is 4, before any of 5 to 8.
+ *
+ * The run stops at the first pull that gives no block, and has that pull's answer: HARPTIMBER_PAST_END at the file's
+ * end. The blocks before it stand, each with the bytes that its pull writes, and the buffer behind them is untouched.
+ * Data and holes aren't told apart. All bytes of a block that stands are the file's, but for the last one's behind the
+ * byte count, which are zeros.
+ *
+ * With 4 to 8 the buffer and the lists are untouched and all counts are 0; otherwise the lists hold what all these
+ * pulls looked up and read, the one that gave no block too, each number once, rising, and entries behind the counts are
+ * untouched.
+ */
+struct harptimber_run harptimber_pull_run(const uint8_t *image, size_t image_len, const uint8_t *path, size_t path_len,
+                                          uint32_t index, uint32_t blocks_wanted, uint8_t *buffer, size_t buffer_len,
+                                          uint8_t *nodes, size_t nodes_len, uint8_t *blocks, size_t blocks_len);
+
 /* Which image a compare refuses. */
 enum harptimber_side { HARPTIMBER_KEPT = 1, HARPTIMBER_FRESH = 2 };
 
@@ -280,17 +324,17 @@ struct harptimber_compared {
 };
 
 /*
- * Whether a pull gives the same on a new image: `kept` is the image it was made on, the lists and
- * counts are those it left. It writes nowhere.
+ * Whether a pull, or a run of them, gives the same on a new image: `kept` is the image it was made on, the lists
+ * and counts are those it left. It writes nowhere.
  *
  * HARPTIMBER_SAME is answered exactly if both images have the same main area bounds, each listed node
- * number has the same table answer in both, and each listed block the same bytes; then that pull on the
- * new image gives the same answer, byte count, block bytes and lists. Whether there is a block at all,
- * the pull's answer says: a name that was missing and still is compares as the same too.
+ * number has the same table answer in both, and each listed block the same bytes; then that pull, or that run,
+ * on the new image gives the same answer, counts, block bytes and lists. Whether there is a block at all,
+ * the pull's answer says, or the run's count: a name that was missing and still is compares as the same too.
  *
  * HARPTIMBER_CHANGED means that something differs which the answer rested on, if only a date in an inode
- * or another entry of a directory on the path. The block may have the same bytes then; a pull on the new image
- * tells.
+ * or another entry of a directory on the path; of a run, which any of its blocks rested on. The bytes may be the same
+ * then; a pull on the new image tells, or for each block of a run a compare by its own pull's lists.
  *
  * Lists that a version before 0.3.0 left may be of another checkpoint than the one that is read now,
  * where versions have wrapped. `harptimber info` tells of which images: pull from those again.

@@ -51,6 +51,14 @@ struct harptimber_pulled card_pull(const struct card *card, const char *path, si
                            lists->nodes, sizeof lists->nodes, lists->blocks, sizeof lists->blocks);
 }
 
+struct harptimber_run card_pull_run(const struct card *card, const char *path, size_t path_len, uint32_t index,
+                                    struct run_room *room)
+{
+    return harptimber_pull_run(card->bytes, card->len, (const uint8_t *)path, path_len, index, HARPTIMBER_RUN_MOST,
+                               room->bytes, sizeof room->bytes, room->nodes, sizeof room->nodes, room->blocks,
+                               sizeof room->blocks);
+}
+
 bool is_block(uint32_t answer)
 {
     return answer == HARPTIMBER_DATA || answer == HARPTIMBER_HOLE;

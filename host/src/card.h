@@ -1,4 +1,4 @@
-/* A card image, mapped to be read, and the library's pull on it. */
+/* A card image, mapped to be read, and the library's pulls on it. */
 #ifndef CARD_H
 #define CARD_H
 
@@ -26,6 +26,13 @@ struct lists {
     uint8_t blocks[HARPTIMBER_BLOCKS_BYTES];
 };
 
+/* What the longest run of pulls gives, and what it rested on. Too large for a stack. */
+struct run_room {
+    uint8_t bytes[HARPTIMBER_RUN_BYTES];
+    uint8_t nodes[HARPTIMBER_RUN_NODES_BYTES];
+    uint8_t blocks[HARPTIMBER_RUN_BLOCKS_BYTES];
+};
+
 /*
  * Maps a file, and takes the part of it that the request's options choose. If that fails, says why and returns what to end with;
  * else DONE.
@@ -43,6 +50,10 @@ bool card_is_settled(const struct card *card);
 /* Block `index` of the file that a path leads to, into 4,096 bytes at `block`. */
 struct harptimber_pulled card_pull(const struct card *card, const char *path, size_t path_len, uint32_t index,
                                    uint8_t *block, struct lists *lists);
+
+/* As many blocks of it from `index` on as a run has. */
+struct harptimber_run card_pull_run(const struct card *card, const char *path, size_t path_len, uint32_t index,
+                                    struct run_room *room);
 
 /* Whether a pull's answer is a block: data or a hole. */
 bool is_block(uint32_t answer);

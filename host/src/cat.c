@@ -10,8 +10,8 @@
 #include "text.h"
 #include "words.h"
 
-/* How many bytes are written at once: 64 blocks. */
-enum { PIECE = 64 * BLOCK_SIZE };
+/* How many blocks are written at once: progress is shown behind each piece. */
+enum { PIECE = 64 };
 
 struct cat {
     const struct request *request;
@@ -21,11 +21,10 @@ struct cat {
     struct output output;
     bool output_is_open;
     struct progress progress;
-    uint64_t bytes;         /* written and waiting ones */
-    uint32_t blocks, holes; /* and in how many blocks */
-    uint32_t answer;        /* of the last pull */
-    size_t waiting;
-    uint8_t piece[PIECE];
+    uint64_t bytes;         /* written ones */
+    uint32_t blocks, holes; /* and in how many blocks; holes are counted for JSON alone */
+    uint32_t answer;        /* of the last run: data if the file goes on behind it */
+    struct run_room room;
 };
 
 /* Opens the output, once it is known that there is something to write. */
@@ -39,39 +38,51 @@ static bool open_output(struct cat *cat)
     return true;
 }
 
-static bool write_piece(struct cat *cat)
+/* Whether a block of the last run is a hole. A run doesn't tell, but a hole is zeros. */
+static bool is_hole(const struct cat *cat, uint32_t i)
 {
-    size_t len = cat->waiting;
-    cat->waiting = 0;
-    return (cat->output_is_open || open_output(cat)) && output_write(&cat->output, cat->piece, len);
+    static const uint8_t zeros[BLOCK_SIZE];
+    uint8_t block[BLOCK_SIZE];
+    struct lists lists;
+    if (memcmp(cat->room.bytes + (size_t)i * BLOCK_SIZE, zeros, BLOCK_SIZE) != 0)
+        return false;
+    return card_pull(&cat->card, cat->path, cat->path_len, cat->blocks + i, block, &lists).answer == HARPTIMBER_HOLE;
 }
 
-/*
- * Pulls block after block, each straight to its place in the piece, until the end or a refusal. Returns
- * false if something couldn't be written.
- */
+/* Writes the blocks of a run, a piece at a time. */
+static bool write_run(struct cat *cat, const struct harptimber_run *run)
+{
+    for (uint32_t i = 0; cat->request->json && i < run->count; i++)
+        cat->holes += is_hole(cat, i);
+    for (uint32_t done = 0, count; done < run->count; done += count) {
+        count = run->count - done < PIECE ? run->count - done : PIECE;
+        size_t len = (size_t)count * BLOCK_SIZE;
+        if (done + count == run->count)
+            len -= BLOCK_SIZE - run->byte_count;
+        if (!output_write(&cat->output, cat->room.bytes + (size_t)done * BLOCK_SIZE, len))
+            return false;
+        cat->blocks += count;
+        cat->bytes += len;
+        if (count == PIECE)
+            progress_show(&cat->progress, cat->blocks);
+    }
+    return true;
+}
+
+/* Pulls run after run until the end or a refusal. Returns false if something couldn't be written. */
 static bool copy(struct cat *cat)
 {
-    for (;;) {
-        struct lists lists;
-        struct harptimber_pulled pulled =
-            card_pull(&cat->card, cat->path, cat->path_len, cat->blocks, cat->piece + cat->waiting, &lists);
-        cat->answer = pulled.answer;
-        if (!is_block(pulled.answer))
-            break;
-        cat->blocks++;
-        cat->holes += pulled.answer == HARPTIMBER_HOLE;
-        cat->bytes += pulled.byte_count;
-        cat->waiting += pulled.byte_count;
-        if (cat->waiting > PIECE - BLOCK_SIZE) {
-            if (!write_piece(cat))
-                return false;
-            progress_show(&cat->progress, cat->blocks);
-        }
-    }
-    /* An empty file that was read is written too: it empties the output. */
-    bool nothing = cat->blocks == 0 && cat->answer != HARPTIMBER_PAST_END;
-    return nothing || write_piece(cat);
+    do {
+        struct harptimber_run run = card_pull_run(&cat->card, cat->path, cat->path_len, cat->blocks, &cat->room);
+        cat->answer = run.answer;
+        /* An empty file that was read is written too: it empties the output. */
+        bool nothing = run.count == 0 && run.answer != HARPTIMBER_PAST_END;
+        if (!nothing && !cat->output_is_open && !open_output(cat))
+            return false;
+        if (!write_run(cat, &run))
+            return false;
+    } while (cat->answer == HARPTIMBER_DATA);
+    return true;
 }
 
 /* Whether there is something for whoever reads the output: of a file, all or nothing. */

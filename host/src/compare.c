@@ -5,54 +5,105 @@
 #include <string.h>
 
 #include "progress.h"
+#include "pulled.h"
 #include "text.h"
 #include "words.h"
 
-/* Asks the library of a block. Returns false, with the reason in the comparison, if a card doesn't open or the path is bad. */
-static bool find(struct comparison *c, uint32_t index, struct finding *found, uint8_t *block)
+/*
+ * Asks the library whether what a pull or a run on the kept card left still holds on the new one. Returns false, with the reason in
+ * the comparison, if a card doesn't open or the path is bad.
+ */
+static bool judge(struct comparison *c, uint32_t answer, struct list nodes, struct list blocks,
+                  struct harptimber_compared *verdict)
 {
     const struct card *kept = c->kept.card;
-    struct lists lists;
-    found->pulled = card_pull(kept, c->path, c->path_len, index, block, &lists);
-    found->block = block;
-    uint32_t answer = found->pulled.answer;
     if (is_before_walk(answer)) {
         bool bad_path = answer == HARPTIMBER_OUT_OF_SHAPE && length_is_in_shape(kept);
         comparison_refuse(c, answer, bad_path ? (uint32_t)NO_SIDE : HARPTIMBER_KEPT);
         return false;
     }
-    found->verdict = harptimber_compare(kept->bytes, kept->len, c->new->bytes, c->new->len, lists.nodes,
-                                        sizeof lists.nodes, found->pulled.node_count, lists.blocks,
-                                        sizeof lists.blocks, found->pulled.block_count);
-    answer = found->verdict.answer;
-    if (answer == HARPTIMBER_SAME || answer == HARPTIMBER_CHANGED)
+    *verdict = harptimber_compare(kept->bytes, kept->len, c->new->bytes, c->new->len, nodes.bytes, 4 * (size_t)nodes.count,
+                                  nodes.count, blocks.bytes, 4 * (size_t)blocks.count, blocks.count);
+    if (verdict->answer == HARPTIMBER_SAME || verdict->answer == HARPTIMBER_CHANGED)
         return true;
-    comparison_refuse(c, answer, HARPTIMBER_FRESH); /* the kept card has just been read */
+    comparison_refuse(c, verdict->answer, HARPTIMBER_FRESH); /* the kept card has just been read */
     return false;
 }
 
-/* Returns whether there may be a block behind this one. */
-static bool compare_block(struct comparison *c, uint32_t index)
+/* How far a path has been compared. */
+struct comparing {
+    struct comparison *c;
+    uint32_t index; /* of the next block */
+    bool quiet;
+    struct progress progress;
+};
+
+/*
+ * Compares a block. Returns whether to go on behind it: for the exit status alone, what comes behind a change says nothing
+ * more.
+ */
+static bool compare_block(struct comparing *comparing)
 {
+    struct comparison *c = comparing->c;
     uint8_t block[BLOCK_SIZE];
-    struct finding found;
-    if (!find(c, index, &found, block))
+    struct lists lists;
+    struct pulled pulled = pulled_from(c->kept.card, c->path, c->path_len, comparing->index, block, &lists);
+    struct finding found = {.pulled = pulled.gave, .block = block};
+    if (!judge(c, pulled.gave.answer, pulled.nodes, pulled.blocks, &found.verdict))
         return false;
-    comparison_add(c, index, &found);
-    return is_block(c->last_answer);
+    comparison_add(c, comparing->index, &found);
+    if (!is_block(c->last_answer) || (comparing->quiet && compare_status(c) == CHANGED))
+        return false;
+    progress_show(&comparing->progress, ++comparing->index);
+    return true;
 }
 
-/* For the exit status alone, what comes behind a change says nothing more. */
+/* Adds the blocks of a run that is the same, and what ended it. Returns whether to go on behind it. */
+static bool add_same(struct comparing *comparing, const struct harptimber_run *run)
+{
+    struct finding found = {.pulled = {.answer = HARPTIMBER_DATA}, .verdict = {.answer = HARPTIMBER_SAME}};
+    for (uint32_t i = 0; i < run->count; i++) {
+        comparison_add(comparing->c, comparing->index, &found);
+        progress_show(&comparing->progress, ++comparing->index);
+    }
+    found.pulled.answer = run->answer;
+    if (run->answer != HARPTIMBER_DATA)
+        comparison_add(comparing->c, comparing->index, &found);
+    return run->answer == HARPTIMBER_DATA;
+}
+
+/* The same for a run of blocks. Where something changed, each block's own lists tell for which of them, and what. */
+static bool compare_run(struct comparing *comparing)
+{
+    static struct run_room room; /* large, so not on the stack */
+    struct comparison *c = comparing->c;
+    struct harptimber_run run = card_pull_run(c->kept.card, c->path, c->path_len, comparing->index, &room);
+    struct list nodes = {room.nodes, 4, run.node_count}, blocks = {room.blocks, 4, run.block_count};
+    struct harptimber_compared verdict;
+    if (!judge(c, run.answer, nodes, blocks, &verdict))
+        return false;
+    if (verdict.answer == HARPTIMBER_SAME)
+        return add_same(comparing, &run);
+    uint32_t i = 0;
+    while (i < HARPTIMBER_RUN_MOST && compare_block(comparing))
+        i++;
+    return i == HARPTIMBER_RUN_MOST;
+}
+
 static void compare_path(struct comparison *c, uint32_t index, bool quiet)
 {
+    struct comparing comparing = {.c = c, .index = index, .quiet = quiet};
     c->had = held_by(c->kept.card, c->path, c->path_len);
     c->has = held_by(c->new, c->path, c->path_len);
-    struct progress progress = {.total = 0};
-    if (c->whole && !quiet)
-        progress = progress_begin(c->kept.card, c->path);
-    while (compare_block(c, index) && c->whole && !(quiet && compare_status(c) == CHANGED))
-        progress_show(&progress, ++index);
-    progress_end(&progress);
+    if (!c->whole) {
+        compare_block(&comparing);
+        return;
+    }
+    if (!quiet)
+        comparing.progress = progress_begin(c->kept.card, c->path);
+    while (compare_run(&comparing))
+        ;
+    progress_end(&comparing.progress);
 }
 
 /* With several paths, the highest of their statuses. Once a card is refused, other paths are no news. */

@@ -70,7 +70,7 @@ enum { NO_SIDE = 0 };
 /* What the library says of a block: what a pull on the kept card gave, and whether that still holds on the new one. */
 struct finding {
     struct harptimber_pulled pulled;
-    const uint8_t *block; /* 4,096 bytes, if there is one */
+    const uint8_t *block; /* 4,096 bytes, if there is one and it may differ */
     struct harptimber_compared verdict;
 };
 

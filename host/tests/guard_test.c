@@ -8,13 +8,14 @@
  *     undo                                   takes the damage back
  *     pull PATH INDEX ANSWER KEPT FRESH      a pull's answer, and those of compares with the sound image
  *                                            that have the damaged one as the kept and as the new one; also by
- *                                            its keep file, which is written and read again
+ *                                            its keep file, which is written and read again; and runs from there on
  *     node NUMBER ANSWER
  *     segments COUNT ANSWER                  a segment report with room in its list for so many main segments,
  *                                            which is just enough, with a little more, and with less
  *     cut LEN PATH INDEX ANSWER              a pull and a report from the first bytes of the image
  *     plant SLICE PATH INDEX                 a pull of data with that slice shorter than the call is told,
  *                                            which has to end in a fault; room and file are a keep file's
+ *     plant_run SLICE PATH INDEX             the same for a run
  *     plant_report SLICE                     the same for a report that lists a segment
  *     unset                                  a compare with lists that were never written, for valgrind
  *
@@ -35,11 +36,15 @@
 #define PATTERN 0xA5
 #define COUNT_OF(array) (sizeof(array) / sizeof *(array))
 
-/* What a call is lent and told, and what it returned. Each call takes some of it; the name is a pull's path. */
+/*
+ * What a call is lent and told, and what it returned. Each call takes some of it; the name is a pull's path, and the block may be
+ * a run's buffer.
+ */
 struct call {
     struct slice image, fresh, name, block, nodes, blocks, list, room, file;
-    uint32_t index, node_count, block_count;
+    uint32_t index, wanted, node_count, block_count;
     struct harptimber_pulled pulled;
+    struct harptimber_run run;
     struct harptimber_compared compared;
     struct harptimber_entry entry;
     struct harptimber_hashed hashed;
@@ -57,6 +62,14 @@ static void make_pull(void *with)
     c->pulled = harptimber_pull(c->image.bytes, c->image.len, c->name.bytes, c->name.len, c->index,
                                 c->block.bytes, c->block.len, c->nodes.bytes, c->nodes.len,
                                 c->blocks.bytes, c->blocks.len);
+}
+
+static void make_run(void *with)
+{
+    struct call *c = with;
+    c->run = harptimber_pull_run(c->image.bytes, c->image.len, c->name.bytes, c->name.len, c->index, c->wanted,
+                                 c->block.bytes, c->block.len, c->nodes.bytes, c->nodes.len, c->blocks.bytes,
+                                 c->blocks.len);
 }
 
 static void make_compare(void *with)
@@ -169,19 +182,32 @@ struct lens {
     size_t block, nodes, blocks;
 };
 
-/* The least that is enough for a path, by its names. */
-static struct lens least_of(const struct slice *path)
+/* How many names a path has, as far as a path may have them. */
+static size_t names_of(const struct slice *path)
 {
     size_t names = 1;
     for (size_t i = 0; i < path->len && names < HARPTIMBER_NAMES_MOST; i++)
         names += path->bytes[i] == '/';
+    return names;
+}
+
+/* The least that is enough for a path, by its names. */
+static struct lens least_of(const struct slice *path)
+{
+    size_t names = names_of(path);
     return (struct lens){BLOCK_SIZE, HARPTIMBER_NODES_BYTES_OF(names), HARPTIMBER_BLOCKS_BYTES_OF(names)};
 }
 
-static int in_shape(const struct lens *lens, const struct slice *path)
+/* The same for a run of so many blocks. */
+static struct lens least_of_run(const struct slice *path, uint32_t wanted)
 {
-    struct lens least = least_of(path);
-    return lens->block == BLOCK_SIZE && lens->nodes >= least.nodes && lens->blocks >= least.blocks;
+    size_t names = names_of(path);
+    return (struct lens){wanted * BLOCK_SIZE, HARPTIMBER_RUN_NODES_BYTES_OF(names), HARPTIMBER_RUN_BLOCKS_BYTES_OF(names)};
+}
+
+static int are_enough(const struct lens *lens, const struct lens *least)
+{
+    return lens->block == least->block && lens->nodes >= least->nodes && lens->blocks >= least->blocks;
 }
 
 static void lend_room(struct call *c, const struct lens *lens)
@@ -203,7 +229,8 @@ static unsigned turn; /* so that pulls take turns in what else is tried with the
 /* A pull. What its answer leaves untouched can't be written. */
 static void expect_pull(struct call *c, const struct lens *lens, uint32_t answer)
 {
-    if (!in_shape(lens, &c->name))
+    struct lens least = least_of(&c->name);
+    if (!are_enough(lens, &least))
         answer = HARPTIMBER_OUT_OF_SHAPE;
     lend_room(c, lens);
     if (answer > HARPTIMBER_HOLE && answer != ANY)
@@ -231,7 +258,7 @@ struct beyond {
 static struct slice list(const char *name, const struct slice *pulled, uint32_t count,
                          const struct beyond *beyond)
 {
-    uint8_t bytes[HARPTIMBER_BLOCKS_BYTES + 3] = {0};
+    uint8_t bytes[HARPTIMBER_RUN_BLOCKS_BYTES + 3] = {0};
     size_t len = 4 * (size_t)count;
     if (len != 0)
         memcpy(bytes, pulled->bytes, len);
@@ -240,7 +267,7 @@ static struct slice list(const char *name, const struct slice *pulled, uint32_t 
     return copied(name, bytes, len + beyond->bytes);
 }
 
-/* A compare with the lists that a pull left, in slices of just their length. */
+/* A compare with the lists that a pull or a run left, in slices of just their length. */
 static void expect_compare(const struct call *pull, struct slice fresh, const struct beyond *beyond,
                            uint32_t answer)
 {
@@ -285,6 +312,47 @@ static int rest_stays(const struct slice *s, size_t at)
         if (s->bytes[at] != PATTERN)
             return 0;
     return 1;
+}
+
+/* A run of as many blocks as the call wants. What its answer leaves untouched can't be written, or is looked at. */
+static void expect_run(struct call *c, const struct lens *lens, uint32_t answer)
+{
+    struct lens least = least_of_run(&c->name, c->wanted);
+    if (c->wanted == 0 || c->wanted > HARPTIMBER_RUN_MOST || !are_enough(lens, &least))
+        answer = HARPTIMBER_OUT_OF_SHAPE;
+    c->block = lend_filled("buffer", lens->block);
+    c->nodes = lend_filled("node list", lens->nodes);
+    c->blocks = lend_filled("block list", lens->blocks);
+    if (answer != HARPTIMBER_DATA && answer != ANY)
+        seal(&c->block);
+    if (refused(answer)) {
+        seal(&c->nodes);
+        seal(&c->blocks);
+    }
+    c->run = (struct harptimber_run){.answer = ANY}; /* if it ends in a fault */
+    if (!stays_inside("run", make_run, c))
+        return;
+    size_t written = c->run.count * BLOCK_SIZE;
+    expect("run", c, c->run.answer, answer);
+    use(c->block.bytes, written);
+    use(c->nodes.bytes, 4 * c->run.node_count);
+    use(c->blocks.bytes, 4 * c->run.block_count);
+    if (fails(rest_stays(&c->block, written) && rest_stays(&c->nodes, 4 * c->run.node_count) &&
+              rest_stays(&c->blocks, 4 * c->run.block_count)))
+        say("run, which writes behind its counts", c, 0);
+}
+
+static void expect_odd_run(struct call *c, uint32_t answer)
+{
+    struct lens least = least_of_run(&c->name, c->wanted);
+    const struct lens odd[] = {
+        {least.block, least.nodes + 1, least.blocks + 3},      {least.block, least.nodes + 3, least.blocks + 1},
+        {least.block - 1, least.nodes, least.blocks},          {least.block + 1, least.nodes, least.blocks},
+        {least.block + BLOCK_SIZE, least.nodes, least.blocks}, {least.block, least.nodes - 1, least.blocks},
+        {least.block, least.nodes, least.blocks - 1},          {0, 0, 0},
+    };
+    expect_run(c, &odd[turn % COUNT_OF(odd)], answer);
+    give_room_back(c);
 }
 
 /* A report with so many bytes lent for its list. What is refused can't write to them. */
@@ -434,6 +502,33 @@ static uint32_t with_itself(uint32_t answer)
     return refused(answer) ? answer : HARPTIMBER_SAME;
 }
 
+/*
+ * Runs that start as a pull did: of that block alone, of more, and with odd lengths. Where the pull gave no block they answer as
+ * it did, whatever follows; else what comes behind it decides. By what one left, an image is the same as itself.
+ */
+static void expect_runs(const struct call *pull, uint32_t answer)
+{
+    static const uint32_t wanted[] = {2, 3, 9, 40}, out_of_shape[] = {0, HARPTIMBER_RUN_MOST + 1, UINT32_MAX};
+    struct call c = {.image = pull->image, .name = pull->name, .index = pull->index, .wanted = 1};
+    uint32_t first = answer <= HARPTIMBER_HOLE ? (uint32_t)HARPTIMBER_DATA : answer;
+    struct lens least = least_of_run(&c.name, c.wanted);
+    expect_run(&c, &least, first);
+    give_room_back(&c);
+    expect_odd_run(&c, first);
+    c.wanted = turn % 16 == 7 ? (uint32_t)HARPTIMBER_RUN_MOST : wanted[turn % COUNT_OF(wanted)];
+    least = least_of_run(&c.name, c.wanted);
+    expect_run(&c, &least, first == HARPTIMBER_DATA ? ANY : first);
+    c.pulled.node_count = c.run.node_count;
+    c.pulled.block_count = c.run.block_count;
+    expect_compare(&c, c.image, &nothing, with_itself(c.run.answer));
+    give_room_back(&c);
+    expect_odd_run(&c, first == HARPTIMBER_DATA ? ANY : first);
+    c.wanted = out_of_shape[turn % COUNT_OF(out_of_shape)]; /* with a buffer for one, or of no bytes for none */
+    least.block = c.wanted == 0 ? 0 : BLOCK_SIZE;
+    expect_run(&c, &least, first);
+    give_room_back(&c);
+}
+
 /* The pull of one line, on the damaged image and on the sound one. */
 static void run_pull(struct slice name, uint32_t index, uint32_t answer, uint32_t as_kept, uint32_t as_fresh)
 {
@@ -446,6 +541,7 @@ static void run_pull(struct slice name, uint32_t index, uint32_t answer, uint32_
     expect_compare(&c, damaged, &nothing, with_itself(answer));
     expect_odd_compare(&c, sound, as_kept);
     expect_keeps(&c, sound, as_kept);
+    expect_runs(&c, answer);
     look_up_nodes(&c);
     give_room_back(&c);
     expect_odd_room(&c, answer);
@@ -469,6 +565,7 @@ static void run_cut(size_t len, struct slice name, uint32_t index, uint32_t answ
     look_up_nodes(&c);
     expect_compare(&c, damaged, &nothing, ANY);
     expect_keeps(&c, damaged, ANY);
+    expect_runs(&c, answer);
     give_room_back(&c);
     c.image = damaged;
     expect_pull(&c, &least, ANY);
@@ -489,10 +586,10 @@ static struct slice shorter(const struct slice *whole, size_t len)
     return s;
 }
 
-/* The last block that a pull listed: the image is needed up to there. */
-static size_t last_block(const struct call *c)
+/* The last block that a pull or a run listed: the image is needed up to there. */
+static size_t last_block(const struct call *c, uint32_t count)
 {
-    return harptimber_list_entry(c->blocks.bytes, c->pulled.block_count - 1);
+    return harptimber_list_entry(c->blocks.bytes, count - 1);
 }
 
 /* A call that leaves one slice has to end in a fault. */
@@ -521,6 +618,37 @@ static void run_plant_keep(const char *which, struct call *c)
     }
 }
 
+/* Makes one slice of a pull or a run shorter than it was, by how many numbers it listed. */
+static void plant(struct call *c, const char *which, uint32_t node_count, uint32_t block_count)
+{
+    struct {
+        struct slice *slice;
+        const char *name;
+        size_t len;
+    } plants[] = {
+        {&c->name, "name", c->name.len - 1},
+        {&c->block, "block", c->block.len - 1},
+        {&c->nodes, "nodes", 4 * node_count - 1},
+        {&c->blocks, "blocks", 4 * block_count - 1},
+        {&c->image, "image", BLOCK_SIZE * last_block(c, block_count)},
+    };
+    for (size_t i = 0; i < COUNT_OF(plants); i++)
+        if (strcmp(which, plants[i].name) == 0)
+            *plants[i].slice = shorter(plants[i].slice, plants[i].len);
+}
+
+/* A run of one block that is told more than there is of one slice. */
+static void run_plant_run(const char *which, struct slice name, uint32_t index)
+{
+    struct call c = {.image = damaged, .name = name, .index = index, .wanted = 1};
+    struct lens least = least_of_run(&name, c.wanted);
+    expect_run(&c, &least, HARPTIMBER_DATA);
+    if (c.run.answer != HARPTIMBER_DATA)
+        return;
+    plant(&c, which, c.run.node_count, c.run.block_count);
+    expect_noticed(which, make_run, &c);
+}
+
 /* A pull that is told more than there is of one slice. */
 static void run_plant(const char *which, struct slice name, uint32_t index)
 {
@@ -533,20 +661,7 @@ static void run_plant(const char *which, struct slice name, uint32_t index)
         run_plant_keep(which, &c);
         return;
     }
-    struct {
-        struct slice *slice;
-        const char *name;
-        size_t len;
-    } plants[] = {
-        {&c.name, "name", name.len - 1},
-        {&c.block, "block", BLOCK_SIZE - 1},
-        {&c.nodes, "nodes", 4 * c.pulled.node_count - 1},
-        {&c.blocks, "blocks", 4 * c.pulled.block_count - 1},
-        {&c.image, "image", BLOCK_SIZE * last_block(&c)},
-    };
-    for (size_t i = 0; i < COUNT_OF(plants); i++)
-        if (strcmp(which, plants[i].name) == 0)
-            *plants[i].slice = shorter(plants[i].slice, plants[i].len);
+    plant(&c, which, c.pulled.node_count, c.pulled.block_count);
     expect_noticed(which, make_pull, &c);
 }
 
@@ -660,6 +775,8 @@ static void run_with_bytes(const struct line *line, const char *command)
         run_cut(place(line, 1), s, number(line, 3), number(line, 4));
     else if (strcmp(command, "plant") == 0)
         run_plant(line->words[1], s, number(line, 3));
+    else if (strcmp(command, "plant_run") == 0)
+        run_plant_run(line->words[1], s, number(line, 3));
     else
         give_up("a line of the script has an unknown command");
     give_back(&s);
@@ -867,6 +984,20 @@ static void test_keep_nulls(struct call *c)
     give_back(&c->file);
 }
 
+/* The same for a run. */
+static void test_run_nulls(const struct call *pull)
+{
+    struct call c = {.image = pull->image, .name = pull->name, .wanted = 1};
+    struct lens least = least_of_run(&c.name, c.wanted);
+    lend_room(&c, &least);
+    struct slice *slices[] = {&c.image, &c.name, &c.block, &c.nodes, &c.blocks};
+    for (size_t i = 0; i < COUNT_OF(slices); i++)
+        expect_null("run", make_run, &c, slices[i], &c.run.answer, HARPTIMBER_OUT_OF_SHAPE);
+    c.wanted = 0;
+    expect_null("run", make_run, &c, &c.block, &c.run.answer, HARPTIMBER_OUT_OF_SHAPE);
+    give_room_back(&c);
+}
+
 /* No bytes at null, for each slice of each call. Cards that open have such lists too, in a script's pulls. */
 static void test_nulls(void)
 {
@@ -879,6 +1010,7 @@ static void test_nulls(void)
     struct slice *pulled[] = {&c.image, &c.name, &c.block, &c.nodes, &c.blocks};
     for (size_t i = 0; i < COUNT_OF(pulled); i++)
         expect_null("pull", make_pull, &c, pulled[i], &c.pulled.answer, HARPTIMBER_OUT_OF_SHAPE);
+    test_run_nulls(&c);
     struct slice *images[] = {&c.image, &c.fresh}, *lists[] = {&c.nodes, &c.blocks};
     for (size_t i = 0; i < 2; i++) {
         expect_null("compare", make_compare, &c, images[i], &c.compared.answer, HARPTIMBER_OUT_OF_SHAPE);

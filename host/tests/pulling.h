@@ -1,4 +1,4 @@
-/* Pulls from the small card, with every lent byte looked at, and compares by the lists that they leave. */
+/* Pulls from the small card, with every lent byte looked at, and compares by the lists that pulls leave. */
 #ifndef PULLING_H
 #define PULLING_H
 
@@ -53,14 +53,21 @@ static inline int buffer_is(uint32_t answer, uint32_t count)
     return memcmp(block, block_at(FILE_AT) + CONTENTS, count) == 0 && all_are(block + count, sizeof block - count, 0);
 }
 
-/* A compare by the lists of the last pull, with one byte of the new card changed. */
-static inline void expect_compared(uint32_t address, size_t at, uint32_t answer)
+/* Lists, and how many numbers were written to them. */
+struct left {
+    const uint8_t *nodes, *blocks;
+    size_t nodes_len, blocks_len;
+    uint32_t node_count, block_count;
+};
+
+/* A compare by such lists, with one byte of the new card changed. */
+static inline void expect_compared_by(const struct left *left, uint32_t address, size_t at, uint32_t answer)
 {
     uint8_t *byte = fresh + (size_t)address * BLOCK + at;
     *byte ^= 1;
     struct harptimber_compared compared =
-        harptimber_compare(card, sizeof card, fresh, sizeof fresh, nodes, sizeof nodes, got.node_count, blocks,
-                           sizeof blocks, got.block_count);
+        harptimber_compare(card, sizeof card, fresh, sizeof fresh, left->nodes, left->nodes_len, left->node_count,
+                           left->blocks, left->blocks_len, left->block_count);
     *byte ^= 1;
     uint32_t kind = answer == HARPTIMBER_CHANGED ? HARPTIMBER_BLOCK_DIFFERS : 0;
     uint32_t number = answer == HARPTIMBER_CHANGED ? address : 0;
@@ -68,6 +75,13 @@ static inline void expect_compared(uint32_t address, size_t at, uint32_t answer)
         printf("FAILED compare with byte %zu of block %" PRIu32 " changed: answer %" PRIu32 ", kind %" PRIu32
                ", number %" PRIu32 "; expected %" PRIu32 "\n",
                at, address, compared.answer, compared.kind, compared.number, answer);
+}
+
+/* By those of the last pull. */
+static inline void expect_compared(uint32_t address, size_t at, uint32_t answer)
+{
+    struct left left = {nodes, blocks, sizeof nodes, sizeof blocks, got.node_count, got.block_count};
+    expect_compared_by(&left, address, at, answer);
 }
 
 #endif

@@ -33,8 +33,9 @@ enum { CONTENTS = 364 };
 /* Two inodes, where they are, and where the root directory has entries if they aren't inline. */
 enum { ROOT = 3, FILE_NUMBER = 7, ROOT_AT = MAIN + 5, ENTRIES_AT = MAIN + 9, FILE_AT = CARD_BLOCKS - 1 };
 
-/* The file's name. */
+/* The file's name, and its bytes where it matters little how many they are. */
 static const char road[] = "road.bin";
+enum { SIZE = 100 };
 
 static uint8_t card[CARD_BLOCKS * BLOCK];
 

@@ -17,6 +17,7 @@ mod inode;
 pub mod slots;
 mod walk;
 pub mod pull;
+pub mod run;
 pub mod compare;
 pub mod segments;
 pub mod keep;

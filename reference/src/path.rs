@@ -12,6 +12,13 @@ pub struct Rooms {
     pub blocks: usize,
 }
 
+impl Rooms {
+    /// Whether two lists lent as bytes have them: "four bytes a number (a remainder isn't used)".
+    pub fn are_in(&self, nodes: &[u8], blocks: &[u8]) -> bool {
+        nodes.len() / 4 >= self.nodes && blocks.len() / 4 >= self.blocks
+    }
+}
+
 /// The rooms for eight names, which are enough for every path: 1,404 and 1,869.
 pub const MOST_ROOMS: Rooms = rooms(MOST_NAMES);
 

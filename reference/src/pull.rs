@@ -68,11 +68,9 @@ struct Memory<'m> {
 }
 
 impl Memory<'_> {
-    /// "a block buffer of exactly 4,096 bytes", and of the lists "a remainder isn't used".
+    /// "a block buffer of exactly 4,096 bytes", and the rooms of the lists.
     fn in_shape(&self, rooms: Rooms) -> bool {
-        self.block.len() == BLOCK_SIZE
-            && self.nodes.len() / 4 >= rooms.nodes
-            && self.blocks.len() / 4 >= rooms.blocks
+        self.block.len() == BLOCK_SIZE && rooms.are_in(self.nodes, self.blocks)
     }
 
     /// "Pull checks 4, 5, 6, 7, 8 in that order", then goes on the walk.
@@ -123,7 +121,7 @@ pub(crate) fn hand_out(found: &Result<Found, u32>, block: &mut [u8]) -> (u32, u3
 
 /// "Written": "the first entries, as many as the count, rising, each once; later entries
 /// untouched"
-fn write_list(list: &mut [u8], numbers: &BTreeSet<u32>) {
+pub(crate) fn write_list(list: &mut [u8], numbers: &BTreeSet<u32>) {
     for (entry, number) in list.chunks_exact_mut(4).zip(numbers) {
         entry.copy_from_slice(&number.to_le_bytes());
     }
@@ -132,11 +130,12 @@ fn write_list(list: &mut [u8], numbers: &BTreeSet<u32>) {
 #[cfg(test)]
 mod tests {
     use super::*;
-    use crate::bytes::le32;
     use crate::hash::raw_hash;
     use crate::path::MOST_ROOMS;
     use crate::place::{directory_place, Place, ADDRESSES};
-    use crate::sample::{directory, path, Sample, DAMAGE, FIRST_PACK, NAME};
+    use crate::sample::{
+        directory, numbers, path, with_directories, Lent, Sample, DAMAGE, FIRST_PACK, NAME,
+    };
     use crate::slots::{scan, scan_inline};
 
     const DATA: usize = 4200;
@@ -146,47 +145,23 @@ mod tests {
         Sample::with_path(1, size)
     }
 
-    struct Lent {
-        block: Vec<u8>,
-        nodes: Vec<u8>,
-        blocks: Vec<u8>,
-    }
-
     impl Lent {
         fn new() -> Lent {
             Lent::with(ROOMS_OF_ONE_NAME)
         }
 
         fn with(rooms: Rooms) -> Lent {
-            Lent {
-                block: vec![0xAA; 4096],
-                nodes: vec![0xAA; 4 * rooms.nodes],
-                blocks: vec![0xAA; 4 * rooms.blocks],
-            }
-        }
-
-        fn pull(&mut self, sample: &Sample, path: &[u8], index: u32) -> Pulled {
-            let Lent { block, nodes, blocks } = self;
-            pull(&sample.bytes, path, index, block, nodes, blocks)
+            Lent::with_buffer(4096, rooms)
         }
 
         fn pull_in_root(&mut self, sample: &Sample, name: &[u8], index: u32) -> Pulled {
-            let Lent { block, nodes, blocks } = self;
-            pull_in_root(&sample.bytes, name, index, block, nodes, blocks)
-        }
-
-        fn is_untouched(&self) -> bool {
-            self.block.iter().chain(&self.nodes).chain(&self.blocks).all(|&byte| byte == 0xAA)
+            let Lent { buffer, nodes, blocks } = self;
+            pull_in_root(&sample.bytes, name, index, buffer, nodes, blocks)
         }
     }
 
     fn answer(sample: &Sample, name: &[u8], index: u32) -> Pulled {
         Lent::new().pull(sample, name, index)
-    }
-
-    fn numbers(list: &[u8], count: u32) -> Vec<u32> {
-        assert!(list[count as usize * 4..].iter().all(|&byte| byte == 0xAA));
-        list.chunks_exact(4).take(count as usize).map(|entry| le32(entry, 0)).collect()
     }
 
     #[test]
@@ -197,14 +172,14 @@ mod tests {
         let mut lent = Lent::new();
         let pulled = lent.pull(&sample, NAME, 1);
         assert_eq!(pulled, Pulled { answer: 0, byte_count: 1, node_count: 2, block_count: 4 });
-        assert_eq!(lent.block[0], 9);
-        assert!(lent.block[1..].iter().all(|&byte| byte == 0));
+        assert_eq!(lent.buffer[0], 9);
+        assert!(lent.buffer[1..].iter().all(|&byte| byte == 0));
         assert_eq!(numbers(&lent.nodes, 2), [3, 7]);
         assert_eq!(numbers(&lent.blocks, 4), [4096, 4097, 4098, DATA as u32]);
         let mut lent = Lent::new();
         let pulled = lent.pull(&sample, NAME, 2);
         assert_eq!(pulled, Pulled { answer: 3, byte_count: 0, node_count: 2, block_count: 3 });
-        assert!(lent.block.iter().all(|&byte| byte == 0xAA));
+        assert!(lent.buffer.iter().all(|&byte| byte == 0xAA));
     }
 
     #[test]
@@ -213,7 +188,7 @@ mod tests {
         let mut lent = Lent::new();
         let hole = Pulled { answer: 1, byte_count: 4096, node_count: 2, block_count: 3 };
         assert_eq!(lent.pull(&sample, NAME, 0), hole);
-        assert!(lent.block.iter().all(|&byte| byte == 0));
+        assert!(lent.buffer.iter().all(|&byte| byte == 0));
         sample.put32(4098, 360, u32::MAX);
         assert_eq!(answer(&sample, NAME, 0), hole);
         sample.put32(4098, 360, 4095);
@@ -291,7 +266,7 @@ mod tests {
         let pulled = lent.pull(sample, NAME, index);
         let nodes = numbers(&lent.nodes, pulled.node_count);
         let blocks = numbers(&lent.blocks, pulled.block_count);
-        ([pulled.answer, pulled.byte_count], nodes, blocks, lent.block)
+        ([pulled.answer, pulled.byte_count], nodes, blocks, lent.buffer)
     }
 
     /// "With 50 words kept for attributes that is 3,488 bytes, without them 3,688"; "A size above
@@ -420,7 +395,7 @@ mod tests {
                 assert_eq!(pulled, expected, "level {level} depth {depth} size {size}");
                 assert_eq!(numbers(&lent.nodes, 1), [3]);
                 assert_eq!(numbers(&lent.blocks, 1), [4096]);
-                assert!(lent.block.iter().all(|&byte| byte == 0xAA));
+                assert!(lent.buffer.iter().all(|&byte| byte == 0xAA));
             }
         }
     }
@@ -654,9 +629,9 @@ mod tests {
         lent.nodes.truncate(715);
         assert_eq!(lent.pull(&sample, NAME, 0), refused(4));
         let mut lent = Lent::new();
-        lent.block.push(0xAA);
+        lent.buffer.push(0xAA);
         assert_eq!(lent.pull(&sample, NAME, 0), refused(4));
-        lent.block.truncate(4095);
+        lent.buffer.truncate(4095);
         assert_eq!(lent.pull(&sample, NAME, 0), refused(4));
         assert!(lent.is_untouched());
     }
@@ -754,22 +729,15 @@ mod tests {
             let mut lent = Lent::with(rooms(k));
             let pulled = lent.pull(&sample, &path(k), 1);
             assert_eq!((pulled.answer, pulled.byte_count), (0, 1), "{k} names");
-            assert_eq!(lent.block[0], 9);
-            assert!(lent.block[1..].iter().all(|&byte| byte == 0));
-            let mut nodes = vec![7];
-            let mut blocks = vec![4098, DATA as u32];
-            for (number, block) in (0..k).map(directory) {
-                nodes.push(number);
-                blocks.extend([block as u32, block as u32 + 1]);
-            }
-            nodes.sort();
-            blocks.sort();
+            assert_eq!(lent.buffer[0], 9);
+            assert!(lent.buffer[1..].iter().all(|&byte| byte == 0));
+            let (nodes, blocks) = with_directories(k, &[7], &[4098, DATA as u32]);
             assert_eq!(numbers(&lent.nodes, pulled.node_count), nodes);
             assert_eq!(numbers(&lent.blocks, pulled.block_count), blocks);
             let mut lent = Lent::with(rooms(k));
             let past = lent.pull(&sample, &path(k), 2);
             assert_eq!((past.answer, past.byte_count, past.node_count), (3, 0, k as u32 + 1));
-            assert!(lent.block.iter().all(|&byte| byte == 0xAA));
+            assert!(lent.buffer.iter().all(|&byte| byte == 0xAA));
         }
     }
 
@@ -812,7 +780,7 @@ mod tests {
                     now.nodes.truncate(716 - less);
                     let pulled = before.pull_in_root(&sample, name, index);
                     assert_eq!(now.pull(&sample, name, index), pulled, "{name:?}");
-                    assert_eq!(now.block, before.block);
+                    assert_eq!(now.buffer, before.buffer);
                     assert_eq!((now.nodes, now.blocks), (before.nodes, before.blocks));
                 }
             }

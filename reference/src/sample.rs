@@ -1,9 +1,12 @@
 //! A small volume for the tests, laid out as the tour's 100 MB one: checkpoint at 512, SIT at
 //! 1536, NAT at 2560, SSA at 3584, main at 4096, but with one main segment.
 
+use crate::bytes::le32;
 use crate::checksum::checksum;
 use crate::hash::raw_hash;
+use crate::path::Rooms;
 use crate::place::Way;
+use crate::pull::{pull, Pulled};
 
 pub const FIRST_PACK: usize = 512;
 pub const SECOND_PACK: usize = 1024;
@@ -20,6 +23,18 @@ pub fn directory(depth: usize) -> (u32, usize) {
     } else {
         (40 - depth as u32, 4300 - 2 * depth)
     }
+}
+
+/// These nodes and blocks and those of the first `count` directories, both rising.
+pub fn with_directories(count: usize, nodes: &[u32], blocks: &[u32]) -> (Vec<u32>, Vec<u32>) {
+    let (mut nodes, mut blocks) = (nodes.to_vec(), blocks.to_vec());
+    for (number, block) in (0..count).map(directory) {
+        nodes.push(number);
+        blocks.extend([block as u32, block as u32 + 1]);
+    }
+    nodes.sort();
+    blocks.sort();
+    (nodes, blocks)
 }
 
 /// `k` names: folders, then the file.
@@ -173,17 +188,28 @@ impl Sample {
         self.put64(address as usize, 16, size);
     }
 
-    /// Puts one block below the inode of a directory; the nodes on the way are 20 to 22, at 4300 to
-    /// 4302.
+    /// Puts one block below an inode. The nodes on the way that aren't there yet get the next free
+    /// numbers from 20 on, and their blocks from 4300 on.
     pub fn put_block_of(&mut self, (inode, at): (u32, usize), way: &Way, address: u32) {
         let (mut node, mut numbers, mut addresses) = (at, 4052, 360);
-        for (number, steps) in (20..).zip(way.steps().windows(2)) {
-            self.put32(node, numbers + 4 * steps[0].slot as usize, number);
+        for steps in way.steps().windows(2) {
+            let at = numbers + 4 * steps[0].slot as usize;
+            let number = match le32(&self.bytes, node * 4096 + at) {
+                0 => self.free_number(),
+                number => number,
+            };
+            self.put32(node, at, number);
             self.put_node(number, inode, steps[1].place, 4280 + number);
             (node, numbers, addresses) = (4280 + number as usize, 0, 0);
         }
         let slot = way.steps().last().unwrap().slot as usize;
         self.put32(node, addresses + 4 * slot, address);
+    }
+
+    /// The lowest number from 20 on without an address in the table.
+    fn free_number(&self) -> u32 {
+        let is_free = |number: &u32| le32(&self.bytes, NAT * 4096 + *number as usize * 9 + 5) == 0;
+        (20..).find(is_free).unwrap()
     }
 
     /// The directory with this level and depth, and without its first block.
@@ -227,6 +253,38 @@ impl Sample {
         self.put16(block, entry + 8, name.len() as u16);
         self.put(block, names + 8 * slot, name);
     }
+}
+
+/// What is lent to a pull or a run, each byte AA hex.
+pub struct Lent {
+    pub buffer: Vec<u8>,
+    pub nodes: Vec<u8>,
+    pub blocks: Vec<u8>,
+}
+
+impl Lent {
+    pub fn with_buffer(length: usize, rooms: Rooms) -> Lent {
+        Lent {
+            buffer: vec![0xAA; length],
+            nodes: vec![0xAA; 4 * rooms.nodes],
+            blocks: vec![0xAA; 4 * rooms.blocks],
+        }
+    }
+
+    pub fn pull(&mut self, sample: &Sample, path: &[u8], index: u32) -> Pulled {
+        let Lent { buffer, nodes, blocks } = self;
+        pull(&sample.bytes, path, index, buffer, nodes, blocks)
+    }
+
+    pub fn is_untouched(&self) -> bool {
+        self.buffer.iter().chain(&self.nodes).chain(&self.blocks).all(|&byte| byte == 0xAA)
+    }
+}
+
+/// The numbers of a lent list up to its count; the bytes behind them are untouched.
+pub fn numbers(list: &[u8], count: u32) -> Vec<u32> {
+    assert!(list[count as usize * 4..].iter().all(|&byte| byte == 0xAA));
+    list.chunks_exact(4).take(count as usize).map(|entry| le32(entry, 0)).collect()
 }
 
 /// Ways to damage an unmounted pack of 8 blocks, which still passes: error, needs-check, a number

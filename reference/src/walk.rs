@@ -215,7 +215,7 @@ mod tests {
     use crate::open::open;
     use crate::path::names;
     use crate::place::ADDRESSES;
-    use crate::sample::{directory, path, Sample, NAME};
+    use crate::sample::{directory, path, with_directories, Sample, NAME};
 
     /// The root with this directory level and depth, and no blocks in it.
     fn leveled(level: u8, depth: u32) -> Sample {
@@ -303,19 +303,10 @@ mod tests {
         (answer, walk.nodes.into_iter().collect(), walk.blocks.into_iter().collect())
     }
 
-    fn rising(mut numbers: Vec<u32>) -> Vec<u32> {
-        numbers.sort();
-        numbers
-    }
-
     /// With so many directories read whole, and these nodes and blocks besides.
     fn after(directories: usize, answer: u32, nodes: &[u32], blocks: &[u32]) -> Walked {
-        let (mut all_nodes, mut all_blocks) = (nodes.to_vec(), blocks.to_vec());
-        for (number, block) in (0..directories).map(directory) {
-            all_nodes.push(number);
-            all_blocks.extend([block as u32, block as u32 + 1]);
-        }
-        (answer, rising(all_nodes), rising(all_blocks))
+        let (nodes, blocks) = with_directories(directories, nodes, blocks);
+        (answer, nodes, blocks)
     }
 
     /// Every directory of every path of one to eight names: how many names, and its depth.

@@ -1,7 +1,7 @@
 //! Safe wrappers over the archive's C functions. `bench/before` has them a second time, over an earlier archive whose
 //! functions are called earlier_* there.
 
-use super::{Compared, Entry, Hashed, KeepFields, Kept, Place, Pulled, Segments};
+use super::{Compared, Entry, Hashed, KeepFields, Kept, Place, Pulled, Run, Segments};
 
 #[cfg_attr(not(feature = "before"), link(name = "harptimber", kind = "static"))]
 #[cfg_attr(feature = "before", link(name = "earlier", kind = "static"))]
@@ -26,6 +26,21 @@ extern "C" {
         blocks: *mut u8,
         blocks_len: usize,
     ) -> Pulled;
+    #[cfg_attr(feature = "before", link_name = "earlier_pull_run")]
+    fn harptimber_pull_run(
+        image: *const u8,
+        image_len: usize,
+        path: *const u8,
+        path_len: usize,
+        index: u32,
+        blocks_wanted: u32,
+        buffer: *mut u8,
+        buffer_len: usize,
+        nodes: *mut u8,
+        nodes_len: usize,
+        blocks: *mut u8,
+        blocks_len: usize,
+    ) -> Run;
     #[cfg_attr(feature = "before", link_name = "earlier_compare")]
     fn harptimber_compare(
         kept: *const u8,
@@ -101,6 +116,34 @@ pub fn pull(
             index,
             block.as_mut_ptr(),
             block.len(),
+            nodes.as_mut_ptr(),
+            nodes.len(),
+            blocks.as_mut_ptr(),
+            blocks.len(),
+        )
+    }
+}
+
+pub fn pull_run(
+    image: &[u8],
+    path: &[u8],
+    index: u32,
+    blocks_wanted: u32,
+    buffer: &mut [u8],
+    nodes: &mut [u8],
+    blocks: &mut [u8],
+) -> Run {
+    // SAFETY: as for a pull.
+    unsafe {
+        harptimber_pull_run(
+            image.as_ptr(),
+            image.len(),
+            path.as_ptr(),
+            path.len(),
+            index,
+            blocks_wanted,
+            buffer.as_mut_ptr(),
+            buffer.len(),
             nodes.as_mut_ptr(),
             nodes.len(),
             blocks.as_mut_ptr(),

@@ -57,6 +57,18 @@ pub struct Pulled {
     pub block_count: u32,
 }
 
+/// The result of `pull_run`.
+#[repr(C)]
+#[derive(Clone, Copy, Debug, Default, PartialEq, Eq)]
+pub struct Run {
+    pub answer: u32,
+    /// How many blocks stand in the buffer.
+    pub count: u32,
+    pub byte_count: u32,
+    pub node_count: u32,
+    pub block_count: u32,
+}
+
 /// The result of `compare` and of `keep_compare`.
 #[repr(C)]
 #[derive(Clone, Copy, Debug, Default, PartialEq, Eq)]

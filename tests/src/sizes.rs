@@ -21,6 +21,22 @@ pub const fn blocks_most(names: u32) -> u32 {
     233 * names + 5
 }
 
+/// The most blocks of a run.
+pub const RUN_MOST: u32 = 512;
+/// The most node numbers and blocks that a run of any path lists.
+pub const RUN_NODES_MOST: u32 = run_nodes_most(NAMES_MOST);
+pub const RUN_BLOCKS_MOST: u32 = run_blocks_most(NAMES_MOST);
+
+/// The most node numbers that a run of so many names lists.
+pub const fn run_nodes_most(names: u32) -> u32 {
+    175 * names + 6
+}
+
+/// The most blocks.
+pub const fn run_blocks_most(names: u32) -> u32 {
+    233 * names + 518
+}
+
 /// The bytes of a keep file whose path has so many bytes, and whose pull listed so many nodes and blocks.
 pub const fn keep_length(path_len: u32, nodes: u32, blocks: u32) -> u32 {
     4140 + path_len + 16 * nodes + 4100 * blocks

@@ -12,6 +12,8 @@ use Rattle.list.specs.Lists.{Listed}
 use Rattle.nat.specs.Lookup.{lookupOf}
 use Rattle.pull.specs.Pull.{Lent, callInShape, refusedPull, pulled}
 use Rattle.pull.proofs.Results.{call-refused}
+use Rattle.pull_run.specs.Run.{runCallInShape, refusedRun, runPulled}
+use Rattle.pull_run.proofs.Results.{run-refused}
 use Rattle.compare.specs.Compare.{refused, compared}
 use Rattle.compare.proofs.Openings.{shape-refused}
 use Rattle.segment_report.specs.Report.{refusedReport, segmentReport}
@@ -31,6 +33,10 @@ module _ (image : List ℕ) (out : inShape (length image) ≡ false) where
   pub pull-out-of-shape : (path : List ℕ) (index : ℕ) (lent : Lent) → pulled image path index lent ≡ refusedPull 4 lent
   unfolding callInShape
   pull-out-of-shape path index lent = call-refused image path index lent (rw out)
+
+  pub run-out-of-shape : (path : List ℕ) (index wanted : ℕ) (lent : Lent) → runPulled image path index wanted lent ≡ refusedRun 4 lent
+  unfolding runCallInShape
+  run-out-of-shape path index wanted lent = run-refused image path index wanted lent (rw out)
 
   pub kept-out-of-shape : (fresh : List ℕ) (nodes blocks : Listed) → compared image fresh nodes blocks ≡ refused 4 0
   kept-out-of-shape fresh nodes blocks = shape-refused image fresh nodes blocks (rw out)

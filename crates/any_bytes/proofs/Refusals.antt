@@ -14,6 +14,8 @@ use Rattle.list.specs.Lists.{Listed}
 use Rattle.nat.specs.Lookup.{lookupOf}
 use Rattle.pull.specs.Pull.{Lent, callInShape, refusedPull, pulled}
 use Rattle.pull.proofs.Results.{call-opens}
+use Rattle.pull_run.specs.Run.{runCallInShape, refusedRun, runPulled}
+use Rattle.pull_run.proofs.Results.{run-opens}
 use Rattle.compare.specs.Compare.{refused, compared}
 use Rattle.compare.proofs.Openings as openings
 use Rattle.sit.proofs.Openings.{still-refused}
@@ -35,6 +37,10 @@ module _ (image : List ℕ) (n : ℕ) (refuses : openedImage image ≡ Refused n
 
   pub pull-refused : (path : List ℕ) (index : ℕ) (lent : Lent) → callInShape image path lent ≡ true → pulled image path index lent ≡ refusedPull n lent
   pull-refused path index lent shaped = call-opens image path index lent (Refused n) shaped refuses
+
+  pub run-refused : (path : List ℕ) (index wanted : ℕ) (lent : Lent) → runCallInShape image path wanted lent ≡ true
+      → runPulled image path index wanted lent ≡ refusedRun n lent
+  run-refused path index wanted lent shaped = run-opens image path index wanted lent (Refused n) shaped refuses
 
   pub report-refused : (list : List ℕ) → segmentReport image list ≡ refusedReport n list
   report-refused list = refused-by-opening image list n (still-refused image n refuses)

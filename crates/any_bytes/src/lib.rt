@@ -25,6 +25,18 @@ pub fn pull(
     harptimber::harptimber_pull(image, path, index, block, nodes, blocks)
 }
 
+pub fn pull_run(
+    image: &[u8],
+    path: &[u8],
+    index: u32,
+    wanted: u32,
+    buffer: &mut [u8],
+    nodes: &mut [u8],
+    blocks: &mut [u8],
+) -> pull_run::Run {
+    harptimber::harptimber_pull_run(image, path, index, wanted, buffer, nodes, blocks)
+}
+
 pub fn compare(
     kept: &[u8],
     fresh: &[u8],

@@ -4,6 +4,7 @@ ghost use mathlib.Core.Path.{_≡_};
 ghost use Rattle.name_hash.specs.Answer.{hashed};
 ghost use Rattle.nat.specs.Lookup.{tableNumbers, lookupOf};
 ghost use Rattle.pull.specs.Pull.{lending, result, pulled};
+ghost use Rattle.pull_run.specs.Run.{runResult, runPulled};
 ghost use Rattle.list.specs.Lists.{listing};
 ghost use Rattle.compare.specs.Compare.{compared};
 ghost use Rattle.segment_report.specs.Report.{reported, segmentReport};
@@ -132,6 +133,23 @@ pub extern "C" fn harptimber_pull(
         ≡ pulled (now (image .entry)) (now (path .entry)) index (lending (now (block .entry)) (now (nodes .entry)) (now (blocks .entry))) ⌝ }
 {
     pull::pull(image, path, index, block, nodes, blocks)
+}
+
+#[no_mangle]
+pub extern "C" fn harptimber_pull_run(
+    image: &[u8],
+    path: &[u8],
+    index: u32,
+    wanted: u32,
+    buffer: &mut [u8],
+    nodes: &mut [u8],
+    blocks: &mut [u8],
+) -> pull_run::Run
+    ensures { λ r. ⌜ runResult r (lending (now (buffer .exit)) (now (nodes .exit)) (now (blocks .exit)))
+        ≡ runPulled (now (image .entry)) (now (path .entry)) index wanted
+        (lending (now (buffer .entry)) (now (nodes .entry)) (now (blocks .entry))) ⌝ }
+{
+    pull_run::pull_run(image, path, index, wanted, buffer, nodes, blocks)
 }
 
 #[no_mangle]

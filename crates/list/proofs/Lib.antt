@@ -4,3 +4,4 @@ pub mod Entries
 pub mod Written
 pub mod Searching
 pub mod Columns
+pub mod Members

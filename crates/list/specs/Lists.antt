@@ -15,6 +15,11 @@ unfoldable pub insert : ℕ → List ℕ → List ℕ
 insert x [] = x ∷ []
 insert x (y ∷ ys) = choose (ltb x y) (x ∷ y ∷ ys) (choose (eqb x y) (y ∷ ys) (y ∷ insert x ys))
 
+-- K14: "the lists are the union": the numbers of both rising lists, each once
+unfoldable pub union : List ℕ → List ℕ → List ℕ
+union [] b = b
+union (x ∷ a) b = insert x (union a b)
+
 -- P holds of each element
 abbrev pub AllOf : (ℕ → Type 0) → List ℕ → Type 0
 AllOf P [] = Unit {0}

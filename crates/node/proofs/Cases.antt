@@ -1,21 +1,26 @@
--- The trees of a node, of a data block and of the way to it, by cases: no run and no list is named.
+-- The trees of a node, of a data block and of the way to a leaf and on from there, by cases: no run and no list is named.
 use Prim.Native.Nat.{ℕ, _+_, _*_}
 use native.Mathlib.Omega.{arith}
-use mathlib.Core.Path.{_≡_, refl, _∙_}
+use mathlib.Core.Path.{_≡_, refl, sym, ap, _∙_}
 use mathlib.Core.Bool.{true, false}
 use mathlib.Core.List.{List, [], _∷_}
 use lib.ListN.{length, drop}
 use borrow.Author.Tests.{eq-eqb, ne-eqb}
 use Rattle.field.specs.Number.{le32}
+use Rattle.field.specs.Card.{Card}
 use Rattle.place.specs.declared.Step.{Step}
 use Rattle.place.specs.declared.Way.{Way}
 use Rattle.place.specs.Place.{placeOf}
 use Rattle.place.specs.Way.{wayOf, inArray}
 use Rattle.place.proofs.Ways.{stepsOf, slotAt, way-steps}
 use Rattle.nat.specs.declared.TableAnswer.the-variants.{OutOfRange, Entry}
-use Rattle.walk.specs.Walk.{done, look, read, ok, stop, andThen}
+use Rattle.walk.specs.Walk.{done, look, read, ok, stop, onward, andThen}
+use Rattle.node.specs.declared.Data.{Data}
+use Rattle.node.specs.declared.Data.the-variants as d
 use Rattle.node.specs.Node.{Bounds, inMain, belongs, atBlock, atEntry, nodeWalk}
-use Rattle.node.specs.Block.{hole, isHole, holding, dataWalk, followWalk, wayWalk, blockWalk}
+use Rattle.node.specs.Block.{hole, held, isHole, holding, dataWalk}
+use Rattle.node.specs.Leaf.{leafFrom, leafAlong, leafWalk, atLeaf}
+use Rattle.node.specs.Found.{dataOf}
 
 -- ---- a node
 module _ (m : Bounds) (number ino place : ℕ) where
@@ -64,53 +69,56 @@ module _ (m : Bounds) (address : ℕ) where
   unfolding dataWalk
   data-inside h i = rw (h, i)
 
--- ---- the way to it
-module _ (m : Bounds) (ino number : ℕ) where
-  pub follow-end : followWalk m ino [] number ≡ dataWalk m number
-  unfolding followWalk
-  follow-end = refl
+-- ---- the way to a leaf
+module _ (m : Bounds) (ino : ℕ) (block : List ℕ) (at : ℕ) where
+  pub leaf-end : leafFrom m ino [] block at ≡ done (ok (held block))
+  unfolding leafFrom
+  leaf-end = refl
 
-  module _ (s : Step) (way : List Step) where
-    pub follow-hole : number ≡ 0 → followWalk m ino (s ∷ way) number ≡ done (ok hole)
-    unfolding followWalk
-    follow-hole z = rw (eq-eqb number 0 z)
+  -- by the number that stands there
+  module _ (s : Step) (way : List Step) {number : ℕ} (e : number ≡ le32 block at) where
+    pub leaf-hole : number ≡ 0 → leafFrom m ino (s ∷ way) block at ≡ done (ok hole)
+    unfolding leafFrom
+    leaf-hole z = rw (← e, eq-eqb number 0 z)
 
-    pub follow-node : (number ≡ 0 → ⊥)
-        → followWalk m ino (s ∷ way) number ≡ andThen (nodeWalk m number ino (s .number)) (λ block. followWalk m ino way (le32 block (4 * s .slot)))
-    unfolding followWalk
-    follow-node z = rw (ne-eqb number 0 z)
+    pub leaf-node : (number ≡ 0 → ⊥)
+        → leafFrom m ino (s ∷ way) block at ≡ andThen (nodeWalk m number ino (s .number)) (λ next. leafFrom m ino way next (4 * s .slot))
+    unfolding leafFrom
+    leaf-node z = rw (← e, ne-eqb number 0 z)
 
 -- ---- from the inode, by how long the way is
 module _ (m : Bounds) (ino : ℕ) (inode : List ℕ) where
-  way-none : (way : List Step) → length way ≡ 0 → wayWalk m ino inode way ≡ done (ok hole)
-  unfolding wayWalk
-  way-none [] l = refl
-  way-none (s ∷ way) l = absurd (omega arith)
+  along-none : (way : List Step) → length way ≡ 0 → leafAlong m ino inode way ≡ done (ok hole)
+  unfolding leafAlong
+  along-none [] l = refl
+  along-none (s ∷ way) l = absurd (omega arith)
 
-  way-address : (way : List Step) → length way ≡ 1 → wayWalk m ino inode way ≡ dataWalk m (le32 inode (360 + 4 * slotAt (inArray way) 0))
-  unfolding wayWalk
-  way-address [] l = absurd (omega arith)
-  way-address (s ∷ []) l = refl
-  way-address (s ∷ t ∷ way) l = absurd (omega arith)
-
-  way-number : (way : List Step) → (length way ≡ 0 → ⊥) → (length way ≡ 1 → ⊥)
-      → wayWalk m ino inode way ≡ followWalk m ino (drop 1 way) (le32 inode (4052 + 4 * slotAt (inArray way) 0))
-  unfolding wayWalk
-  way-number [] n o = absurd (n refl)
-  way-number (s ∷ []) n o = absurd (o refl)
-  way-number (s ∷ t ∷ way) n o = refl
+  along-nodes : (way : List Step) → (length way ≡ 0 → ⊥)
+      → leafAlong m ino inode way ≡ leafFrom m ino (drop 1 way) inode (4052 + 4 * slotAt (inArray way) 0)
+  unfolding leafAlong
+  along-nodes [] n = absurd (n refl)
+  along-nodes (s ∷ way) n = refl
 
   -- the same of the way that the code found
   module _ (A index : ℕ) {w : Way} (e : w ≡ inArray (wayOf (placeOf A index))) where
-    pub fetch-none : w .count ≡ 0 → blockWalk m ino inode A index ≡ done (ok hole)
-    unfolding blockWalk
-    fetch-none l = way-none _ (rw e at l)
+    pub leaf-none : w .count ≡ 0 → leafWalk m ino inode (placeOf A index) ≡ done (ok hole)
+    leaf-none l = along-none _ (rw e at l)
 
-    pub fetch-address : {n : ℕ} → w .count ≡ 1 → n ≡ le32 inode (360 + 4 * slotAt w 0) → blockWalk m ino inode A index ≡ dataWalk m n
-    unfolding blockWalk
-    fetch-address l f = way-address _ (rw e at l) ∙ rw (f, e)
+    pub leaf-nodes : (w .count ≡ 0 → ⊥)
+        → leafWalk m ino inode (placeOf A index) ≡ leafFrom m ino (drop 1 (stepsOf w)) inode (4052 + 4 * slotAt w 0)
+    leaf-nodes l = along-nodes _ (rw e at l) ∙ rw (way-steps A index e, e)
 
-    pub fetch-number : {n : ℕ} → (w .count ≡ 0 → ⊥) → (w .count ≡ 1 → ⊥) → n ≡ le32 inode (4052 + 4 * slotAt w 0)
-        → blockWalk m ino inode A index ≡ followWalk m ino (drop 1 (stepsOf w)) n
-    unfolding blockWalk
-    fetch-number l o f = way-number _ (rw e at l) (rw e at o) ∙ rw (f, way-steps A index e, e)
+-- ---- from a leaf, by what the code has of it
+module _ (card : Card) (m : Bounds) (at : ℕ) {leaf : Data} where
+  pub from-hole : leaf ≡ d.Hole → onward (atLeaf m at) (dataOf card leaf) ≡ done (ok hole)
+  unfolding onward
+  from-hole e = ap (λ (x : Data). onward (atLeaf m at) (dataOf card x)) e
+
+  pub from-stop : {answer : ℕ} → leaf ≡ d.Stop answer → onward (atLeaf m at) (dataOf card leaf) ≡ done (stop answer)
+  unfolding onward
+  from-stop e = ap (λ (x : Data). onward (atLeaf m at) (dataOf card x)) e
+
+  pub from-at : {block address : ℕ} → leaf ≡ d.At block → address ≡ le32 (card .block block) at
+      → onward (atLeaf m at) (dataOf card leaf) ≡ dataWalk m address
+  unfolding onward
+  from-at e f = ap (λ (x : Data). onward (atLeaf m at) (dataOf card x)) e ∙ ap (dataWalk m) (sym f)

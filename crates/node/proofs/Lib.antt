@@ -3,3 +3,5 @@ pub mod Sizes
 pub mod Following
 pub mod Listed
 pub mod Whole
+pub mod LeafWalks
+pub mod Keeping

@@ -1,13 +1,17 @@
 // A node of a file, and the data block of an index of a file.
-// What each means is in specs/: Node, Block, Found.
+// What each means is in specs/: Node, Block, Found, Leaf.
 ghost use mathlib.Core.Path.{_≡_};
+ghost use Prim.Native.Nat.{_+_, _≤_};
 ghost use lib.ListN.{length};
 ghost use Rattle.field.specs.Card.{cardOf};
+ghost use Rattle.place.specs.Place.{SlotsIn};
 ghost use Rattle.checkpoint.specs.Volume.{VolumeIn};
-ghost use Rattle.walk.specs.Walk.{imageView, lists, Walked, Fits};
+ghost use Rattle.walk.specs.Walk.{imageView, lists, Walked, Fits, onward};
 ghost use Rattle.node.specs.Node.{boundsOf, inMain, belongs, nodeWalk};
-ghost use Rattle.node.specs.Block.{isHole, dataWalk, followWalk};
+ghost use Rattle.node.specs.Block.{isHole, dataWalk};
 ghost use Rattle.node.specs.Found.{foundOf, FoundIn, dataOf, DataIn, WayIn, afterInode, FileIn, fileBlockWalk};
+ghost use Rattle.node.specs.declared.Data.the-variants as d;
+ghost use Rattle.node.specs.Leaf.{leafFrom, atLeaf, addressAt, addressesEnd, fileLeafWalk, LeafOf, Keeps};
 
 // The block of a node, or the answer that ends the walk.
 pub enum Found {
@@ -30,6 +34,26 @@ pub struct NodeStep {
 
 pub struct DataStep {
     pub data: Data,
+    pub counts: walk::Counts,
+}
+
+// A leaf, the node that holds addresses of a file's blocks, or what is known in its place: a hole, or the answer that ended the walk to it.
+// Where in its bytes the address of an index stands, and where its addresses end.
+pub struct Leaf {
+    pub node: Data,
+    pub at: u32,
+    pub end: u32,
+}
+
+pub struct LeafStep {
+    pub leaf: Leaf,
+    pub counts: walk::Counts,
+}
+
+// The data block of an index, and its leaf, in which the address of the next index stands.
+pub struct KeptStep {
+    pub data: Data,
+    pub leaf: Leaf,
     pub counts: walk::Counts,
 }
 
@@ -162,22 +186,25 @@ fn data_at(
     }
 }
 
-// From the number in the inode through the nodes that follow it on the way, to the data block.
+// From the inode through the nodes that follow it on the way, to the last of them.
 fn follow(
     image: &[u8],
     v: checkpoint::Volume,
     nodes: &mut [u8],
     blocks: &mut [u8],
     counts: walk::Counts,
-    ino: u32,
-    number: u32,
+    file: File,
+    from: u32,
     way: place::Way,
 ) -> DataStep
-    requires { ⌜ Fits (imageView (now image) v) (followWalk (boundsOf v) ino (afterInode way) number)
+    requires { ⌜ Fits (imageView (now image) v)
+        (leafFrom (boundsOf v) (file .ino) (afterInode way) (cardOf (now image) .block (file .inode)) from)
         (lists (now nodes) (now blocks) counts) ⌝ }
     requires { ⌜ VolumeIn (cardOf (now image)) v ⌝ }
-    requires { ⌜ WayIn (way .steps) (way .count) ⌝ }
-    ensures { λ r. ⌜ Walked (imageView (now (image .entry)) v) (followWalk (boundsOf v) ino (afterInode way) number)
+    requires { ⌜ FileIn (cardOf (now image)) file ⌝ }
+    requires { ⌜ WayIn (way .steps) (way .count) × (2 ≤ way .count → from + 4 ≤ 4096) ⌝ }
+    ensures { λ r. ⌜ Walked (imageView (now (image .entry)) v)
+        (leafFrom (boundsOf v) (file .ino) (afterInode way) (cardOf (now (image .entry)) .block (file .inode)) from)
         (lists (now (nodes .entry)) (now (blocks .entry)) counts) (dataOf (cardOf (now (image .entry))) (r .data))
         (lists (now (nodes .exit)) (now (blocks .exit)) (r .counts)) ⌝ }
     ensures { λ r. ⌜ DataIn (cardOf (now (image .entry))) (r .data) ⌝ }
@@ -185,32 +212,243 @@ fn follow(
     let steps = way.steps;
     let count = way.count as usize;
     let mut listed = counts;
-    let mut next = number;
+    let mut node = file.inode;
+    let mut at = from;
     let mut i: usize = 1;
     while i < count {
-        if next == 0 {
+        let number = field::get32(field::block_at(image, node), at as usize);
+        if number == 0 {
             return DataStep {
                 data: Data::Hole,
                 counts: listed,
             };
         }
         let step = steps[i];
-        let came = node_step(image, v, nodes, blocks, listed, next, ino, step.number);
+        let came = node_step(
+            image,
+            v,
+            nodes,
+            blocks,
+            listed,
+            number,
+            file.ino,
+            step.number,
+        );
         listed = came.counts;
         let found = came.found;
-        next = match found {
+        node = match found {
             Found::Stop(answer) => return DataStep {
                 data: Data::Stop(answer),
                 counts: listed,
             },
-            Found::At(address) => field::get32(
-                field::block_at(image, address),
-                4 * (step.slot as usize),
-            ),
+            Found::At(address) => address,
         };
+        at = 4 * step.slot;
         i += 1;
     }
-    data_at(image, v, nodes, blocks, listed, next)
+    DataStep {
+        data: Data::At(node),
+        counts: listed,
+    }
+}
+
+// No leaf: none of its addresses is left.
+pub fn no_leaf() -> Leaf
+    ensures { λ r. ⌜ r ≡ record { node = d.Hole; at = 0; end = 0 } ⌝ }
+{
+    Leaf {
+        node: Data::Hole,
+        at: 0,
+        end: 0,
+    }
+}
+
+// Where in the bytes of its leaf the address of a place stands, and where the leaf's addresses end.
+struct Span {
+    pub at: u32,
+    pub end: u32,
+}
+
+fn address_span(addresses: u32, p: place::Place) -> Span
+    requires { ⌜ SlotsIn addresses p × (addresses ≤ 923) ⌝ }
+    ensures { λ r. ⌜ (r .at ≡ addressAt p) × (r .end ≡ addressesEnd addresses p) ⌝ }
+{
+    match p {
+        place::Place::Inode(s) => Span {
+            at: 360 + 4 * s,
+            end: 360 + 4 * addresses,
+        },
+        place::Place::Direct(_, s) => Span {
+            at: 4 * s,
+            end: 4072,
+        },
+        place::Place::Indirect(_, _, s) => Span {
+            at: 4 * s,
+            end: 4072,
+        },
+        place::Place::Double(_, _, s) => Span {
+            at: 4 * s,
+            end: 4072,
+        },
+        place::Place::Past => Span { at: 0, end: 0 },
+    }
+}
+
+// The leaf of an index of a file.
+fn find_leaf(
+    image: &[u8],
+    v: checkpoint::Volume,
+    nodes: &mut [u8],
+    blocks: &mut [u8],
+    counts: walk::Counts,
+    file: File,
+    index: u32,
+) -> LeafStep
+    requires { ⌜ Fits (imageView (now image) v) (fileLeafWalk (cardOf (now image)) v file index)
+        (lists (now nodes) (now blocks) counts) ⌝ }
+    requires { ⌜ VolumeIn (cardOf (now image)) v ⌝ }
+    requires { ⌜ FileIn (cardOf (now image)) file ⌝ }
+    ensures { λ r. ⌜ Walked (imageView (now (image .entry)) v) (fileLeafWalk (cardOf (now (image .entry))) v file index)
+        (lists (now (nodes .entry)) (now (blocks .entry)) counts) (dataOf (cardOf (now (image .entry))) (r .leaf .node))
+        (lists (now (nodes .exit)) (now (blocks .exit)) (r .counts)) ⌝ }
+    ensures { λ r. ⌜ LeafOf (cardOf (now (image .entry))) v file index (r .leaf)
+        (lists (now (nodes .exit)) (now (blocks .exit)) (r .counts)) ⌝ }
+{
+    let p = place::find_place(file.addresses, index);
+    let span = address_span(file.addresses, p);
+    let way = place::way_to(p);
+    if way.count == 0 {
+        return LeafStep {
+            leaf: no_leaf(),
+            counts,
+        };
+    }
+    let steps = way.steps;
+    let first = steps[0];
+    let step = follow(
+        image,
+        v,
+        nodes,
+        blocks,
+        counts,
+        file,
+        4052 + 4 * first.slot,
+        way,
+    );
+    let node = step.data;
+    let listed = step.counts;
+    LeafStep {
+        leaf: Leaf {
+            node,
+            at: span.at,
+            end: span.end,
+        },
+        counts: listed,
+    }
+}
+
+// The data block whose address stands at an offset of a leaf.
+fn from_leaf(
+    image: &[u8],
+    v: checkpoint::Volume,
+    nodes: &mut [u8],
+    blocks: &mut [u8],
+    counts: walk::Counts,
+    node: Data,
+    at: u32,
+) -> DataStep
+    requires { ⌜ Fits (imageView (now image) v) (onward (atLeaf (boundsOf v) at) (dataOf (cardOf (now image)) node))
+        (lists (now nodes) (now blocks) counts) ⌝ }
+    requires { ⌜ VolumeIn (cardOf (now image)) v ⌝ }
+    requires { ⌜ DataIn (cardOf (now image)) node × (at + 4 ≤ 4096) ⌝ }
+    ensures { λ r. ⌜ Walked (imageView (now (image .entry)) v) (onward (atLeaf (boundsOf v) at) (dataOf (cardOf (now (image .entry))) node))
+        (lists (now (nodes .entry)) (now (blocks .entry)) counts) (dataOf (cardOf (now (image .entry))) (r .data))
+        (lists (now (nodes .exit)) (now (blocks .exit)) (r .counts)) ⌝ }
+    ensures { λ r. ⌜ DataIn (cardOf (now (image .entry))) (r .data) ⌝ }
+{
+    match node {
+        Data::Hole => DataStep {
+            data: Data::Hole,
+            counts,
+        },
+        Data::Stop(answer) => DataStep {
+            data: Data::Stop(answer),
+            counts,
+        },
+        Data::At(block) => {
+            let address = field::get32(field::block_at(image, block), at as usize);
+            data_at(image, v, nodes, blocks, counts, address)
+        }
+    }
+}
+
+// The leaf of an index: the kept one as long as it has an address left, else walked to.
+fn leaf_of(
+    image: &[u8],
+    v: checkpoint::Volume,
+    nodes: &mut [u8],
+    blocks: &mut [u8],
+    counts: walk::Counts,
+    file: File,
+    index: u32,
+    kept: Leaf,
+) -> LeafStep
+    requires { ⌜ Fits (imageView (now image) v) (fileLeafWalk (cardOf (now image)) v file index)
+        (lists (now nodes) (now blocks) counts) ⌝ }
+    requires { ⌜ VolumeIn (cardOf (now image)) v ⌝ }
+    requires { ⌜ FileIn (cardOf (now image)) file ⌝ }
+    requires { ⌜ Keeps (cardOf (now image)) v file index kept (lists (now nodes) (now blocks) counts) ⌝ }
+    ensures { λ r. ⌜ Walked (imageView (now (image .entry)) v) (fileLeafWalk (cardOf (now (image .entry))) v file index)
+        (lists (now (nodes .entry)) (now (blocks .entry)) counts) (dataOf (cardOf (now (image .entry))) (r .leaf .node))
+        (lists (now (nodes .exit)) (now (blocks .exit)) (r .counts)) ⌝ }
+    ensures { λ r. ⌜ LeafOf (cardOf (now (image .entry))) v file index (r .leaf)
+        (lists (now (nodes .exit)) (now (blocks .exit)) (r .counts)) ⌝ }
+{
+    if kept.at < kept.end {
+        return LeafStep { leaf: kept, counts };
+    }
+    find_leaf(image, v, nodes, blocks, counts, file, index)
+}
+
+// The data block of an index of a file, where a leaf is kept. What is kept then is for the next index.
+pub fn next_block(
+    image: &[u8],
+    v: checkpoint::Volume,
+    nodes: &mut [u8],
+    blocks: &mut [u8],
+    counts: walk::Counts,
+    file: File,
+    index: u32,
+    kept: Leaf,
+) -> KeptStep
+    requires { ⌜ Fits (imageView (now image) v) (fileBlockWalk (cardOf (now image)) v file index)
+        (lists (now nodes) (now blocks) counts) ⌝ }
+    requires { ⌜ VolumeIn (cardOf (now image)) v ⌝ }
+    requires { ⌜ FileIn (cardOf (now image)) file ⌝ }
+    requires { ⌜ Keeps (cardOf (now image)) v file index kept (lists (now nodes) (now blocks) counts) ⌝ }
+    ensures { λ r. ⌜ Walked (imageView (now (image .entry)) v) (fileBlockWalk (cardOf (now (image .entry))) v file index)
+        (lists (now (nodes .entry)) (now (blocks .entry)) counts) (dataOf (cardOf (now (image .entry))) (r .data))
+        (lists (now (nodes .exit)) (now (blocks .exit)) (r .counts)) ⌝ }
+    ensures { λ r. ⌜ DataIn (cardOf (now (image .entry))) (r .data) ⌝ }
+    ensures { λ r. ⌜ Keeps (cardOf (now (image .entry))) v file (index + 1) (r .leaf)
+        (lists (now (nodes .exit)) (now (blocks .exit)) (r .counts)) ⌝ }
+{
+    let came = leaf_of(image, v, nodes, blocks, counts, file, index, kept);
+    let leaf = came.leaf;
+    let listed = came.counts;
+    let node = leaf.node;
+    let step = from_leaf(image, v, nodes, blocks, listed, node, leaf.at);
+    let data = step.data;
+    let then = step.counts;
+    KeptStep {
+        data,
+        leaf: Leaf {
+            node,
+            at: leaf.at + 4,
+            end: leaf.end,
+        },
+        counts: then,
+    }
 }
 
 // The data block of an index of a file.
@@ -232,21 +470,11 @@ pub fn data_block(
         (lists (now (nodes .exit)) (now (blocks .exit)) (r .counts)) ⌝ }
     ensures { λ r. ⌜ DataIn (cardOf (now (image .entry))) (r .data) ⌝ }
 {
-    let way = place::find_way(file.addresses, index);
-    if way.count == 0 {
-        return DataStep {
-            data: Data::Hole,
-            counts,
-        };
+    let step = next_block(image, v, nodes, blocks, counts, file, index, no_leaf());
+    let data = step.data;
+    let listed = step.counts;
+    DataStep {
+        data,
+        counts: listed,
     }
-    let steps = way.steps;
-    let first = steps[0];
-    let slot = first.slot as usize;
-    let inode = field::block_at(image, file.inode);
-    if way.count == 1 {
-        let address = field::get32(inode, 360 + 4 * slot);
-        return data_at(image, v, nodes, blocks, counts, address);
-    }
-    let number = field::get32(inode, 4052 + 4 * slot);
-    follow(image, v, nodes, blocks, counts, file.ino, number, way)
 }

@@ -1,15 +1,15 @@
 -- Place and index lead to each other, so no two indexes share a place and every place with slots that there are has its index.
 -- Each law goes through the four tests of `placeOf` once, by `cases`.
-use mathlib.Core.Path.{_≡_, refl, sym, ap, _∙_, subst}
+use mathlib.Core.Path.{_≡_, refl, sym, ap, _∙_}
 use mathlib.Core.Bool.{Bool, true, false}
 use Prim.Native.Nat.{ℕ, _+_, _-_, _*_, _/_, _%_, _<_, _≤_}
 use native.Mathlib.Omega.{arith}
 use lib.Dec.{ltb}
-use borrow.Author.Tests.{lt-ltb, le-ltb, ltb-true, ltb-false}
+use borrow.Author.Tests.{ltb-true, ltb-false}
 use Rattle.field.specs.Choice.{choose}
 use Rattle.place.specs.declared.Place.{Place}
 use Rattle.place.specs.declared.Place.the-variants.{Inode, Direct, Indirect, Double, Past}
-use Rattle.place.specs.Place.{inDouble, inIndirect, inDirect, placeOf, lastIndex, indexOf, SlotsIn}
+use Rattle.place.specs.Place.{placeOf, lastIndex, indexOf, SlotsIn, NodesIn}
 
 -- what holds of one thing where a test is true, and of the other where it is false, holds of the choice
 by-test : (P : Place → Type 0) (m n : ℕ) (p q : Place) → (m < n → P p) → (n ≤ m → P q) → P (choose (ltb m n) p q)
@@ -20,7 +20,7 @@ by-test P m n p q f g = go (ltb m n) refl
     go false e = g (ltb-false m n e)
 
 -- what holds of the place of an index, kind by kind, holds of `placeOf`
-cases : (P : Place → Type 0) (A index : ℕ)
+pub cases : (P : Place → Type 0) (A index : ℕ)
     → (index < A → P (Inode index))
     → ((i : ℕ) → index ≡ A + i → i < 2036 → P (Direct (i / 1018) (i % 1018)))
     → ((i : ℕ) → index ≡ A + 2036 + i → i < 2072648 → P (Indirect (i / 1036324) (i % 1036324 / 1018) (i % 1018)))
@@ -45,9 +45,10 @@ slots-in A index =
     cases (SlotsIn A) A index (λ l. l) (λ i e l. (omega arith, omega arith)) (λ i e l. (omega arith, omega arith, omega arith))
     (λ i e l. (omega arith, omega arith, omega arith)) (λ l. tt)
 
--- the same of a place that is known to be the index's
-pub slots : (A index : ℕ) (p : Place) → placeOf A index ≡ p → SlotsIn A p
-slots A index p e = subst (SlotsIn A) e (slots-in A index)
+-- and so are the nodes on the way
+pub nodes-in : (A index : ℕ) → NodesIn (placeOf A index)
+nodes-in A index =
+    cases NodesIn A index (λ l. tt) (λ i e l. omega arith) (λ i e l. (omega arith, omega arith)) (λ i e l. (omega arith, omega arith)) (λ l. tt)
 
 -- a place leads back to its index
 pub index-of-place : (A index : ℕ) → index ≤ lastIndex A → indexOf A (placeOf A index) ≡ index

@@ -1,2 +1,4 @@
 pub mod Inverse
 pub mod Ways
+pub mod Next
+pub mod Leaves

@@ -1,7 +1,7 @@
 -- What code that follows a way needs to know of it: the array gives the steps back, and each slot is one that there is.
 -- Each law goes through the five kinds of places once.
 use mathlib.Core.Path.{_≡_, refl, ap, _∙_}
-use Prim.Native.Nat.{ℕ, zero, suc, _≤_, _<_}
+use Prim.Native.Nat.{ℕ, zero, suc, _+_, _≤_, _<_}
 use native.Mathlib.Omega.{arith}
 use mathlib.Core.List.{List}
 use lib.ListN.{length, take, getD}
@@ -53,12 +53,12 @@ node-slots A (Double n m s) h (suc (suc (suc (suc k)))) a b = absurd (omega arit
 node-slots A Past h k a b = absurd (omega arith)
 
 -- the slot in the inode: of an address, where that is all of the way, or of a node number
-inode-slot : (A : ℕ) (p : Place) → SlotsIn A p → inArray (wayOf p) .count ≡ 1 → slotAt (inArray (wayOf p)) 0 < A
-inode-slot A (Inode s) h e = h
-inode-slot A (Direct n s) h e = absurd (omega arith)
-inode-slot A (Indirect n k s) h e = absurd (omega arith)
-inode-slot A (Double n k s) h e = absurd (omega arith)
-inode-slot A Past h e = absurd (omega arith)
+inode-slot : (A : ℕ) (p : Place) → SlotsIn A p → slotAt (inArray (wayOf p)) 0 < A + 5
+inode-slot A (Inode s) h = omega arith
+inode-slot A (Direct n s) h = omega arith
+inode-slot A (Indirect n k s) h = omega arith
+inode-slot A (Double n k s) h = omega arith
+inode-slot A Past h = omega arith
 
 number-slot : (A : ℕ) (p : Place) → SlotsIn A p → 2 ≤ inArray (wayOf p) .count → slotAt (inArray (wayOf p)) 0 < 5
 number-slot A (Inode s) h e = absurd (omega arith)
@@ -78,7 +78,7 @@ module _ (A index : ℕ) {w : Way} (e : w ≡ inArray (wayOf (placeOf A index)))
   pub way-node-slots : (k : ℕ) → 1 ≤ k → k < w .count → slotAt w k < 1018
   way-node-slots = rw e (node-slots A (placeOf A index) (slots-in A index))
 
-  pub way-inode-slot : w .count ≡ 1 → slotAt w 0 < A
+  pub way-inode-slot : slotAt w 0 < A + 5
   way-inode-slot = rw e (inode-slot A (placeOf A index) (slots-in A index))
 
   pub way-number-slot : 2 ≤ w .count → slotAt w 0 < 5

@@ -41,3 +41,11 @@ SlotsIn A (Direct n s) = (n < 2) × (s < 1018)
 SlotsIn A (Indirect n k s) = (n < 2) × (k < 1018) × (s < 1018)
 SlotsIn A (Double n k s) = (n < 1018) × (k < 1018) × (s < 1018)
 SlotsIn A Past = Unit {0}
+
+-- the nodes on the way are ones that there are, whatever the slot taken in the last
+abbrev pub NodesIn : Place → Type 0
+NodesIn (Inode s) = Unit {0}
+NodesIn (Direct n s) = n < 2
+NodesIn (Indirect n k s) = (n < 2) × (k < 1018)
+NodesIn (Double n k s) = (n < 1018) × (k < 1018)
+NodesIn Past = Unit {0}

@@ -2,7 +2,7 @@
 // What each means is in specs/: Place, Way.
 ghost use mathlib.Core.Path.{_≡_};
 ghost use mathlib.Core.List.{[]};
-ghost use Rattle.place.specs.Place.{placeOf};
+ghost use Rattle.place.specs.Place.{placeOf, NodesIn};
 ghost use Rattle.place.specs.Way.{step, wayOf, inArray};
 
 pub enum Place {
@@ -69,12 +69,13 @@ pub fn no_way() -> Way
     }
 }
 
-// The way to that place.
-pub fn find_way(addresses: u32, index: u32) -> Way
-    ensures { λ r. ⌜ r ≡ inArray (wayOf (placeOf addresses index)) ⌝ }
+// The way to a place.
+pub fn way_to(p: Place) -> Way
+    requires { ⌜ NodesIn p ⌝ }
+    ensures { λ r. ⌜ r ≡ inArray (wayOf p) ⌝ }
 {
     let none = node(0, 0);
-    match find_place(addresses, index) {
+    match p {
         Place::Inode(s) => Way {
             count: 1,
             steps: [node(0, s), none, none, none],
@@ -103,4 +104,11 @@ pub fn find_way(addresses: u32, index: u32) -> Way
         },
         Place::Past => no_way(),
     }
+}
+
+// The way to the block of an index.
+pub fn find_way(addresses: u32, index: u32) -> Way
+    ensures { λ r. ⌜ r ≡ inArray (wayOf (placeOf addresses index)) ⌝ }
+{
+    way_to(find_place(addresses, index))
 }

@@ -7,7 +7,7 @@ use mathlib.Core.Bool.{Bool, true, false, _&&_, _||_}
 use mathlib.Core.Logic.{_⊎_, inl, inr, _↔_}
 use borrow.Author.Tests.{eqb-true, leb-true}
 use lib.Dec.{eqb, leb}
-use mathlib.Core.List.{List, [], _∷_, List·Memᴰ, List·Memᴰ·not-nil}
+use mathlib.Core.List.{List, [], _∷_, List·Memᴰ}
 use lib.ListN.{length}
 use Rattle.field.specs.Card.{Card, cardOf}
 use Rattle.field.proofs.Choosing.{clash}
@@ -21,6 +21,7 @@ use Rattle.walk.specs.Walk.{viewOf, empty, Walk, Outcome, ok, stop, ending, End
 use Rattle.walk.proofs.Runs.{run-rising}
 use Rattle.walk.proofs.Sizes.{few-listed, run-reads, run-value}
 use Rattle.walk.proofs.Asked.{nodes-exact, blocks-exact}
+use Rattle.list.proofs.Members.{mem-some}
 use Rattle.list.proofs.Written.{numbers-over}
 use Rattle.node.specs.Node.{boundsOf, inMain, nodeWalk}
 use Rattle.node.specs.Block.{Fetched, hole, held}
@@ -95,12 +96,11 @@ module _ (card : Card) (v : Volume) (path : List ℕ) (index : ℕ) where
       go (name ∷ names) some = inl refl
 
   -- the root is looked up first, so the node list is never empty
+  pub run-root : List·Memᴰ rootIno (pullRun card v path index .seen .nodes)
+  run-root = run-exact .0 rootIno .1 root-asked
+
   pub run-some : 1 ≤ length (pullRun card v path index .seen .nodes)
-  run-some = some (pullRun card v path index .seen .nodes) (run-exact .0 rootIno .1 root-asked)
-    where
-      some : (l : List ℕ) → List·Memᴰ rootIno l → 1 ≤ length l
-      some [] m = absurd (List·Memᴰ·not-nil m)
-      some (x ∷ xs) m = omega arith
+  run-some = mem-some run-root
 
 -- ---- every pull
 

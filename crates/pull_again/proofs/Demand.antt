@@ -28,7 +28,7 @@ use Rattle.list.proofs.Searching.{FirstNot}
 use Rattle.compare.proofs.Differences.{SameTable, SameBlock, difference-same, same-difference, difference-bounds, difference-node, difference-block}
 use Rattle.compare.proofs.Openings.{says-same, says-changed, lists-compared, compared-opened}
 use Rattle.pull_again.specs.Demand.{PastOpening, said, SameOn, SamePull}
-use Rattle.pull_again.proofs.Steps.{Came, past-came, lists-fit, nodes-of-run, blocks-of-run, same-run, same-written, same-opens, some-past}
+use Rattle.pull_again.proofs.Steps.{Came, past-came, lists-fit, nodes-of-run, blocks-of-run, same-run, same-written, told-same, some-past, all-same}
 
 module _ (kept path : List ℕ) (index : ℕ) (lent : Lent) (past : PastOpening (pulled kept path index lent))
     (fresh : List ℕ) (u : Volume) (freshOpens : openedImage fresh ≡ Opened u) where
@@ -116,7 +116,7 @@ module _ (kept path : List ℕ) (index : ℕ) (lent : Lent) (past : PastOpening 
 pub whenever-same : (kept fresh path : List ℕ) (index : ℕ) (lent lent' : Lent) → lentInShape (partCount path) lent' ≡ true
     → said kept fresh (pulled kept path index lent) .answer ≡ 15 → SamePull (pulled kept path index lent) (pulled fresh path index lent')
 whenever-same kept fresh path index lent lent' takes e =
-    let o = same-opens kept fresh _ _ e in
+    let o = told-same kept fresh _ _ e in
     then-same-pull kept path index lent (some-past kept path index lent (o .some)) fresh (o .u) (o .freshOpens) lent' takes e
 
 -- Compared with itself, an image is "same".
@@ -126,13 +126,9 @@ same-itself image path index lent past =
     same-exactly-if image path index lent past image (came .v) (came .opens) .1
     (record {
       bounds = refl;
-      tables = all _ (tableAnswer (cardOf image) (came .v)) (entries (nodesLeft (pulled image path index lent)));
-      bytes = all _ (cardOf image .block) (entries (blocksLeft (pulled image path index lent)));
+      tables = all-same _ (tableAnswer (cardOf image) (came .v)) (entries (nodesLeft (pulled image path index lent)));
+      bytes = all-same _ (cardOf image .block) (entries (blocksLeft (pulled image path index lent)));
     })
   where
     came : Came image path index lent
     came = past-came image path index lent past
-
-    all : (A : Type 0) (f : ℕ → A) (l : List ℕ) → AllOf (λ n. f n ≡ f n) l
-    all A f [] = tt
-    all A f (x ∷ xs) = (refl, all A f xs)

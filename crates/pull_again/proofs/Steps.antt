@@ -4,7 +4,7 @@ use Prim.Native.Nat.{ℕ, _<_, _≤_}
 use native.Mathlib.Omega.{arith}
 use mathlib.Core.Path.{_≡_, refl, sym, ap, subst, _∙_}
 use mathlib.Core.Bool.{true}
-use mathlib.Core.List.{List}
+use mathlib.Core.List.{List, [], _∷_}
 use mathlib.Core.Logic.{_⊎_, inl, ⊎-elim}
 use Rattle.field.specs.Card.{cardOf}
 use Rattle.checkpoint.specs.declared.Volume.{Volume}
@@ -24,6 +24,8 @@ use Rattle.compare.specs.Lists.{listsInShape}
 use Rattle.compare.specs.declared.Compared.{Compared}
 use Rattle.compare.specs.Compare.{compared}
 use Rattle.compare.proofs.Shapes.{ListsFit, lists-in-shape, in-shape-lists}
+use Rattle.compare.proofs.Differences.{difference-same}
+use Rattle.compare.proofs.Openings.{says-same}
 use Rattle.compare.proofs.Theorems.{CompareEnds, badLength, keptRefused, freshRefused, badLists, told}
 use Rattle.compare.proofs.Theorems as compare
 use Rattle.pull_again.specs.Demand.{PastOpening, SameOn, SamePull}
@@ -102,21 +104,33 @@ same-written r lent lent' ended = record {
     same-block (ok b) q l = refl
     same-block (stop answer) q l = let least = ending-inside answer q .0 in absurd (omega arith)
 
--- ---- "same" is said only of a pull that got past opening, and of a new image that opens
-pub record Opens (kept fresh : List ℕ) (nodes blocks : Listed) : Type 0 where
+-- ---- "same" is said only of two images that open and agree on all that is listed, and at least one node is
+pub record ToldSame (kept fresh : List ℕ) (nodes blocks : Listed) : Type 0 where
+  pub v : Volume
   pub u : Volume
+  pub keptOpens : openedImage kept ≡ Opened v
   pub freshOpens : openedImage fresh ≡ Opened u
   pub some : 1 ≤ nodes .count
+  pub on : SameOn kept v fresh u (entries nodes) (entries blocks)
 
-pub same-opens : (kept fresh : List ℕ) (nodes blocks : Listed) → compared kept fresh nodes blocks .answer ≡ 15 → Opens kept fresh nodes blocks
-same-opens kept fresh nodes blocks e = go (compare.ends kept fresh nodes blocks) e
+pub told-same : (kept fresh : List ℕ) (nodes blocks : Listed) → compared kept fresh nodes blocks .answer ≡ 15 → ToldSame kept fresh nodes blocks
+told-same kept fresh nodes blocks e = go (compare.ends kept fresh nodes blocks) e
   where
-    go : {r : Compared} → CompareEnds kept fresh nodes blocks r → r .answer ≡ 15 → Opens kept fresh nodes blocks
+    go : {r : Compared} → CompareEnds kept fresh nodes blocks r → r .answer ≡ 15 → ToldSame kept fresh nodes blocks
     go (badLength h f) a = let n = ap (λ (c : Compared). c .answer) f in absurd (omega arith)
     go (keptRefused answer o f) a = let n = ap (λ (c : Compared). c .answer) f in let few = refusals kept answer o in absurd (omega arith)
     go (freshRefused v k answer o f) a = let n = ap (λ (c : Compared). c .answer) f in let few = refusals fresh answer o in absurd (omega arith)
     go (badLists v u p q h f) a = let n = ap (λ (c : Compared). c .answer) f in absurd (omega arith)
-    go (told v u p q h f) a = record { u = u; freshOpens = q; some = in-shape-lists _ _ _ h .some }
+    go (told v u p q h f) a =
+        let all = difference-same _ _ _ _ _ _ (says-same _ (sym (ap (λ (c : Compared). c .answer) f) ∙ a)) in
+        record {
+          v = v;
+          u = u;
+          keptOpens = p;
+          freshOpens = q;
+          some = in-shape-lists _ _ _ h .some;
+          on = record { bounds = all .0; tables = all .1; bytes = all .2 };
+        }
 
 -- a pull with a node listed got past opening
 pub some-past : (image path : List ℕ) (index : ℕ) (lent : Lent) → 1 ≤ nodesLeft (pulled image path index lent) .count
@@ -136,3 +150,8 @@ some-past image path index lent some = go (ends image path index lent) some
 -- the same, of results that are known by an equation
 pub same-pulls : {r r' q q' : Result} → r ≡ r' → q ≡ q' → SamePull r' q' → SamePull r q
 same-pulls {r} {r'} {q} {q'} e f s = subst (λ (x : Result). SamePull x q) (sym e) (subst (SamePull r') (sym f) s)
+
+-- a card agrees with itself on any list
+pub all-same : (A : Type 0) (f : ℕ → A) (l : List ℕ) → AllOf (λ n. f n ≡ f n) l
+all-same A f [] = tt
+all-same A f (x ∷ xs) = (refl, all-same A f xs)

@@ -1,12 +1,12 @@
 -- That a walk's lists fit, carried along its way: from a walk to its parts, and from a place to the next. No count is named here but
--- in `fits-start`: a walk of a known size fits into empty lists of that room.
+-- in the last two: a walk that lists at most so much fits into empty lists of that room.
 use Prim.Native.Nat.{ℕ, _*_, _≤_}
 use native.Mathlib.Omega.{arith}
 use mathlib.Core.Path.{ap}
 use mathlib.Core.List.{List}
 use lib.ListN.{length}
 use Rattle.list.specs.Lists.{numbers, Holds}
-use Rattle.walk.specs.Walk.{View, sawNode, sawBlock, Walk, look, read, Ran, run, bind, Within, Outcome, onward, andThen}
+use Rattle.walk.specs.Walk.{View, empty, sawNode, sawBlock, Walk, look, read, Ran, run, bind, Within, Outcome, onward, andThen}
 use Rattle.walk.specs.Walk.{Lists, lists, listed, none, Fits}
 use Rattle.walk.proofs.Runs.{run-bind, run-more}
 use Rattle.walk.proofs.Sizes.{few-listed}
@@ -29,7 +29,7 @@ module _ {A : Type 0} {v : View} {s : Lists} where
       record { room = omega arith; rising = h .rising .1 }
 
 -- ---- the first part of a walk
-fits-part : {A B : Type 0} {v : View} {s : Lists} (p : Walk A) (f : A → Walk B) → Fits v (bind p f) s → Fits v p s
+pub fits-part : {A B : Type 0} {v : View} {s : Lists} (p : Walk A) (f : A → Walk B) → Fits v (bind p f) s → Fits v p s
 fits-part {v = v} {s = s} p f h =
     let e = run-bind v (listed s) p f in
     let a = ap (λ (o : Ran _). length (o .seen .nodes)) e in
@@ -54,10 +54,14 @@ fits-at h at =
     let f = h .forBlocks in
     record { rising = at .rises (h .rising); forNodes = omega arith; forBlocks = omega arith }
 
--- ---- by size, at the start
+-- ---- by what is listed in the end, at the start
+pub fits-few : {A : Type 0} (v : View) {w : Walk A} {nodes blocks : List ℕ} {ns bs : ℕ}
+    → (length (run v empty w .seen .nodes) ≤ ns) × (length (run v empty w .seen .blocks) ≤ bs) → 4 * ns ≤ length nodes → 4 * bs ≤ length blocks
+    → Fits v w (lists nodes blocks none)
+unfolding numbers
+fits-few v most p q = record { rising = (tt, tt); forNodes = omega arith; forBlocks = omega arith }
+
+-- and by size
 pub fits-start : {A : Type 0} {P : ℕ → Type 0} {Q : A → Type 0} (v : View) {w : Walk A} {nodes blocks : List ℕ} {ns bs : ℕ}
     → Within P Q ns bs w → 4 * ns ≤ length nodes → 4 * bs ≤ length blocks → Fits v w (lists nodes blocks none)
-unfolding numbers
-fits-start v {w = w} size p q =
-    let most = few-listed v w size in
-    record { rising = (tt, tt); forNodes = omega arith; forBlocks = omega arith }
+fits-start v {w = w} size p q = fits-few v (few-listed v w size) p q

@@ -12,7 +12,7 @@ use Rattle.checkpoint.specs.declared.Volume.{Volume}
 use Rattle.nat.specs.declared.TableAnswer.{TableAnswer}
 use Rattle.nat.specs.Table.{tableAnswer}
 use Rattle.walk.specs.declared.Counts.{Counts}
-use Rattle.list.specs.Lists.{insert, Rising, numbers, Grown}
+use Rattle.list.specs.Lists.{insert, union, Rising, numbers, Grown}
 
 -- ---- the tree and its run
 
@@ -41,6 +41,10 @@ sawNode n s = record { nodes = insert n (s .nodes); blocks = s .blocks }
 
 abbrev pub sawBlock : ℕ → Seen → Seen
 sawBlock b s = record { nodes = s .nodes; blocks = insert b (s .blocks) }
+
+-- what one walk saw and what another did
+abbrev pub unionSeen : Seen → Seen → Seen
+unionSeen s t = record { nodes = union (s .nodes) (t .nodes); blocks = union (s .blocks) (t .blocks) }
 
 pub data Walk (A : Type 0) : Type 0 where
   done : A → Walk A

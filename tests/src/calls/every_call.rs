@@ -1,10 +1,11 @@
-//! Every call that opens a card: node lookup, pull, segment report, keep, and compare with the card on either side and
+//! Every call that opens a card: node lookup, pull, run, segment report, keep, and compare with the card on either side and
 //! on both, also by a keep file.
 
 use crate::calls::compares::{refused, Compares, Kept, OUT_OF_SHAPE, SAME};
 use crate::calls::keeps::Keeps;
 use crate::calls::lookups::Lookups;
 use crate::calls::pulls::{Call, Pulls};
+use crate::calls::runs::{RunCall, Runs};
 use crate::calls::segments::{needed, Report, Reports};
 use crate::cards::card::ROOT;
 use crate::cards::image::Image;
@@ -30,6 +31,7 @@ pub struct Sound<'a> {
 pub struct EveryCall {
     lookups: Lookups,
     pulls: Pulls,
+    runs: Runs,
     reports: Reports,
     compares: Compares,
     keeps: Keeps,
@@ -40,6 +42,7 @@ impl EveryCall {
         EveryCall {
             lookups: Lookups::new(name),
             pulls: Pulls::new(name),
+            runs: Runs::new(name),
             reports: Reports::new(name),
             compares: Compares::new(name),
             keeps: Keeps::new(name),
@@ -54,6 +57,7 @@ impl EveryCall {
         }
         let Call { name, index, .. } = kept.call;
         self.pulls.expect_data(image, name, index, &content.data);
+        self.runs.expect(&RunCall::new(image, name, index, 1), 0, 1);
         self.keeps.expect(&Call::new(image, name, index), 0);
         self.reports.expect(image, &content.report);
         self.compares.expect(kept, image, SAME);
@@ -69,6 +73,8 @@ impl EveryCall {
         }
         let Call { name, index, .. } = kept.call;
         self.pulls.expect(image, name, index, answer);
+        self.runs
+            .expect(&RunCall::new(image, name, index, 2), answer, 0);
         self.keeps.expect(&Call::new(image, name, index), answer);
         let refusal = Report::refused(answer);
         self.reports.expect(image, &refusal);
@@ -94,6 +100,8 @@ impl EveryCall {
         };
         self.pulls.expect_call(&call, 4);
         self.keeps.expect(&call, 4);
+        let first = call;
+        self.runs.expect(&RunCall { first, blocks: 2 }, 4, 0);
         self.reports
             .expect_in(image, cut, needed(image), &Report::refused(4));
         for cards in [[sound, cut], [cut, sound], [whole, cut], [cut, whole]] {
@@ -108,6 +116,11 @@ impl EveryCall {
     pub fn finish(self, at_least: u64, answers: &[u32]) {
         self.lookups.finish(at_least, answers);
         self.pulls.finish(at_least, answers);
+        let of_runs: Vec<_> = answers
+            .iter()
+            .map(|&answer| (answer, answer == 0))
+            .collect();
+        self.runs.finish(at_least, &of_runs);
         self.reports.finish(at_least, answers);
         self.keeps.finish(at_least, answers);
         let by_side = |&answer: &u32| match answer {

@@ -5,7 +5,7 @@ use std::fmt::{Debug, Formatter, Result};
 use std::ops::Range;
 
 use crate::cards::layout::BLOCK_SIZE;
-use crate::sizes::{blocks_most, nodes_most};
+use crate::sizes::{blocks_most, nodes_most, run_blocks_most, run_nodes_most};
 use crate::trial::Random;
 
 /// Bytes of a number in a list.
@@ -36,6 +36,15 @@ impl Lens {
             block: BLOCK_SIZE,
             nodes: nodes_most(names) as usize * NUMBER_SIZE,
             blocks: blocks_most(names) as usize * NUMBER_SIZE,
+        }
+    }
+
+    /// For a run of so many blocks, by a path of so many names.
+    pub fn of_run(names: u32, blocks: u32) -> Lens {
+        Lens {
+            block: blocks as usize * BLOCK_SIZE,
+            nodes: run_nodes_most(names) as usize * NUMBER_SIZE,
+            blocks: run_blocks_most(names) as usize * NUMBER_SIZE,
         }
     }
 }
@@ -128,7 +137,7 @@ impl Debug for Slice {
     }
 }
 
-/// All that is lent to a pull.
+/// All that is lent to a pull, or to a run, whose buffer has a block for each.
 #[derive(Clone, Debug, PartialEq, Eq)]
 pub struct Lent {
     pub block: Slice,
@@ -158,8 +167,11 @@ impl Lent {
 
     /// Other memory with longer lists, mostly with a remainder of one to three bytes.
     pub fn longer(random: &mut Random, names: u32) -> Lent {
+        Lent::longer_than(Lens::of(names), random)
+    }
+
+    pub fn longer_than(mut lens: Lens, random: &mut Random) -> Lent {
         let shift = random.below(MOST_SHIFT) as usize;
-        let mut lens = Lens::of(names);
         for len in [&mut lens.nodes, &mut lens.blocks] {
             *len += random.below(MOST_SPARE) as usize;
         }

@@ -11,4 +11,5 @@ pub mod keeps;
 pub mod lent;
 pub mod lookups;
 pub mod pulls;
+pub mod runs;
 pub mod segments;

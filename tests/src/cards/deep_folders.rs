@@ -23,6 +23,7 @@ pub const SOUGHT: usize = 58;
 pub struct DeepFolders {
     pub card: Card,
     pub path: Vec<u8>,
+    pub ino: u32,
     /// The file's one block.
     pub index: u32,
     pub data: u32,
@@ -59,6 +60,7 @@ impl DeepFolders {
         let mut deep = DeepFolders {
             card,
             path: Vec::new(),
+            ino,
             index,
             data,
             nodes: Vec::new(),

@@ -12,7 +12,7 @@ pub const INDEX: u32 = ADDRESSES;
 pub type Stop = (u32, u32, Field, u64);
 
 /// Those at a node: of its entry in the table, and of its footer.
-fn at_node(card: &Card, passage: &Passage, stops: &mut Vec<Stop>) {
+pub fn at_node(card: &Card, passage: &Passage, stops: &mut Vec<Stop>) {
     let (table, at) = card.entry_place(passage.node.nid);
     let address = nat::BLOCK_ADDR.moved(at);
     let outside = u64::from(card.image.areas.main_end);

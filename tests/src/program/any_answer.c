@@ -45,6 +45,15 @@ struct harptimber_pulled harptimber_pull(const uint8_t *image, size_t image_len,
     return (struct harptimber_pulled){.answer = answer()};
 }
 
+struct harptimber_run harptimber_pull_run(const uint8_t *image, size_t image_len, const uint8_t *path, size_t path_len,
+                                          uint32_t index, uint32_t blocks_wanted, uint8_t *buffer, size_t buffer_len,
+                                          uint8_t *nodes, size_t nodes_len, uint8_t *blocks, size_t blocks_len)
+{
+    (void)image, (void)image_len, (void)path, (void)path_len, (void)index, (void)blocks_wanted, (void)buffer;
+    (void)buffer_len, (void)nodes, (void)nodes_len, (void)blocks, (void)blocks_len;
+    return (struct harptimber_run){.answer = answer()};
+}
+
 static struct harptimber_compared verdict(void)
 {
     return (struct harptimber_compared){.answer = getenv("ANY_VERDICT") == NULL ? answer() : number_in("ANY_VERDICT"),

@@ -57,6 +57,9 @@ pub const NAMES: [&[u8]; 9] = [
     b"' ; exit 9 '",
 ];
 
+/// Numbers of blocks around what the program pulls in one run, and in two.
+pub const AROUND_RUNS: [u32; 6] = [511, 512, 513, 1023, 1024, 1025];
+
 /// As many as mkfs.f2fs gives a card of 16 GiB.
 const FAR_NAT_SEGMENTS: u32 = 36;
 
@@ -129,6 +132,31 @@ impl ProgramCard {
     /// search that comes to it.
     pub fn in_inline_root(flags: u64) -> ProgramCard {
         ProgramCard::small(0, INLINE_DENTRY | flags)
+    }
+
+    /// The same with files that end around where a run of pulls does, and with longer ones that are refused there.
+    pub fn around_runs() -> ProgramCard {
+        let mut built = ProgramCard::build();
+        let outside = built.card.image.areas.main_end;
+        for blocks in AROUND_RUNS {
+            let size = u64::from(blocks) * BLOCK_SIZE as u64;
+            let mut data = vec![0, 510, 511, 512, blocks - 1];
+            data.sort();
+            data.dedup();
+            data.retain(|&index| index < blocks);
+            for (name, size) in [("blocks", size), ("blocks less a byte", size - 1)] {
+                let name = format!("{blocks} {name}").into_bytes();
+                built.files.push(put(&mut built.card, &name, size, &data));
+            }
+            let name = format!("refused at {blocks}").into_bytes();
+            let longer = size + 3 * BLOCK_SIZE as u64;
+            let cut = put(&mut built.card, &name, longer, &[blocks - 1, blocks + 1]);
+            built.card.set_address(cut.ino, blocks, outside);
+            built.refused.push((name, blocks, 13));
+        }
+        built.card.image.settle("files around runs");
+        built.disk = OnDisk::new(built.card.image.clone());
+        built
     }
 
     fn small(level: u8, inline: u64) -> ProgramCard {

@@ -3,6 +3,7 @@
 use std::collections::BTreeSet;
 
 use crate::program::compares::{Expected, Fate, Run};
+use crate::program::page::with_commas;
 
 /// So many ranges of blocks, and things that changed, are told at most.
 const MOST_SHOWN: usize = 10;
@@ -109,15 +110,16 @@ impl Expected<'_> {
             } else {
                 "the first "
             };
+            let [some, all] = [count, total].map(|count| with_commas(count as usize));
             parts.push(match (self.whole(), parts.is_empty()) {
                 (false, _) => verb.to_string(),
-                (_, false) => format!("; {count} {verb}"),
-                _ if count < total => format!("{count} of {first}{total} blocks {verb}"),
+                (_, false) => format!("; {some} {verb}"),
+                _ if count < total => format!("{some} of {first}{all} blocks {verb}"),
                 _ if total == 1 && first.is_empty() => format!("the only block {verb}"),
                 _ if total == 1 => format!("the first block {verb}"),
                 _ if total == 2 && first.is_empty() => format!("both blocks {verb}"),
-                _ if first.is_empty() => format!("all {total} blocks {verb}"),
-                _ => format!("{first}{total} blocks {verb}"),
+                _ if first.is_empty() => format!("all {all} blocks {verb}"),
+                _ => format!("{first}{all} blocks {verb}"),
             });
             if let (Fate::Different, Some((place, [before, now]))) = (fate, self.byte()) {
                 let shown = |byte: Option<u8>| {

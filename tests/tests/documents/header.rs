@@ -16,8 +16,9 @@ use harptimber_tests::program::levels::MOST_LEVEL;
 use harptimber_tests::program::page::{meaning, with_commas};
 use harptimber_tests::program::{host, ran};
 use harptimber_tests::sizes::{
-    blocks_most, keep_length, keep_most, nodes_most, BLOCKS_MOST, CARD_BLOCKS_MOST, NAMES_MOST,
-    NODES_MOST, SEGMENTS_MOST,
+    blocks_most, keep_length, keep_most, nodes_most, run_blocks_most, run_nodes_most, BLOCKS_MOST,
+    CARD_BLOCKS_MOST, NAMES_MOST, NODES_MOST, RUN_BLOCKS_MOST, RUN_MOST, RUN_NODES_MOST,
+    SEGMENTS_MOST,
 };
 use harptimber_tests::tools::published::Scratch;
 
@@ -61,6 +62,7 @@ fn sizes() {
         nodes,
         blocks,
     } = Lens::of(NAMES_MOST);
+    let run = Lens::of_run(NAMES_MOST, RUN_MOST);
     for (name, size) in [
         ("BLOCK_BYTES", block),
         ("BLOCK_BYTES", BLOCK_SIZE),
@@ -68,6 +70,12 @@ fn sizes() {
         ("BLOCKS_BYTES", blocks),
         ("NODES_MOST", NODES_MOST as usize),
         ("BLOCKS_MOST", BLOCKS_MOST as usize),
+        ("RUN_MOST", RUN_MOST as usize),
+        ("RUN_BYTES", run.block),
+        ("RUN_NODES_MOST", RUN_NODES_MOST as usize),
+        ("RUN_BLOCKS_MOST", RUN_BLOCKS_MOST as usize),
+        ("RUN_NODES_BYTES", run.nodes),
+        ("RUN_BLOCKS_BYTES", run.blocks),
         ("SEGMENTS_MOST", SEGMENTS_MOST as usize),
         ("SEGMENTS_MOST", 8185),
         ("SEGMENTS_BYTES", 4 * SEGMENTS_MOST as usize),
@@ -97,6 +105,29 @@ fn rooms_by_names() {
     for names in 1..=NAMES_MOST {
         let Lens { nodes, blocks, .. } = Lens::of(names);
         let most = (nodes_most(names), blocks_most(names));
+        expected += &format!("{} {} {nodes} {blocks}\n", most.0, most.1);
+    }
+    for language in [C99, CPP11] {
+        assert_eq!(printed_by(language, uses), expected, "by {language:?}");
+    }
+}
+
+/// The same of a run, however many blocks it has.
+#[test]
+fn rooms_of_runs_by_names() {
+    let uses = "enum { nodes = HARPTIMBER_RUN_NODES_BYTES_OF(1), blocks = HARPTIMBER_RUN_BLOCKS_BYTES_OF(1 + 1) };
+        printf(\"%d %d\\n\", nodes, blocks);
+        for (int k = 0; k < HARPTIMBER_NAMES_MOST; k++)
+            printf(\"%d %d %d %d\\n\", HARPTIMBER_RUN_NODES_MOST_OF(k + 1), HARPTIMBER_RUN_BLOCKS_MOST_OF(k + 1),
+                   HARPTIMBER_RUN_NODES_BYTES_OF(k + 1), HARPTIMBER_RUN_BLOCKS_BYTES_OF(k + 1));";
+    let mut expected = format!(
+        "{} {}\n",
+        Lens::of_run(1, 1).nodes,
+        Lens::of_run(2, 1).blocks
+    );
+    for names in 1..=NAMES_MOST {
+        let Lens { nodes, blocks, .. } = Lens::of_run(names, 1);
+        let most = (run_nodes_most(names), run_blocks_most(names));
         expected += &format!("{} {} {nodes} {blocks}\n", most.0, most.1);
     }
     for language in [C99, CPP11] {

@@ -227,6 +227,29 @@ fn rooms_of_paths() {
     expect_words("host/include/harptimber.h", "at most 175k + 4 for k names");
 }
 
+/// The first version that pulls runs.
+const PULLS_RUNS: &str = "0.10.0";
+
+/// How long a run is, what room it needs, and since when there are any.
+#[test]
+fn runs_of_pulls() {
+    for (page, words) in [
+        ("README.md", "pulls up to 512 blocks in a row"),
+        ("docs/C-API.md", "up to 512 blocks of a file in a row"),
+        (
+            "docs/C-API.md",
+            "room for 175k + 6 node numbers and 233k + 518 blocks",
+        ),
+        ("docs/C-API.md", "lists of 1,406 and of 2,382 numbers"),
+        ("host/include/harptimber.h", "at most 175k + 6 for k names"),
+        ("host/harptimber.1", "Blocks are compared 512 at a time"),
+    ] {
+        expect_words(page, words);
+    }
+    let since = format!("From {PULLS_RUNS} on there are runs of pulls");
+    expect_words("docs/C-API.md", &since);
+}
+
 /// The indented lines of the README's part on C.
 fn snippet() -> String {
     let readme = read("README.md");

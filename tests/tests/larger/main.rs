@@ -2,5 +2,6 @@
 
 mod far_file;
 mod files;
+mod runs;
 mod tools;
 mod volumes;

@@ -44,6 +44,9 @@ fn memchecked() -> Command {
 /// The slices of a pull, and of its keep file, each of which is once shorter than the call is told.
 const PLANTS: [&str; 7] = ["name", "block", "nodes", "blocks", "image", "room", "file"];
 
+/// The slices of a run, each of which is once shorter than the call is told.
+const RUN_PLANTS: [&str; 5] = ["name", "block", "nodes", "blocks", "image"];
+
 /// The slices of a report, each of which is once shorter than the call is told.
 const REPORT_PLANTS: [&str; 2] = ["list", "image"];
 
@@ -69,6 +72,9 @@ fn guard_pages() {
         tight.calls(&mut script);
         for slice in PLANTS {
             script.plant(slice, NAME, ADDRESSES);
+        }
+        for slice in RUN_PLANTS {
+            script.plant_run(slice, NAME, ADDRESSES);
         }
     }
     TightInline::new().calls(&mut script);
@@ -132,6 +138,12 @@ fn valgrind_on_plants() {
         let mut script = Script::new();
         script.card(&image);
         script.plant(slice, NAME, 0);
+        expect_seen(&script, slice);
+    }
+    for slice in RUN_PLANTS {
+        let mut script = Script::new();
+        script.card(&card.image);
+        script.plant_run(slice, NAME, ADDRESSES);
         expect_seen(&script, slice);
     }
     for slice in REPORT_PLANTS {

@@ -86,7 +86,10 @@ pub(crate) fn expect_built_file(card: &ProgramCard, path: &PathBuf, name: &[u8])
 /// To a file that had more bytes before.
 #[test]
 fn json_with_output() {
-    let card = shared_card();
+    expect_json_with_output(&shared_card());
+}
+
+fn expect_json_with_output(card: &ProgramCard) {
     let (image, path) = (&card.card.image, card.disk.path());
     let output = card.disk.scratch.path("json_with_output");
     for file in &card.files {
@@ -143,7 +146,10 @@ fn refused_on_the_way() {
 /// Refused behind many holes, and at the first block. A file stays as it was.
 #[test]
 fn refused() {
-    let card = shared_card();
+    expect_refused(&shared_card());
+}
+
+fn expect_refused(card: &ProgramCard) {
     let path = card.disk.path();
     let kept = card.disk.scratch.path("refused");
     for (name, index, answer) in &card.refused {
@@ -160,4 +166,13 @@ fn refused() {
         assert_eq!(fs::read(&kept).unwrap(), b"kept", "touched by {ran:?}");
         assert_eq!(json["bytes"].number(), 0, "in {json:?}");
     }
+}
+
+/// Files that end, or are refused, around where the program's runs of pulls do.
+#[test]
+fn around_runs() {
+    let card = ProgramCard::around_runs();
+    expect_built_files(&card);
+    expect_json_with_output(&card);
+    expect_refused(&card);
 }

@@ -12,7 +12,9 @@ use harptimber_tests::cards::layout::nat::BLOCK_ADDR;
 use harptimber_tests::cards::layout::superblock::SEGMENT_COUNT_MAIN;
 use harptimber_tests::cards::layout::BLOCK_SIZE;
 use harptimber_tests::cards::on_disk::OnDisk;
-use harptimber_tests::program::card::{ProgramCard, EMPTY, LONG, NAMES, OUTSIDE, ROAD};
+use harptimber_tests::program::card::{
+    ProgramCard, AROUND_RUNS, EMPTY, LONG, NAMES, OUTSIDE, ROAD,
+};
 use harptimber_tests::program::card::{FULL, FULL_BESIDE_XATTR, INLINE, INLINE_EMPTY};
 use harptimber_tests::program::compares::Expected;
 use harptimber_tests::program::page::{expect_head, expect_name, shown};
@@ -333,6 +335,24 @@ pub(crate) fn expect_refused_by_kept(cards: &mut Cards) {
     let ino = cards.kept.outside.ino;
     cards.byte(cards.kept.card.inode_block(ino), 300);
     assert_eq!(cards.expect(OUTSIDE), 1, "inode changed");
+}
+
+/// Blocks that changed, and ones that the kept card refuses, around where the program's runs of pulls end.
+#[test]
+fn around_runs() {
+    let mut cards = Cards::of(ProgramCard::around_runs());
+    for blocks in AROUND_RUNS {
+        let name = format!("{blocks} blocks").into_bytes();
+        assert_eq!(cards.expect_at(&name, None), 0, "of {}", shown(&name));
+        let data = cards.kept.file(&name).blocks.clone();
+        for (index, block) in data {
+            cards.byte(block, 7);
+            assert_eq!(cards.expect_at(&name, None), 1, "block {index} changed");
+            cards.undo();
+        }
+        let name = format!("refused at {blocks}").into_bytes();
+        assert_eq!(cards.expect_at(&name, None), 2, "of {}", shown(&name));
+    }
 }
 
 /// A name that wasn't there and is, and the other way round.

@@ -10,4 +10,5 @@ mod keeps;
 mod levels;
 mod lookups;
 mod outside_readers;
+mod runs;
 mod segments;

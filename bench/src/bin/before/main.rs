@@ -1,7 +1,10 @@
-//! Prints the times of calls as parts of what the same calls take by an earlier archive. `bench/before` gets
-//! that archive, and builds this program with it.
+//! Prints the times of calls as parts of what the same calls take by an earlier archive, and those of the program as
+//! parts of what an earlier one takes. `bench/before` gets both, and builds this program with the archive.
 
 mod archives;
+#[allow(dead_code)] // not every card is made
+#[path = "../ratios/cards.rs"]
+mod cards;
 mod depths;
 #[path = "../ratios/journalled.rs"]
 mod journalled;
@@ -9,6 +12,7 @@ mod journalled;
 #[path = "../ratios/roots.rs"]
 mod roots;
 mod slots;
+mod whole;
 
 use archives::{Archive, ARCHIVES, BEFORE, NOW};
 use harptimber_bench::agreed::Agreed;
@@ -60,6 +64,9 @@ fn main() -> ExitCode {
     print_by_entries(&earlier, &mut agreed);
     depths::print(&earlier, &mut agreed);
     slots::print(&earlier, &mut agreed);
+    if let Some(program) = env::args_os().nth(2) {
+        whole::print(&earlier, program.into(), &mut agreed);
+    }
     agreed.finish()
 }
 

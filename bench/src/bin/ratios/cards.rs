@@ -13,6 +13,9 @@ pub const OPTIONS: &str = "-o 70";
 /// 64 MB, 1 GiB and, as large as a card may be, 16 GiB.
 const MEGABYTES: [usize; 3] = [64, 1024, LARGEST];
 
+/// The file of a card's copy, beside the card.
+pub const COPY: &str = "copy";
+
 /// A file that every card has: blocks in its inode and behind both of its direct nodes.
 pub const ROAD: &str = "road.bin";
 pub const ROAD_BLOCKS: u32 = 1920;
@@ -55,10 +58,10 @@ pub struct Card {
 }
 
 impl Card {
-    fn new(megabytes: usize, files: &[File]) -> Card {
+    pub fn new(megabytes: usize, files: &[File]) -> Card {
         let scratch = file_with(megabytes, OPTIONS, files);
         let path = scratch.image_path();
-        let copy = path.with_file_name("copy");
+        let copy = scratch.path(COPY);
         let file = fs::File::open(&path).expect("a card");
         Sparse::read(&file).save(&copy);
         Card {

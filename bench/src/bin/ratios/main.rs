@@ -9,6 +9,7 @@ mod journalled;
 mod keeps;
 mod paths;
 mod roots;
+mod runs;
 mod segments;
 mod slots;
 mod versions;
@@ -41,6 +42,7 @@ fn main() -> ExitCode {
     pulls_by_directory_level(&mut agreed);
     searches_by_slots(&mut agreed);
     pulls_by_names(&mut agreed);
+    full_runs(&mut agreed);
     agreed.finish()
 }
 
@@ -57,7 +59,7 @@ Every number in the tables is a ratio of two times of this run. No time is claim
               both are built for release
   GRUB        its F2FS reader, by {}
   cards       written by mkfs.f2fs {OPTIONS} and sload.f2fs, sparse files, mapped for reading; those of
-              tables 4, 5 and 8 to 12 are built in memory
+              tables 4, 5 and 8 to 13 are built in memory
   buffers     warm: each card is in the page cache, mapped and read before; what is lent to a pull is
               lent again to the next one, and not cleared in between
   times       the processor's, user and system, children included: other load shows only where it
@@ -169,6 +171,7 @@ fn whole_files(columns: &[Whole], agreed: &mut Agreed) {
         ("harptimber cat", whole::HARPTIMBER),
         ("reference/'s pulls, as a program", whole::REFERENCE_CAT),
         ("the archive's pulls, in this process", whole::PULLS_ALONE),
+        ("the archive's runs, in this process", whole::RUNS_ALONE),
         ("cat of the same bytes in a plain file", whole::CAT),
     ];
     for (label, side) in rows {
@@ -177,7 +180,8 @@ fn whole_files(columns: &[Whole], agreed: &mut Agreed) {
     table.print(
         "6. Whole files beside GRUB's reader, by size of the file/size of the card
    time as a part of `grub-fstest CARD cat '(loop0)/NAME'`; lower is better, below 1 is faster.
-   GRUB's time is a process from start to end with output to /dev/null, and so is each but the third",
+   GRUB's time is a process from start to end with output to /dev/null, and so is each but those in this
+   process",
     );
 }
 
@@ -259,6 +263,38 @@ fn pulls_by_names(agreed: &mut Agreed) {
         "12. A pull by the names of its path, through folders with a block each and through inline ones
    time as a part of reference/'s, then as a multiple of the same side's for one name; lower is better.
    A name more is a table answer, an inode and the slots of a folder with one entry",
+    );
+}
+
+fn full_runs(agreed: &mut Agreed) {
+    let [by_reader, by_pulls] = runs::full(agreed);
+    let mut table = Table::new(runs::heads());
+    for (label, of, to) in [
+        ("archive to the reader", runs::ARCHIVE, runs::READER),
+        (
+            "archive to the reader without lists",
+            runs::ARCHIVE,
+            runs::UNLISTED,
+        ),
+        (
+            "archive to memcpy of the same blocks",
+            runs::ARCHIVE,
+            runs::COPY,
+        ),
+        ("the reader to memcpy", runs::READER, runs::COPY),
+    ] {
+        table.row(label, &by_reader.parts(of, to));
+    }
+    let singly = by_pulls.parts(runs::ARCHIVE, runs::SINGLE_PULLS);
+    table.row("archive to 512 single pulls", &singly);
+    let reference = by_pulls.parts(runs::ARCHIVE, runs::REFERENCE);
+    table.row("archive to reference/'s run", &reference);
+    table.print(
+        "13. A run of 512 blocks, by where a file of every kind of node has them
+   time as a part of the other side's; lower is better, and below 1 is faster. The reader is a
+   straightforward one in safe Rust, bench/src/run_reader/: it opens the card, walks the path once, reads
+   each node once, copies the blocks, and sorts its lists at the end. memcpy knows where the blocks are.
+   In the last two columns the blocks of a stretch lie on the card from last to first, and in no order",
     );
 }
 

@@ -1,6 +1,7 @@
 //! Whole files, read by processes.
 
 use crate::cards::*;
+use crate::runs::{self, Memory};
 use harptimber_bench::agreed::Agreed;
 use harptimber_bench::grid::{contender, Contender, Grid, Often};
 use harptimber_bench::pulls;
@@ -22,6 +23,7 @@ pub const HARPTIMBER: usize = 1;
 pub const REFERENCE_CAT: usize = 2;
 pub const CAT: usize = 3;
 pub const PULLS_ALONE: usize = 4;
+pub const RUNS_ALONE: usize = 5;
 
 /// A card and a file of it.
 pub struct Whole<'a> {
@@ -75,6 +77,14 @@ impl Whole<'_> {
         });
         let pulls = move || pulls::whole(PULLS[ARCHIVE], image, name, take);
         sides.push(contender(pulls));
+        let (mut memory, mut by_runs) = (Memory::new(), Vec::with_capacity(bytes.len()));
+        let ended = runs::whole(&mut memory, image, name, |part| {
+            by_runs.extend_from_slice(part)
+        });
+        let what = format!("a whole file by runs, {}", self.head());
+        agreed.see(ended == 3 && by_runs == *bytes, &what);
+        let runs = move || runs::whole(&mut memory, image, name, take);
+        sides.push(contender(runs));
         sides
     }
 }

@@ -1,0 +1,36 @@
+-- What the code found, where it stands, as a block; and a part of the buffer, written.
+use Prim.Native.Nat.{ℕ, _+_, _-_}
+use native.Mathlib.Omega.{arith}
+use mathlib.Core.Path.{_≡_, refl, ap, _∙_}
+use mathlib.Core.List.{List}
+use lib.ListN.{take, drop}
+use lib.Seq.{drop-drop}
+use borrow.Rule.Slice.PartMut.{putMid}
+use Rattle.field.specs.Card.{Card}
+use Rattle.walk.specs.Walk.{ok}
+use Rattle.node.specs.Block.{Fetched, hole, held}
+use Rattle.node.specs.declared.Data.{Data}
+use Rattle.node.specs.declared.Data.the-variants as d
+use Rattle.pull.specs.Walk.{Block, blockFound, Stands}
+use Rattle.file_run.specs.Walks.{putAt}
+
+-- what an address stands for, from a start on
+abbrev contentOf : Card → Data → ℕ → Fetched
+contentOf card d.Hole start = hole
+contentOf card (d.At address) start = held (drop start (card .block address))
+contentOf card (d.Stop answer) start = hole
+
+abbrev pub blockOf : Card → Data → ℕ → ℕ → Block
+blockOf card found start count = record { count = count; content = contentOf card found start }
+
+pub found-stands : (card : Card) (found : Data) (start count : ℕ) → Stands found → blockFound card found start count ≡ ok (blockOf card found start count)
+found-stands card d.Hole start count stands = refl
+found-stands card (d.At address) start count stands = refl
+found-stands card (d.Stop answer) start count stands = absurd stands
+
+pub part-put : (at : ℕ) (buffer bytes : List ℕ) (f : List ℕ → List ℕ) → bytes ≡ f (take (at + 4096 - at) (drop at buffer))
+    → putMid at (at + 4096 - at) buffer bytes ≡ putAt at (f (take 4096 (drop at buffer))) buffer
+part-put at buffer bytes f e =
+    let n : at + 4096 - at ≡ 4096 = omega arith in
+    let y : bytes ≡ f (take 4096 (drop at buffer)) = rw n at e in
+    ap (λ (k : ℕ). putMid at k buffer bytes) n ∙ rw (y, drop-drop 4096 at buffer)

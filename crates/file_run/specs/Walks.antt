@@ -1,0 +1,26 @@
+-- The walks that fill a buffer with blocks of one file, and what is so at each turn.
+use Prim.Native.Nat.{ℕ, _+_, _*_, _≤_}
+use mathlib.Core.List.{List, _++_}
+use lib.ListN.{length, take, drop}
+use Rattle.walk.specs.Walk.{Walk, bind}
+use Rattle.node.specs.Node.{Bounds, inodeWalk}
+use Rattle.pull.specs.Walk.{atFile}
+use Rattle.file_run.specs.Standing.{Standing, manyWalk, unlessStopped}
+
+-- n blocks from an index on, of the file with these inode bytes
+abbrev pub blocksWalk : Bounds → ℕ → List ℕ → ℕ → ℕ → Walk Standing
+blocksWalk m ino inode n index = manyWalk (λ j. atFile m j ino inode) n index
+
+-- of the file of an inode number, its inode walked to once
+unfoldable pub fileRunWalk : Bounds → ℕ → ℕ → ℕ → Walk Standing
+fileRunWalk m n index ino = bind (inodeWalk m ino) (unlessStopped (λ inode. blocksWalk m ino inode n index))
+
+-- a block's bytes put into a buffer from an offset on
+abbrev pub putAt : ℕ → List ℕ → List ℕ → List ℕ
+putAt at bytes buffer = take at buffer ++ (bytes ++ drop (at + 4096) buffer)
+
+-- a buffer with room for n blocks, as many as a run takes
+pub record RoomFor (n : ℕ) (buffer : List ℕ) : Type 0 where
+  pub some : 1 ≤ n
+  pub few : n ≤ 512
+  pub room : 4096 * n ≤ length buffer

@@ -1,0 +1,10 @@
+pub mod Families
+pub mod Each
+pub mod Five
+pub mod InFile
+pub mod Sizes
+pub mod Pulls
+pub mod Results
+pub mod Stood
+pub mod Theorems
+pub mod OneBlock
