@@ -1,9 +1,18 @@
 -- The walks that fill a buffer with blocks of one file, and what is so at each turn.
 use Prim.Native.Nat.{ℕ, _+_, _*_, _≤_}
+use mathlib.Core.Path.{_≡_}
+use mathlib.Core.Bool.{true}
 use mathlib.Core.List.{List, _++_}
 use lib.ListN.{length, take, drop}
+use Rattle.field.specs.Card.{Card}
+use Rattle.inode.specs.declared.Inode.{Inode}
+use Rattle.inode.specs.Inode.{inodeOf, isRegular, addressesIn}
 use Rattle.walk.specs.Walk.{Walk, bind}
+use Rattle.node.specs.declared.Data.{Data}
+use Rattle.node.specs.declared.Data.the-variants as d
+use Rattle.node.specs.declared.File.{File}
 use Rattle.node.specs.Node.{Bounds, inodeWalk}
+use Rattle.node.specs.Found.{FileIn}
 use Rattle.pull.specs.Walk.{atFile}
 use Rattle.file_run.specs.Standing.{Standing, manyWalk, unlessStopped}
 
@@ -24,3 +33,16 @@ pub record RoomFor (n : ℕ) (buffer : List ℕ) : Type 0 where
   pub some : 1 ≤ n
   pub few : n ≤ 512
   pub room : 4096 * n ≤ length buffer
+
+-- something was found: the walk wasn't stopped
+abbrev pub Stands : Data → Type 0
+Stands d.Hole = Unit {0}
+Stands (d.At address) = Unit {0}
+Stands (d.Stop answer) = ⊥
+
+-- a regular file of the card, and what is read of its inode
+pub record RegularFile (card : Card) (file : File) (i : Inode) : Type 0 where
+  pub inCard : FileIn card file
+  pub inodeIs : i ≡ inodeOf (card .block (file .inode))
+  pub regular : isRegular i ≡ true
+  pub addressesAre : file .addresses ≡ addressesIn i

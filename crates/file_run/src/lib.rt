@@ -5,13 +5,14 @@ ghost use Prim.Native.Nat.{_+_, _<_, _≤_};
 ghost use lib.ListN.{length, take, drop};
 ghost use Rattle.field.specs.Card.{cardOf};
 ghost use Rattle.checkpoint.specs.Volume.{VolumeIn};
-ghost use Rattle.walk.specs.Walk.{imageView, lists, Fits};
+ghost use Rattle.walk.specs.Walk.{imageView, lists, Walked, Fits};
 ghost use Rattle.node.specs.Node.{boundsOf};
 ghost use Rattle.node.specs.Found.{DataIn};
-ghost use Rattle.pull.specs.Walk.{blockFound, RegularFile};
+ghost use Rattle.node.specs.Leaf.{Keeps};
+ghost use Rattle.pull.specs.Walk.{atFile, blockFound};
 ghost use Rattle.pull.specs.Pull.{countOf, bufferAfter};
 ghost use Rattle.file_run.specs.Standing.{FilledAs};
-ghost use Rattle.file_run.specs.Walks.{blocksWalk, fileRunWalk, putAt, RoomFor};
+ghost use Rattle.file_run.specs.Walks.{Stands, RegularFile, blocksWalk, fileRunWalk, putAt, RoomFor};
 
 // The answer, how many blocks stand, the byte count of the last of them, and how many nodes and blocks are listed then.
 pub struct Filled {
@@ -19,6 +20,74 @@ pub struct Filled {
     pub count: u32,
     pub bytes: u32,
     pub counts: walk::Counts,
+}
+
+// A block of a file, where in it the file's bytes start and how many they are, the leaf that is kept for the next index, and how many nodes
+// and blocks are listed then.
+struct FileStep {
+    pub data: node::Data,
+    pub start: usize,
+    pub bytes: usize,
+    pub leaf: node::Leaf,
+    pub counts: walk::Counts,
+}
+
+// Block `index` of a regular file, whose inode is `i`. The kept leaf is asked first.
+fn file_block(
+    image: &[u8],
+    v: checkpoint::Volume,
+    nodes: &mut [u8],
+    blocks: &mut [u8],
+    counts: walk::Counts,
+    file: node::File,
+    i: inode::Inode,
+    index: u32,
+    kept: node::Leaf,
+) -> FileStep
+    requires { ⌜ Fits (imageView (now image) v) (atFile (boundsOf v) index (file .ino) (cardOf (now image) .block (file .inode)))
+        (lists (now nodes) (now blocks) counts) ⌝ }
+    requires { ⌜ VolumeIn (cardOf (now image)) v ⌝ }
+    requires { ⌜ RegularFile (cardOf (now image)) file i ⌝ }
+    requires { ⌜ Keeps (cardOf (now image)) v file index kept (lists (now nodes) (now blocks) counts) ⌝ }
+    ensures { λ r. ⌜ Walked (imageView (now (image .entry)) v)
+        (atFile (boundsOf v) index (file .ino) (cardOf (now (image .entry)) .block (file .inode)))
+        (lists (now (nodes .entry)) (now (blocks .entry)) counts) (blockFound (cardOf (now (image .entry))) (r .data) (r .start) (r .bytes))
+        (lists (now (nodes .exit)) (now (blocks .exit)) (r .counts)) ⌝ }
+    ensures { λ r. ⌜ DataIn (cardOf (now (image .entry))) (r .data) × (r .start + r .bytes ≤ 4096) ⌝ }
+    ensures { λ r. ⌜ Keeps (cardOf (now (image .entry))) v file (index + 1) (r .leaf)
+        (lists (now (nodes .exit)) (now (blocks .exit)) (r .counts)) ⌝ }
+    ensures { λ r. ⌜ (Stands (r .data) → index < 2147483648) ⌝ }
+{
+    if inode::is_past(i, index) {
+        return FileStep {
+            data: node::Data::Stop(answer::PAST_END),
+            start: 0,
+            bytes: 0,
+            leaf: node::no_leaf(),
+            counts,
+        };
+    }
+    let bytes = inode::count_in(i, index);
+    if inode::has_inline_data(i) {
+        return FileStep {
+            data: node::Data::At(file.inode),
+            start: inode::INLINE_START,
+            bytes,
+            leaf: node::no_leaf(),
+            counts,
+        };
+    }
+    let step = node::next_block(image, v, nodes, blocks, counts, file, index, kept);
+    let data = step.data;
+    let leaf = step.leaf;
+    let listed = step.counts;
+    FileStep {
+        data,
+        start: 0,
+        bytes,
+        leaf,
+        counts: listed,
+    }
 }
 
 // A block into its part of the buffer: the byte count.
@@ -70,7 +139,7 @@ fn fill(
     let mut j = index;
     let mut k: u32 = 0;
     while k < wanted {
-        let step = pull::file_block(image, v, nodes, blocks, listed, file, i, j, kept);
+        let step = file_block(image, v, nodes, blocks, listed, file, i, j, kept);
         listed = step.counts;
         kept = step.leaf;
         let data = step.data;

@@ -1,4 +1,4 @@
--- Runs of entries in lent bytes: how a search from the end and a shift see them, and what an insertion leaves.
+-- Runs of entries in lent bytes: how a search and a shift see them, and what an insertion leaves.
 use Prim.Native.Nat.{ℕ, zero, suc, _+_, _-_, _*_, _≤_, _<_}
 use mathlib.Core.Path.{_≡_, refl, ap, sym, subst, _∙_}
 use mathlib.Core.List.{List, [], _∷_, _++_, append-assoc, append-nil}
@@ -40,7 +40,7 @@ numbers-nil l i n h = let e : n - i ≡ 0 = omega arith in ap (λ (k : ℕ). num
 
 module _ (l : List ℕ) (i : ℕ) where
   -- the first n in two parts
-  numbers-cut : (n : ℕ) → i ≤ n → numbers l 0 n ≡ numbers l 0 i ++ numbers l i (n - i)
+  pub numbers-cut : (n : ℕ) → i ≤ n → numbers l 0 n ≡ numbers l 0 i ++ numbers l i (n - i)
   numbers-cut n h =
       let e : i + (n - i) ≡ n = omega arith in
       let z : 0 + i ≡ i = omega arith in
@@ -65,7 +65,7 @@ numbers-same l m i (suc k) f =
     let e : le32 m (4 * i) ≡ le32 l (4 * i) = f i (omega arith) (omega arith) in
     λ t. e t ∷ r t
 
--- ---- the search from the end
+-- ---- the search
 
 -- x goes among the first i entries, and all from entry i on keep their order behind it
 abbrev pub Passed : List ℕ → ℕ → ℕ → ℕ → Type 0
@@ -75,12 +75,13 @@ module _ (l : List ℕ) (n x : ℕ) where
   pub passed-start : Passed l n x n
   passed-start = rw (numbers-nil l n n (omega arith)) (sym (append-nil _))
 
-  -- one more entry is above x
-  pub passed-one : (i : ℕ) → 0 < i → i ≤ n → x < le32 l (4 * (i - 1)) → Passed l n x i → Passed l n x (i - 1)
-  passed-one i z h g p =
-      let e : i - 1 + 1 ≡ i = omega arith in
-      let c : numbers l (i - 1) (n - (i - 1)) ≡ le32 l (4 * (i - 1)) ∷ numbers l i (n - i) = rw e at (numbers-cons l (i - 1) n (omega arith)) in
-      p ∙ rw (numbers-last l i z, c, insert-front x (numbers l 0 (i - 1)) (le32 l (4 * (i - 1))) [] g) (append-assoc (insert x (numbers l 0 (i - 1))) _ _)
+  -- entry i is above x, and so are all behind it
+  pub passed-above : (i : ℕ) → i < n → x < le32 l (4 * i) → Passed l n x i
+  passed-above i h g =
+      let c = numbers-cons l i n h in
+      ap (insert x) (numbers-cut l i n (omega arith) ∙ ap (λ (s : List ℕ). numbers l 0 i ++ s) c)
+      ∙ insert-front x (numbers l 0 i) (le32 l (4 * i)) (numbers l (i + 1) (n - (i + 1))) g
+      ∙ ap (λ (s : List ℕ). insert x (numbers l 0 i) ++ s) (sym c)
 
   -- all are above x
   pub placed-first : (i : ℕ) → i ≤ 0 → Passed l n x i → Placed l n x (Before 0)

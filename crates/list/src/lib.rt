@@ -12,23 +12,38 @@ enum Spot {
     Present,
 }
 
-// The search starts at the end, where most numbers go.
+fn least(a: usize, b: usize) -> usize
+    ensures { λ r. ⌜ r ≤ b ⌝ }
+{
+    if a < b {
+        return a;
+    }
+    b
+}
+
+// The search starts at the end, where most numbers go, and reaches twice as far with each turn, until half of what is left is nearer.
 fn find_spot(list: &[u8], count: usize, x: u32) -> Spot
     requires { ⌜ Holds x (now list) count ⌝ }
     ensures { λ r. ⌜ Placed (now (list .entry)) count x r ⌝ }
 {
-    let mut i = count;
-    while i > 0 {
-        let y = field::get32(list, 4 * (i - 1));
-        if y < x {
-            return Spot::Before(i);
-        }
+    let mut low: usize = 0;
+    let mut high = count;
+    let mut reach: usize = 0;
+    while low < high {
+        let gap = least(reach, (high - low) / 2);
+        let middle = high - 1 - gap;
+        let y = field::get32(list, 4 * middle);
         if y == x {
             return Spot::Present;
         }
-        i -= 1;
+        reach = 2 * gap + 1;
+        if y < x {
+            low = middle + 1;
+            continue;
+        }
+        high = middle;
     }
-    Spot::Before(0)
+    Spot::Before(low)
 }
 
 // x put before entry p, and the entries from there on moved up by one.

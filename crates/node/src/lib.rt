@@ -470,11 +470,9 @@ pub fn data_block(
         (lists (now (nodes .exit)) (now (blocks .exit)) (r .counts)) ⌝ }
     ensures { λ r. ⌜ DataIn (cardOf (now (image .entry))) (r .data) ⌝ }
 {
-    let step = next_block(image, v, nodes, blocks, counts, file, index, no_leaf());
-    let data = step.data;
-    let listed = step.counts;
-    DataStep {
-        data,
-        counts: listed,
-    }
+    let came = find_leaf(image, v, nodes, blocks, counts, file, index);
+    let leaf = came.leaf;
+    let listed = came.counts;
+    let node = leaf.node;
+    from_leaf(image, v, nodes, blocks, listed, node, leaf.at)
 }

@@ -1,16 +1,10 @@
--- The tree of a file by cases: no run and no list is named. Then what the code found as what the walk comes to, and how far an index goes.
-use Prim.Native.Nat.{ℕ, _*_, _<_}
-use native.Mathlib.Omega.{arith}
+-- The tree of a file by cases: no run and no list is named. Then what the code found as what the walk comes to.
+use Prim.Native.Nat.{ℕ}
 use mathlib.Core.Path.{_≡_, refl}
-use mathlib.Core.Bool.{Bool, true, false, _||_}
+use mathlib.Core.Bool.{true, false}
 use mathlib.Core.List.{List}
 use lib.ListN.{drop}
-use lib.Dec.{leb, ltb}
-use borrow.Author.Tests.{ltb-false}
 use Rattle.field.specs.Card.{Card}
-use Rattle.field.proofs.Choosing.{clash}
-use Rattle.place.specs.Place.{lastIndex}
-use Rattle.inode.proofs.Counting.{few-addresses}
 use Rattle.walk.specs.Walk.{View, Walk, done, Outcome, ok, stop, bind, onward, andThen, Lists, Walked}
 use Rattle.walk.proofs.Reached.{reached-start, reached-then, reached-stop, reached-done}
 use Rattle.inode.specs.declared.Inode.{Inode}
@@ -59,13 +53,3 @@ pub counted-walked : (card : Card) (found : Data) (count : ℕ) {v : View} {p : 
 counted-walked card d.Hole count left = reached-done (reached-then (counted count) (reached-start _ _ _) left refl)
 counted-walked card (d.At address) count left = reached-done (reached-then (counted count) (reached-start _ _ _) left refl)
 counted-walked card (d.Stop answer) count left = reached-stop (counted count) (reached-start _ _ _) left refl
-
--- ---- an index that isn't past the end of a file is far below 32 bits
-pub inside-near : (i : Inode) (index : ℕ) → isPast i index ≡ false → index < 2147483648
-unfolding isPast
-inside-near i index h = go (leb (i .size) (index * 4096)) (ltb (lastIndex (addressesIn i)) index) refl h
-  where
-    go : (a b : Bool) → ltb (lastIndex (addressesIn i)) index ≡ b → a || b ≡ false → index < 2147483648
-    go a false e f = let far = ltb-false (lastIndex (addressesIn i)) index e in let few = few-addresses i in omega arith
-    go true true e f = absurd (clash refl f)
-    go false true e f = absurd (clash refl f)

@@ -1,8 +1,6 @@
 -- The walk of a pull: the path's names from the root on, the file, the block of the index. "walks the root, then the file, and stops at
 -- the first of 2, 3, 9 to 14 that it meets. At a node: 9, 10, then the block is read and listed, then 11, then 12, then 2 or 3."
 use Prim.Native.Nat.{ℕ}
-use mathlib.Core.Path.{_≡_}
-use mathlib.Core.Bool.{true}
 use mathlib.Core.List.{List}
 use lib.ListN.{drop}
 use Rattle.field.specs.Choice.{choose}
@@ -11,10 +9,7 @@ use Rattle.node.specs.Node.{Bounds, inodeWalk}
 use Rattle.node.specs.Block.{Fetched, hole, held, blockWalk}
 use Rattle.node.specs.declared.Data.{Data}
 use Rattle.node.specs.declared.Data.the-variants as d
-use Rattle.node.specs.declared.File.{File}
-use Rattle.node.specs.Found.{FileIn}
 use Rattle.field.specs.Card.{Card}
-use Rattle.inode.specs.declared.Inode.{Inode}
 use Rattle.inode.specs.Inode.{inodeOf, hasInlineData, inlineStart, isRegular, addressesIn, isPast, countIn}
 use Rattle.path.specs.Path.{partsOf}
 use Rattle.path_lookup.specs.Lookup.{rootIno, namesWalk}
@@ -57,16 +52,3 @@ abbrev pub blockFound : Card → Data → ℕ → ℕ → Outcome Block
 blockFound card d.Hole start count = ok (record { count = count; content = hole })
 blockFound card (d.At address) start count = ok (record { count = count; content = held (drop start (card .block address)) })
 blockFound card (d.Stop answer) start count = stop answer
-
--- something was found: the walk wasn't stopped
-abbrev pub Stands : Data → Type 0
-Stands d.Hole = Unit {0}
-Stands (d.At address) = Unit {0}
-Stands (d.Stop answer) = ⊥
-
--- a regular file of the card, and what is read of its inode
-pub record RegularFile (card : Card) (file : File) (i : Inode) : Type 0 where
-  pub inCard : FileIn card file
-  pub inodeIs : i ≡ inodeOf (card .block (file .inode))
-  pub regular : isRegular i ≡ true
-  pub addressesAre : file .addresses ≡ addressesIn i

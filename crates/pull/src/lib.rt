@@ -10,9 +10,8 @@ ghost use Rattle.checkpoint.specs.Volume.{VolumeIn};
 ghost use Rattle.walk.specs.Walk.{imageView, lists, none, Walked, Fits};
 ghost use Rattle.node.specs.Node.{boundsOf};
 ghost use Rattle.node.specs.Found.{DataIn};
-ghost use Rattle.node.specs.Leaf.{Keeps};
 ghost use Rattle.path.specs.Path.{namesMost, partCount, isPath};
-ghost use Rattle.pull.specs.Walk.{atFile, fileWalk, blockFound, Stands, RegularFile, pullWalk};
+ghost use Rattle.pull.specs.Walk.{atFile, fileWalk, blockFound, pullWalk};
 ghost use Rattle.pull.specs.Pull.{nodesMost, blocksMost, lending, result, lentInShape};
 ghost use Rattle.pull.specs.Pull.{answerOf, countOf, bufferAfter, written, pullRun, pulled};
 
@@ -31,73 +30,6 @@ struct BlockStep {
     pub start: usize,
     pub bytes: usize,
     pub counts: walk::Counts,
-}
-
-// The same, and the leaf that is kept for the next index.
-pub struct FileStep {
-    pub data: node::Data,
-    pub start: usize,
-    pub bytes: usize,
-    pub leaf: node::Leaf,
-    pub counts: walk::Counts,
-}
-
-// Block `index` of a regular file, whose inode is `i`. The kept leaf is asked first.
-pub fn file_block(
-    image: &[u8],
-    v: checkpoint::Volume,
-    nodes: &mut [u8],
-    blocks: &mut [u8],
-    counts: walk::Counts,
-    file: node::File,
-    i: inode::Inode,
-    index: u32,
-    kept: node::Leaf,
-) -> FileStep
-    requires { ⌜ Fits (imageView (now image) v) (atFile (boundsOf v) index (file .ino) (cardOf (now image) .block (file .inode)))
-        (lists (now nodes) (now blocks) counts) ⌝ }
-    requires { ⌜ VolumeIn (cardOf (now image)) v ⌝ }
-    requires { ⌜ RegularFile (cardOf (now image)) file i ⌝ }
-    requires { ⌜ Keeps (cardOf (now image)) v file index kept (lists (now nodes) (now blocks) counts) ⌝ }
-    ensures { λ r. ⌜ Walked (imageView (now (image .entry)) v)
-        (atFile (boundsOf v) index (file .ino) (cardOf (now (image .entry)) .block (file .inode)))
-        (lists (now (nodes .entry)) (now (blocks .entry)) counts) (blockFound (cardOf (now (image .entry))) (r .data) (r .start) (r .bytes))
-        (lists (now (nodes .exit)) (now (blocks .exit)) (r .counts)) ⌝ }
-    ensures { λ r. ⌜ DataIn (cardOf (now (image .entry))) (r .data) × (r .start + r .bytes ≤ 4096) ⌝ }
-    ensures { λ r. ⌜ Keeps (cardOf (now (image .entry))) v file (index + 1) (r .leaf)
-        (lists (now (nodes .exit)) (now (blocks .exit)) (r .counts)) ⌝ }
-    ensures { λ r. ⌜ (Stands (r .data) → index < 2147483648) ⌝ }
-{
-    if inode::is_past(i, index) {
-        return FileStep {
-            data: node::Data::Stop(answer::PAST_END),
-            start: 0,
-            bytes: 0,
-            leaf: node::no_leaf(),
-            counts,
-        };
-    }
-    let bytes = inode::count_in(i, index);
-    if inode::has_inline_data(i) {
-        return FileStep {
-            data: node::Data::At(file.inode),
-            start: inode::INLINE_START,
-            bytes,
-            leaf: node::no_leaf(),
-            counts,
-        };
-    }
-    let step = node::next_block(image, v, nodes, blocks, counts, file, index, kept);
-    let data = step.data;
-    let leaf = step.leaf;
-    let listed = step.counts;
-    FileStep {
-        data,
-        start: 0,
-        bytes,
-        leaf,
-        counts: listed,
-    }
 }
 
 // Block `index` of the file whose inode is the block `at`.
@@ -129,18 +61,35 @@ fn block_from_inode(
             counts,
         };
     }
+    if inode::is_past(i, index) {
+        return BlockStep {
+            data: node::Data::Stop(answer::PAST_END),
+            start: 0,
+            bytes: 0,
+            counts,
+        };
+    }
+    let bytes = inode::count_in(i, index);
+    if inode::has_inline_data(i) {
+        return BlockStep {
+            data: node::Data::At(at),
+            start: inode::INLINE_START,
+            bytes,
+            counts,
+        };
+    }
     let file = node::File {
         ino,
         inode: at,
         addresses: inode::addresses_in(i),
     };
-    let step = file_block(image, v, nodes, blocks, counts, file, i, index, node::no_leaf());
+    let step = node::data_block(image, v, nodes, blocks, counts, file, index);
     let data = step.data;
     let listed = step.counts;
     BlockStep {
         data,
-        start: step.start,
-        bytes: step.bytes,
+        start: 0,
+        bytes,
         counts: listed,
     }
 }

@@ -8,9 +8,9 @@ use Rattle.field.specs.Card.{Card, cardOf}
 use Rattle.walk.specs.Walk.{Outcome, ok, lists}
 use Rattle.node.specs.declared.Data.{Data}
 use Rattle.node.proofs.Keeping.{keeps-none}
-use Rattle.pull.specs.Walk.{Block, blockFound, Stands}
+use Rattle.pull.specs.Walk.{Block, blockFound}
 use Rattle.pull.specs.Pull.{countOf, bufferAfter}
-use Rattle.file_run.specs.Walks.{putAt}
+use Rattle.file_run.specs.Walks.{Stands, putAt}
 use Rattle.file_run.proofs.Found.{blockOf, found-stands}
 use Rattle.file_run.proofs.Turns.{Turn, turn-start, turn-fits, turn-stop, turn-next, turn-end}
 use borrow.Author.Needs.{needs}

@@ -11,11 +11,13 @@ use Rattle.walk.proofs.Fits.{fits-at, fits-first}
 use Rattle.node.specs.Node.{boundsOf}
 use Rattle.node.specs.Found.{fileBlockWalk}
 use Rattle.node.proofs.Keeping.{keeps-none}
-use Rattle.pull.specs.Walk.{Block, counted, atFile, RegularFile}
-use Rattle.pull.proofs.Cases.{file-past, file-inline, file-block, counted-walked, inside-near}
+use Rattle.pull.specs.Walk.{Block, counted, atFile}
+use Rattle.file_run.specs.Walks.{RegularFile}
+use Rattle.pull.proofs.Cases.{file-past, file-inline, file-block, counted-walked}
+use Rattle.file_run.proofs.Found.{inside-near}
 use borrow.Author.Needs.{needs}
-use Rattle.pull.proofs.file_block.Statement.{statement}
-use Rattle.pull.proofs.file_block.Tie as tie
+use Rattle.file_run.proofs.file_block.Statement.{statement}
+use Rattle.file_run.proofs.file_block.Tie as tie
 
 -- ---- the places on the way
 abbrev start-of : tie.After-is-past → tie.Start
