@@ -3,3 +3,4 @@ pub mod LevelRules
 pub mod InlineRules
 pub mod PathRules
 pub mod KeepRules
+pub mod RunRules

@@ -13,16 +13,20 @@ use Rattle.checkpoint.specs.declared.Opening.the-variants.{Opened}
 use Rattle.checkpoint.specs.Volume.{opened, openedImage}
 use Rattle.name_hash.specs.Name.{nameBytes}
 use Rattle.nat.specs.Lookup.{tableNumbers, lookupOf}
-use Rattle.list.specs.Lists.{bytesOf, over}
+use Rattle.list.specs.Lists.{bytesOf, insert, union, over}
 use Rattle.sit.specs.Opening.{openedWithSit}
 use Rattle.sit.proofs.Openings.{journal-opens}
 use Rattle.segment_report.specs.Report.{reported, offOn, reportOf, segmentReport}
 use Rattle.segment_report.proofs.Ends.{made}
 use Rattle.path.specs.Path.{partsOf, partCount, areNames, isPath}
-use Rattle.walk.specs.Walk.{Ran, Outcome}
+use Rattle.walk.specs.Walk.{Ran, ran, Outcome}
+use Rattle.node.specs.Block.{hole, held}
 use Rattle.pull.specs.Walk.{Block}
 use Rattle.pull.specs.Pull.{Lent, lending, Result, result, lentInShape, written, pullRun, pulled}
 use Rattle.pull.proofs.Results.{call-in-shape, call-opens}
+use Rattle.file_run.specs.Standing.{Standing, standing, bytesStanding}
+use Rattle.pull_run.specs.Run.{pullsFrom, runInShape, runPulls, runResult, runWritten, runPulled}
+use Rattle.pull_run.proofs.Results.{run-call-shape, run-opens}
 use Rattle.checkpoint.proofs.Inside.{image-volume}
 use Rattle.keep_file.specs.Layout.{fileEnd}
 use Rattle.keep.specs.Writing.{fileFrom, writing, refusedKeep, fileWritten, keepWritten}
@@ -153,3 +157,22 @@ a-keep-answers-0 room h =
 pub a-short-room-answers-17 : (room : List ℕ) → length room < 20581 → keepWritten image name 1 room ≡ refusedKeep 17 room
 a-short-room-answers-17 room h =
     writer-opens room ∙ sym (room-short (fileFrom (cardOf image) volume name 1) room file-length h)
+
+-- ---- K14, runs: of "brake.log" from block 0 on, a hole and seven bytes stand, and then its end is passed
+stands-then-3 : runPulls card volume name 0 3
+    ≡ ran (standing 3 (record { count = 4096; content = hole } ∷ record { count = 7; content = held dataBlock } ∷ []))
+    (record { nodes = 3 ∷ 4 ∷ []; blocks = 4193792 ∷ 4193793 ∷ 4193794 ∷ 4194303 ∷ [] })
+unfolding pullsFrom union insert
+stands-then-3 = rw (walks .1, walks .0, walks .2) refl
+
+-- 3, with two blocks and the last one's byte count; the hole is zeros, and the third block's bytes in the buffer stay
+pub a-run-answers-3 : (lent : Lent) → runInShape 1 3 lent ≡ true
+    → runPulled image name 0 3 lent
+    ≡ runResult (record { answer = 3; count = 2; «byte_count» = 7; «node_count» = 2; «block_count» = 4 })
+    (lending (replicate 4096 0 ++ ((content ++ replicate 4089 0) ++ []) ++ drop 8192 (lent .block)) (over (3 ∷ 4 ∷ []) (lent .nodes))
+    (over (4193792 ∷ 4193793 ∷ 4193794 ∷ 4194303 ∷ []) (lent .blocks)))
+unfolding partsOf partCount areNames isPath nameBytes dataBlock filled bytesStanding
+a-run-answers-3 lent fits =
+    run-opens image name 0 3 lent (Opened volume) (run-call-shape image name 0 3 lent image-shape refl fits) some-card-opens
+    ∙ ap (λ (c : Card). runWritten (runPulls c volume name 0 3) lent) image-card
+    ∙ ap (λ (r : Ran Standing). runWritten r lent) stands-then-3
