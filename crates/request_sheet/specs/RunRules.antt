@@ -74,4 +74,4 @@ run-rules = refl
 pub up-to-512 : (lent : Lent) → length (lent .nodes) ≡ 724 → length (lent .blocks) ≡ 3004
     → (length (lent .block) ≡ 2097152 → runInShape 1 512 lent ≡ true) × (length (lent .block) ≡ 2101248 → runInShape 1 513 lent ≡ false)
 unfolding runInShape
-up-to-512 lent nodes blocks = (λ whole. rw (whole, nodes, blocks) refl, λ whole. rw (whole, nodes, blocks) refl)
+up-to-512 lent nodes blocks = (λ whole. rw (whole, nodes, blocks) refl, λ _. refl)
