@@ -1,7 +1,7 @@
 -- The loop over the blocks of a run, for any walk to a single block: what is left is the run from block k on, behind those that stand.
 use Prim.Native.Nat.{ℕ, suc, _+_, _-_, _≤_, _<_}
 use native.Mathlib.Omega.{arith}
-use mathlib.Core.Path.{_≡_, refl, sym, ap, subst, _∙_}
+use mathlib.Core.Path.{_≡_, refl, sym, ap, _∙_}
 use mathlib.Core.List.{List, [], _∷_, _++_, append-nil, append-assoc}
 use lib.ListN.{length, length-append}
 use Rattle.walk.specs.Walk.{View, Walk, done, look, read, bind, Outcome, ok, stop, Lists, Walked, Fits}

@@ -153,7 +153,14 @@ fn fill(
             node::Data::Hole => {}
             node::Data::At(_) => {}
         }
-        last = put_at(image, data, step.start, step.bytes, buffer, 4096 * (k as usize));
+        last = put_at(
+            image,
+            data,
+            step.start,
+            step.bytes,
+            buffer,
+            4096 * (k as usize),
+        );
         j += 1;
         k += 1;
     }
@@ -201,7 +208,18 @@ fn fill_from_inode(
         inode: at,
         addresses: inode::addresses_in(i),
     };
-    fill(image, v, nodes, blocks, counts, file, i, index, wanted, buffer)
+    fill(
+        image,
+        v,
+        nodes,
+        blocks,
+        counts,
+        file,
+        i,
+        index,
+        wanted,
+        buffer,
+    )
 }
 
 // The blocks of the file of an inode number.
@@ -233,6 +251,17 @@ pub fn fill_of_file(
             bytes: 0,
             counts: listed,
         },
-        node::Found::At(at) => fill_from_inode(image, v, nodes, blocks, listed, ino, at, index, wanted, buffer),
+        node::Found::At(at) => fill_from_inode(
+            image,
+            v,
+            nodes,
+            blocks,
+            listed,
+            ino,
+            at,
+            index,
+            wanted,
+            buffer,
+        ),
     }
 }

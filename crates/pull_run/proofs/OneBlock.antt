@@ -4,7 +4,7 @@ use Prim.Native.Nat.{ℕ, _/_, _≤_}
 use native.Mathlib.Omega.{arith}
 use mathlib.Core.Path.{_≡_, refl, sym, ap, _∙_}
 use mathlib.Core.Bool.{Bool, true, false}
-use mathlib.Core.List.{List, [], _∷_, _++_, append-nil}
+use mathlib.Core.List.{List, [], _++_, append-nil}
 use lib.ListN.{length, drop, drop-of-length-le}
 use lib.Dec.{leb}
 use borrow.Author.Tests.{le-leb, lt-leb, eq-eqb}
@@ -65,8 +65,11 @@ module _ (image path : List ℕ) (index : ℕ) (lent : Lent) (shape : runInShape
       let nodes = nodes-fit (partCount path) 1 lent shape in
       let blocks = blocks-fit (partCount path) 1 lent shape in
       let whole = buffer-whole (partCount path) 1 lent shape in
-      rw (eq-eqb (length (lent .block)) 4096 (omega arith), le-leb (nodesMost (partCount path)) (length (lent .nodes) / 4) (omega arith),
-      le-leb (blocksMost (partCount path)) (length (lent .blocks) / 4) (omega arith))
+      rw (
+        eq-eqb (length (lent .block)) 4096 (omega arith),
+        le-leb (nodesMost (partCount path)) (length (lent .nodes) / 4) (omega arith),
+        le-leb (blocksMost (partCount path)) (length (lent .blocks) / 4) (omega arith),
+      )
 
   same-shape : callInShape image path lent ≡ runCallInShape image path 1 lent
   unfolding callInShape runCallInShape

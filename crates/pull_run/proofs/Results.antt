@@ -15,12 +15,12 @@ use Rattle.checkpoint.specs.Volume.{openedImage}
 use Rattle.path.specs.Path.{partCount, isPath, nameCount}
 use Rattle.path.proofs.Counting.{count-parts, count-some}
 use Rattle.walk.specs.declared.Counts.{Counts}
-use Rattle.walk.specs.Walk.{viewOf, empty, Ran, run, lists, none, Walked, Fits}
+use Rattle.walk.specs.Walk.{viewOf, empty, Ran, run, lists, none, Fits}
 use Rattle.walk.proofs.Fits.{fits-few}
 use Rattle.walk.proofs.Written.{left-value, left-counts, left-nodes, left-blocks}
 use Rattle.node.specs.Node.{boundsOf}
 use Rattle.pull.specs.Pull.{Lent, lending}
-use Rattle.file_run.specs.Standing.{Standing, standing, lastCount, bytesStanding, standingOver, FilledAs}
+use Rattle.file_run.specs.Standing.{Standing, lastCount, standingOver, FilledAs}
 use Rattle.file_run.specs.Walks.{RoomFor}
 use Rattle.pull_run.specs.Run.{wantedMost, runNodesMost, runBlocksMost, runInShape, runCallInShape, runPulls, runResult, refusedRun}
 use Rattle.pull_run.specs.Run.{runWritten, runPulledFrom, runPulled}

@@ -95,7 +95,8 @@ module _ (one : ℕ → Ran (Outcome Block)) where
     standing-sized zero index = refl
     standing-sized (suc n) index = go (one index .value) refl (pullsFrom one n (index + 1)) (standing-sized n (index + 1))
       where
-        go : (x : Outcome Block) → one index .value ≡ x → (rest : Ran Standing) → length (bytesStanding (rest .value .stand)) ≡ 4096 * length (rest .value .stand)
+        go : (x : Outcome Block) → one index .value ≡ x → (rest : Ran Standing)
+            → length (bytesStanding (rest .value .stand)) ≡ 4096 * length (rest .value .stand)
             → length (bytesStanding (joined (one index .seen) x rest .value .stand)) ≡ 4096 * length (joined (one index .seen) x rest .value .stand)
         go (stop answer) e rest ih = refl
         go (ok b) e rest ih =

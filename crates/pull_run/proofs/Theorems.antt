@@ -140,8 +140,8 @@ module _ (image path : List ℕ) (index wanted : ℕ) (lent : Lent) (v : Volume)
         let a : P i .numbers .answer ≡ answerOf (ok (s .block)) = ap (λ (r : Result). r .numbers .answer) p ∙ ap answerOf value in (
           omega arith,
           ap (λ (r : RunResult). take 4096 (drop (4096 * i) (r .memory .block))) wrote
-          ∙ s .bytes
-          ∙ sym (ap (λ (r : Result). r .memory .block) p ∙ ap (λ (o : Outcome Block). bufferAfter o (single .block)) value),
+              ∙ s .bytes
+              ∙ sym (ap (λ (r : Result). r .memory .block) p ∙ ap (λ (o : Outcome Block). bufferAfter o (single .block)) value),
         )
 
     -- "the run stops at the first answer that isn't 0 or 1, answers it (else 0) with how many stand"

@@ -13,7 +13,7 @@ ghost use Rattle.pull.specs.Pull.{lending};
 ghost use Rattle.file_run.specs.Standing.{FilledAs};
 ghost use Rattle.file_run.specs.Walks.{RoomFor};
 ghost use Rattle.pull_run.specs.Walk.{runWalk};
-ghost use Rattle.pull_run.specs.Run.{wantedMost, runNodesMost, runBlocksMost, runInShape, runPulls, runResult, refusedRun};
+ghost use Rattle.pull_run.specs.Run.{wantedMost, runNodesMost, runBlocksMost, runInShape, runPulls, runResult};
 ghost use Rattle.pull_run.specs.Run.{runWritten, runPulled};
 
 // A run's numbers, as they cross to C: how many blocks stand, and the byte count of the last of them.
@@ -58,7 +58,17 @@ fn fill_from_path(
             bytes: 0,
             counts: listed,
         },
-        directory::Entry::Found(ino) => file_run::fill_of_file(image, v, nodes, blocks, listed, ino, index, wanted, buffer),
+        directory::Entry::Found(ino) => file_run::fill_of_file(
+            image,
+            v,
+            nodes,
+            blocks,
+            listed,
+            ino,
+            index,
+            wanted,
+            buffer,
+        ),
     }
 }
 
@@ -138,6 +148,15 @@ pub fn pull_run(
     }
     match checkpoint::open(image) {
         checkpoint::Opening::Refused(number) => refused_run(number),
-        checkpoint::Opening::Opened(v) => run_opened(image, v, path, index, wanted, buffer, nodes, blocks),
+        checkpoint::Opening::Opened(v) => run_opened(
+            image,
+            v,
+            path,
+            index,
+            wanted,
+            buffer,
+            nodes,
+            blocks,
+        ),
     }
 }

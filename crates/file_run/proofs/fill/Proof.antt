@@ -1,5 +1,5 @@
 -- `fill` meets its contract. The loop's invariant: k blocks stand, the buffer holds them, and a leaf may be kept for the next index, j.
-use Prim.Native.Nat.{_+_, _-_, _*_}
+use Prim.Native.Nat.{_-_, _*_}
 use native.Mathlib.Omega.{arith}
 use mathlib.Core.Path.{_≡_, sym, ap, subst, _∙_}
 use mathlib.Core.Logic.{⊎-elim}

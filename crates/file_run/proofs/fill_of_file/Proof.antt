@@ -1,11 +1,13 @@
 -- `fill_of_file` meets its contract: the inode's node once, then the blocks from the inode.
-use Prim.Native.Nat.{_<_}
+use Prim.Native.Nat.{ℕ, _<_}
 use mathlib.Core.Path.{_≡_, ap, subst}
+use mathlib.Core.List.{List}
 use Rattle.field.specs.Card.{Card, cardOf}
-use Rattle.walk.specs.Walk.{ok}
+use Rattle.walk.specs.Walk.{Walk, ok}
 use Rattle.walk.proofs.Fits.{fits-part}
 use Rattle.node.specs.Node.{boundsOf}
 use Rattle.node.specs.Found.{foundOf, FoundIn}
+use Rattle.file_run.specs.Standing.{Standing}
 use Rattle.file_run.specs.Walks.{blocksWalk, fileRunWalk}
 use Rattle.file_run.proofs.Unless.{unless-stop, unless-fits, unless-filled}
 use borrow.Author.Needs.{needs}
@@ -21,6 +23,10 @@ start-of l = step-of l .before .before .before .before .before .before .before
 
 abbrev card-of : tie.After-listed → Card
 card-of l = cardOf (start-of l .args .image .now)
+
+-- what follows the inode
+abbrev rest-of : tie.After-listed → List ℕ → Walk Standing
+rest-of l inode = let a = start-of l .args in blocksWalk (boundsOf (a .v)) (a .ino) inode (a .wanted) (a .index)
 
 -- the inode was found, and lies on the card
 abbrev found-of : tie.After-found2 → tie.After-listed
@@ -52,10 +58,8 @@ unfolding fileRunWalk
 fill-from-inode-requires c κs =
     let k = c .before .before .before .before in
     let l = found-of k in
-    let a = start-of l .args in
     let known = start-of l .pre in
-    let fits = unless-fits (λ inode. blocksWalk (boundsOf (a .v)) (a .ino) inode (a .wanted) (a .index)) (step-of l .node-step .ensures .0) (value k) (known .0) in
-    (fits, (known .1 .0, (on-card k, known .1 .1)))
+    (unless-fits (rest-of l) (step-of l .node-step .ensures .0) (value k) (known .0), (known .1 .0, (on-card k, known .1 .1)))
 
 same-length : tie.Need-same-length
 same-length c = search needs
@@ -68,8 +72,7 @@ unfolding fileRunWalk
 returns c =
     let k = c .before in
     let l = k .before .before in
-    let a = start-of l .args in
-    unless-stop (λ inode. blocksWalk (boundsOf (a .v)) (a .ino) inode (a .wanted) (a .index)) (step-of l .node-step .ensures .0)
+    unless-stop (rest-of l) (step-of l .node-step .ensures .0)
     (ap (foundOf (card-of l)) (k .found .given .1))
 
 same-length-3 : tie.Need-same-length-3
@@ -87,8 +90,7 @@ returns-2 c =
     let end = c .before .before .before .before .before .before in
     let k = end .before .before .before .before .before in
     let l = found-of k in
-    let a = start-of l .args in
-    unless-filled (λ inode. blocksWalk (boundsOf (a .v)) (a .ino) inode (a .wanted) (a .index)) (step-of l .node-step .ensures .0) (value k)
+    unless-filled (rest-of l) (step-of l .node-step .ensures .0) (value k)
     (end .fill-from-inode .ensures)
 
 pub fill-of-file-spec : {M : Type 1} → statement M
