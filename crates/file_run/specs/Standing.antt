@@ -1,4 +1,4 @@
--- Blocks of a file from an index on: those that stand, and the answer that ended them. Walked one behind the other, over the same lists.
+-- K14: blocks of a file from an index on, those that stand and the answer that ended them; and the walks to them, one behind the other.
 use Prim.Native.Nat.{ℕ, zero, suc, _+_, _*_}
 use mathlib.Core.Path.{_≡_}
 use mathlib.Core.List.{List, [], _∷_, _++_}
@@ -25,7 +25,7 @@ lastCount [] = 0
 lastCount (b ∷ []) = b .count
 lastCount (b ∷ c ∷ bs) = lastCount (c ∷ bs)
 
--- the bytes of the blocks that stand, each as a pull has them in its buffer
+-- "Each block's bytes are what the single pull gives, holes not told apart": one behind the other
 unfoldable pub bytesStanding : List Block → List ℕ
 bytesStanding [] = []
 bytesStanding (b ∷ bs) = contentBytes (b .count) (b .content) ++ bytesStanding bs

@@ -1,4 +1,4 @@
--- The walks that fill a buffer with blocks of one file, and what is so at each turn.
+-- The walks that fill a buffer with blocks of one file, and what the code asks of the file and the buffer.
 use Prim.Native.Nat.{ℕ, _+_, _*_, _≤_}
 use mathlib.Core.Path.{_≡_}
 use mathlib.Core.Bool.{true}
@@ -28,13 +28,13 @@ fileRunWalk m n index ino = bind (inodeWalk m ino) (unlessStopped (λ inode. blo
 abbrev pub putAt : ℕ → List ℕ → List ℕ → List ℕ
 putAt at bytes buffer = take at buffer ++ (bytes ++ drop (at + 4096) buffer)
 
--- a buffer with room for n blocks, as many as a run takes
+-- a buffer with room for n blocks, 1 to 512
 pub record RoomFor (n : ℕ) (buffer : List ℕ) : Type 0 where
   pub some : 1 ≤ n
   pub few : n ≤ 512
   pub room : 4096 * n ≤ length buffer
 
--- something was found: the walk wasn't stopped
+-- a block stands, data or a hole: nothing stopped the walk
 abbrev pub Stands : Data → Type 0
 Stands d.Hole = Unit {0}
 Stands (d.At address) = Unit {0}

@@ -25,10 +25,10 @@ use Rattle.compare.specs.declared.Difference.the-variants.{Same, BoundsDiffer, 
 use Rattle.compare.specs.Difference.{difference}
 use Rattle.compare.specs.Compare.{answered, verdict}
 use Rattle.list.proofs.Searching.{FirstNot}
-use Rattle.compare.proofs.Differences.{SameTable, SameBlock, difference-same, same-difference, difference-bounds, difference-node, difference-block}
-use Rattle.compare.proofs.Openings.{says-same, says-changed, lists-compared, compared-opened}
+use Rattle.compare.proofs.Differences.{SameTable, SameBlock, difference-bounds, difference-node, difference-block}
 use Rattle.pull_again.specs.Demand.{PastOpening, said, SameOn, SamePull}
-use Rattle.pull_again.proofs.Steps.{Came, past-came, lists-fit, nodes-of-run, blocks-of-run, same-run, same-written, told-same, some-past, all-same}
+use Rattle.pull_again.proofs.Steps.{Came, past-came, lists-fit, nodes-of-run, blocks-of-run, same-run, same-written, exactly-same, else-changed, told-same, some-past, all-same}
+use Rattle.pull_again.proofs.Steps as steps
 
 module _ (kept path : List ℕ) (index : ℕ) (lent : Lent) (past : PastOpening (pulled kept path index lent))
     (fresh : List ℕ) (u : Volume) (freshOpens : openedImage fresh ≡ Opened u) where
@@ -55,24 +55,16 @@ module _ (kept path : List ℕ) (index : ℕ) (lent : Lent) (past : PastOpening 
 
   -- Compare takes the lists and says what the first difference is
   says : said kept fresh (pulled kept path index lent) ≡ verdict first
-  says =
-      compared-opened kept fresh _ _ v u kept-opened freshOpens
-      ∙ lists-compared (cardOf kept) v (cardOf fresh) u _ _ (lists-fit kept path index lent came)
-
-  agreed : first ≡ Same → SameOn kept v fresh u nodes blocks
-  agreed e = let all = difference-same _ _ _ _ _ _ e in record { bounds = all .0; tables = all .1; bytes = all .2 }
+  says = steps.says kept v fresh u _ _ kept-opened freshOpens (lists-fit kept path index lent came)
 
   -- "It says "same" exactly if both images have the same main area bounds, each listed node number has the same table answer in both,
   -- and each listed block the same 4,096 bytes in both."
   pub same-exactly-if : (said kept fresh (pulled kept path index lent) .answer ≡ 15) ↔ SameOn kept v fresh u nodes blocks
-  same-exactly-if = (λ e. agreed (says-same first (ap (λ x. x .answer) (sym says) ∙ e)), λ s. ap (λ x. x .answer) (says ∙ ap verdict (alike s)))
-    where
-      alike : SameOn kept v fresh u nodes blocks → first ≡ Same
-      alike s = same-difference _ _ _ _ _ _ (s .bounds) (s .tables) (s .bytes)
+  same-exactly-if = exactly-same kept v fresh u _ _ kept-opened freshOpens (lists-fit kept path index lent came)
 
   -- "Otherwise it says "changed"."
   pub otherwise-changed : (SameOn kept v fresh u nodes blocks → ⊥) → said kept fresh (pulled kept path index lent) .answer ≡ 16
-  otherwise-changed differ = ap (λ x. x .answer) says ∙ says-changed first (λ e. differ (agreed e))
+  otherwise-changed = else-changed kept v fresh u _ _ kept-opened freshOpens (lists-fit kept path index lent came)
 
   -- .. "with kind and number of the first difference: 1 main area bounds (number 0), 2 lowest node number
   -- (table answer), 3 lowest block (bytes)". FirstNot P l x: x is in l, P fails of it and holds of all before it.

@@ -1,10 +1,11 @@
 -- Demand 3 for runs of pulls: "same", said of a run's lists, means the same run on the new image. And Compare takes the lists of every run
 -- that got past opening.
-use Prim.Native.Nat.{ℕ, _*_, _≤_}
+use Prim.Native.Nat.{ℕ, _+_, _*_, _≤_, _<_}
 use native.Mathlib.Omega.{arith}
 use mathlib.Core.Path.{_≡_, refl, sym, ap, subst, _∙_}
 use mathlib.Core.Bool.{true}
-use mathlib.Core.List.{List}
+use mathlib.Core.Logic.{_↔_}
+use mathlib.Core.List.{List, List·Memᴰ}
 use lib.ListN.{length, take, drop}
 use lib.Seq.{take-append-seam}
 use Rattle.field.specs.Card.{cardOf}
@@ -14,6 +15,7 @@ use Rattle.checkpoint.specs.Volume.{openedImage}
 use Rattle.checkpoint.proofs.Inside.{image-shaped}
 use Rattle.nat.specs.Table.{tableAnswer}
 use Rattle.list.specs.Lists.{Rising, AllOf, entries}
+use Rattle.list.proofs.Rises.{all-map, all-mem, mem-all}
 use Rattle.list.proofs.Members.{mem-some}
 use Rattle.list.proofs.Written.{numbers-over, over-inside}
 use Rattle.walk.specs.Walk.{viewOf, empty, Ran, run, BothRise}
@@ -22,24 +24,21 @@ use Rattle.node.specs.Node.{Bounds, boundsOf, inMain}
 use Rattle.path.specs.Path.{partCount}
 use Rattle.path_lookup.specs.Lookup.{rootIno}
 use Rattle.pull.specs.Walk.{pullWalk}
-use Rattle.pull.specs.Pull.{Lent, pullRun}
-use Rattle.pull.proofs.Theorems.{run-root}
+use Rattle.pull.specs.Pull.{Lent, Result, lentInShape, nodesLeft, blocksLeft, pullRun, pulled}
+use Rattle.pull.proofs.Theorems.{run-root, run-some}
 use Rattle.compare.specs.Lists.{listsInShape}
-use Rattle.compare.specs.declared.Compared.{Compared}
-use Rattle.compare.specs.Compare.{verdict}
-use Rattle.compare.proofs.Differences.{same-difference}
-use Rattle.compare.proofs.Openings.{lists-compared, compared-opened}
 use Rattle.compare.proofs.Shapes.{ListsFit, lists-in-shape}
 use Rattle.file_run.specs.Standing.{Standing, manyWalk, bytesStanding, standingOver}
-use Rattle.pull_run.specs.Run.{runInShape, runCallInShape, runPulls, RunResult, runNodesLeft, runBlocksLeft, runWritten, runPulled}
+use Rattle.pull_run.specs.Run.{runInShape, runCallInShape, runPulls, RunResult, runNodesLeft, runBlocksLeft, refusedRun, runWritten, runPulled}
 use Rattle.pull_run.proofs.Pulls.{run-is}
 use Rattle.pull_run.proofs.Results.{some-wanted, run-opens, run-path-shape, run-lent-shape, run-call-shape}
 use Rattle.pull_run.proofs.Sizes.{run-inside}
 use Rattle.pull_run.proofs.Stood as stood
-use Rattle.pull_run.proofs.Theorems.{RunEnds, refusal, walked, run-ends, standing-length}
-use Rattle.pull_again.specs.Demand.{SameOn}
+use Rattle.pull_run.proofs.Theorems.{RunEnds, outOfShape, notOpened, walked, run-ends, standing-length, pull-wrote, nodes-together, blocks-together}
+use Rattle.pull_again.specs.Demand.{PastOpening, said, SameOn, SamePull}
 use Rattle.pull_again.specs.Runs.{saidOfRun, SameRun}
-use Rattle.pull_again.proofs.Steps.{ToldSame, told-same, all-same}
+use Rattle.pull_again.proofs.Steps.{past-came, exactly-same, else-changed, ToldSame, told-same, some-past, all-same}
+use Rattle.pull_again.proofs.Demand.{same-exactly-if, whenever-same}
 
 -- ---- what a run that got past opening left
 pub record RunCame (image path : List ℕ) (index wanted : ℕ) (lent : Lent) (v : Volume) : Type 0 where
@@ -65,10 +64,12 @@ listed-came : (image path : List ℕ) (index wanted : ℕ) (lent : Lent) (v : Vo
     → 1 ≤ runNodesLeft (runPulled image path index wanted lent) .count → RunCame image path index wanted lent v
 listed-came image path index wanted lent v opens some = go (run-ends image path index wanted lent) some
   where
+    none : {r : RunResult} {answer : ℕ} → r ≡ refusedRun answer lent → 1 ≤ runNodesLeft r .count → ⊥
+    none e l = let z = ap (λ (r : RunResult). runNodesLeft r .count) e in omega arith
+
     go : {r : RunResult} → RunEnds image path index wanted lent r → 1 ≤ runNodesLeft r .count → RunCame image path index wanted lent v
-    go {r} (refusal answer p q e) l =
-        let none : runNodesLeft r .count ≡ 0 = ap (λ (r : RunResult). runNodesLeft r .count) e in
-        absurd (omega arith)
+    go (outOfShape h e) l = absurd (none e l)
+    go (notOpened answer o p q e) l = absurd (none e l)
     go (walked u p q e) l = record { opens = opens; shape = p }
 
 -- ---- the tree's law, applied once
@@ -160,11 +161,72 @@ module _ (image path : List ℕ) (index wanted : ℕ) (lent : Lent) (v : Volume)
         inside = subst (AllOf (λ b. inMain (boundsOf v) b ≡ true)) (sym (numbers-over (r .seen .blocks) (lent .blocks))) inside;
       }
 
+  -- "It says "same" exactly if both images have the same main area bounds, each listed node number has the same table answer in both, and
+  -- each listed block the same 4,096 bytes in both", of a run's lists; "Otherwise it says "changed"."
+  module _ (fresh : List ℕ) (u : Volume) (freshOpens : openedImage fresh ≡ Opened u) where
+    abbrev nodes : List ℕ
+    nodes = entries (runNodesLeft (runPulled image path index wanted lent))
+
+    abbrev blocks : List ℕ
+    blocks = entries (runBlocksLeft (runPulled image path index wanted lent))
+
+    pub run-same-exactly-if : (saidOfRun image fresh (runPulled image path index wanted lent) .answer ≡ 15) ↔ SameOn image v fresh u nodes blocks
+    run-same-exactly-if = exactly-same image v fresh u _ _ (came .opens) freshOpens lists-fit
+
+    pub run-otherwise-changed : (SameOn image v fresh u nodes blocks → ⊥) → saidOfRun image fresh (runPulled image path index wanted lent) .answer ≡ 16
+    run-otherwise-changed = else-changed image v fresh u _ _ (came .opens) freshOpens lists-fit
+
+  -- compared with itself, an image is "same"
   pub run-same-itself : saidOfRun image image (runPulled image path index wanted lent) .answer ≡ 15
   run-same-itself =
-      let l = entries (runNodesLeft (runPulled image path index wanted lent)) in
-      let b = entries (runBlocksLeft (runPulled image path index wanted lent)) in
-      ap (λ (x : Compared). x .answer)
-      (compared-opened image image _ _ v v (came .opens) (came .opens)
-      ∙ lists-compared (cardOf image) v (cardOf image) v _ _ lists-fit
-      ∙ ap verdict (same-difference _ _ _ _ _ _ refl (all-same _ (tableAnswer (cardOf image) v) l) (all-same _ (cardOf image .block) b)))
+      run-same-exactly-if image v (came .opens) .1
+      (record {
+        bounds = refl;
+        tables = all-same _ (tableAnswer (cardOf image) v) (entries (runNodesLeft (runPulled image path index wanted lent)));
+        bytes = all-same _ (cardOf image .block) (entries (runBlocksLeft (runPulled image path index wanted lent)));
+      })
+
+-- ---- .. and so is each of its pulls by itself, the one that ended it too
+module _ (kept fresh path : List ℕ) (index wanted : ℕ) (lent single : Lent) (takes : lentInShape (partCount path) single ≡ true)
+    (e : saidOfRun kept fresh (runPulled kept path index wanted lent) .answer ≡ 15) (i : ℕ) (wants : i < wanted)
+    (reached : i ≤ runPulled kept path index wanted lent .numbers .count) where
+  told : ToldSame kept fresh (runNodesLeft (runPulled kept path index wanted lent)) (runBlocksLeft (runPulled kept path index wanted lent))
+  told = told-same kept fresh _ _ e
+
+  came : RunCame kept path index wanted lent (told .v)
+  came = listed-came kept path index wanted lent (told .v) (told .keptOpens) (told .some)
+
+  past : PastOpening (pulled kept path (index + i) single)
+  past =
+      some-past kept path (index + i) single
+      (subst (λ (r : Result). 1 ≤ nodesLeft r .count) (sym (pull-wrote kept path index wanted lent (told .v) (came .shape) (came .opens) single takes i))
+      (run-some (cardOf kept) (told .v) path (index + i)))
+
+  -- all that it lists, the run lists
+  on : SameOn kept (told .v) fresh (told .u) (entries (nodesLeft (pulled kept path (index + i) single)))
+      (entries (blocksLeft (pulled kept path (index + i) single)))
+  on = record {
+    bounds = told .on .bounds;
+    tables = part _ _ _ (told .on .tables) (λ x m. nodes-together kept path index wanted lent (told .v) (came .shape) (came .opens) single takes x .1
+        (record { at = i; wants = wants; reached = reached; listed = m }));
+    bytes = part _ _ _ (told .on .bytes) (λ x m. blocks-together kept path index wanted lent (told .v) (came .shape) (came .opens) single takes x .1
+        (record { at = i; wants = wants; reached = reached; listed = m }));
+  }
+    where
+      part : (P : ℕ → Type 0) (l m : List ℕ) → AllOf P l → ((x : ℕ) → List·Memᴰ x m → List·Memᴰ x l) → AllOf P m
+      part P l m all f = all-map (λ x h. all-mem P l all (f x h)) m (mem-all m)
+
+  pub pull-said-same : said kept fresh (pulled kept path (index + i) single) .answer ≡ 15
+  pull-said-same =
+      let same : told .v ≡ past-came kept path (index + i) single past .v =
+      opened-once (sym (told .keptOpens) ∙ past-came kept path (index + i) single past .opens) in
+      same-exactly-if kept path (index + i) single past fresh (told .u) (told .freshOpens) .1
+      (subst (λ (w : Volume). SameOn kept w fresh (told .u) (entries (nodesLeft (pulled kept path (index + i) single)))
+      (entries (blocksLeft (pulled kept path (index + i) single)))) same on)
+    where
+      opened-once : {v w : Volume} → Opened v ≡ Opened w → v ≡ w
+      opened-once f = cc
+
+  pub each-pull-same : (single' : Lent) → lentInShape (partCount path) single' ≡ true
+      → SamePull (pulled kept path (index + i) single) (pulled fresh path (index + i) single')
+  each-pull-same single' takes' = whenever-same kept fresh path (index + i) single single' takes' pull-said-same

@@ -5,7 +5,7 @@ use native.Mathlib.Omega.{arith}
 use mathlib.Core.Path.{_≡_, refl, sym, ap, subst, _∙_}
 use mathlib.Core.Bool.{true}
 use mathlib.Core.List.{List, [], _∷_}
-use mathlib.Core.Logic.{_⊎_, inl, ⊎-elim}
+use mathlib.Core.Logic.{_⊎_, inl, ⊎-elim, _↔_}
 use Rattle.field.specs.Card.{cardOf}
 use Rattle.checkpoint.specs.declared.Volume.{Volume}
 use Rattle.checkpoint.specs.declared.Opening.the-variants.{Opened}
@@ -22,10 +22,13 @@ use Rattle.pull.proofs.Sizes.{Counted}
 use Rattle.pull.proofs.Theorems.{PullEnds, refusal, walked, ends, ending-inside, content-few, run-rises, run-inside, run-ended, run-some}
 use Rattle.compare.specs.Lists.{listsInShape}
 use Rattle.compare.specs.declared.Compared.{Compared}
-use Rattle.compare.specs.Compare.{compared}
+use Rattle.compare.specs.declared.Difference.{Difference}
+use Rattle.compare.specs.declared.Difference.the-variants.{Same}
+use Rattle.compare.specs.Difference.{difference}
+use Rattle.compare.specs.Compare.{verdict, compared}
 use Rattle.compare.proofs.Shapes.{ListsFit, lists-in-shape, in-shape-lists}
-use Rattle.compare.proofs.Differences.{difference-same}
-use Rattle.compare.proofs.Openings.{says-same}
+use Rattle.compare.proofs.Differences.{difference-same, same-difference}
+use Rattle.compare.proofs.Openings.{says-same, says-changed, lists-compared, compared-opened}
 use Rattle.compare.proofs.Theorems.{CompareEnds, badLength, keptRefused, freshRefused, badLists, told}
 use Rattle.compare.proofs.Theorems as compare
 use Rattle.pull_again.specs.Demand.{PastOpening, SameOn, SamePull}
@@ -103,6 +106,27 @@ same-written r lent lent' ended = record {
     same-block : (o : Outcome Block) → Ended Counted o → answerOf o ≤ 1 → bufferAfter o (lent .block) ≡ bufferAfter o (lent' .block)
     same-block (ok b) q l = refl
     same-block (stop answer) q l = let least = ending-inside answer q .0 in absurd (omega arith)
+
+-- ---- lists that Compare takes: it says "same" exactly if both images agree on all that they list, else "changed"
+module _ (kept : List ℕ) (v : Volume) (fresh : List ℕ) (u : Volume) (nodes blocks : Listed) (keptOpens : openedImage kept ≡ Opened v)
+    (freshOpens : openedImage fresh ≡ Opened u) (takes : listsInShape (boundsOf v) nodes blocks ≡ true) where
+  abbrev first : Difference
+  first = difference (boundsOf v) (boundsOf u) (viewOf (cardOf kept) v) (viewOf (cardOf fresh) u) (entries nodes) (entries blocks)
+
+  pub says : compared kept fresh nodes blocks ≡ verdict first
+  says = compared-opened kept fresh nodes blocks v u keptOpens freshOpens ∙ lists-compared (cardOf kept) v (cardOf fresh) u nodes blocks takes
+
+  agreed : first ≡ Same → SameOn kept v fresh u (entries nodes) (entries blocks)
+  agreed e = let all = difference-same _ _ _ _ _ _ e in record { bounds = all .0; tables = all .1; bytes = all .2 }
+
+  pub exactly-same : (compared kept fresh nodes blocks .answer ≡ 15) ↔ SameOn kept v fresh u (entries nodes) (entries blocks)
+  exactly-same = (
+    λ e. agreed (says-same first (ap (λ (x : Compared). x .answer) (sym says) ∙ e)),
+    λ s. ap (λ (x : Compared). x .answer) (says ∙ ap verdict (same-difference _ _ _ _ _ _ (s .bounds) (s .tables) (s .bytes))),
+  )
+
+  pub else-changed : (SameOn kept v fresh u (entries nodes) (entries blocks) → ⊥) → compared kept fresh nodes blocks .answer ≡ 16
+  else-changed differ = ap (λ (x : Compared). x .answer) says ∙ says-changed first (λ e. differ (agreed e))
 
 -- ---- "same" is said only of two images that open and agree on all that is listed, and at least one node is
 pub record ToldSame (kept fresh : List ℕ) (nodes blocks : Listed) : Type 0 where

@@ -6,10 +6,8 @@ use mathlib.Core.Path.{_≡_, refl, sym, ap, _∙_}
 use mathlib.Core.Bool.{Bool, true, false}
 use mathlib.Core.List.{List, [], _++_, append-nil}
 use lib.ListN.{length, drop, drop-of-length-le}
-use lib.Dec.{leb}
 use borrow.Author.Tests.{le-leb, lt-leb, eq-eqb}
 use Rattle.field.specs.Card.{cardOf}
-use Rattle.field.specs.Choice.{choose}
 use Rattle.checkpoint.specs.declared.Opening.{Opening}
 use Rattle.checkpoint.specs.declared.Opening.the-variants.{Opened, Refused}
 use Rattle.checkpoint.specs.Volume.{openedImage}
@@ -18,26 +16,13 @@ use Rattle.path.specs.Path.{partCount}
 use Rattle.list.proofs.Members.{union-none}
 use Rattle.walk.specs.Walk.{Seen, empty, ran, Outcome, ok, stop, Ended, BothRise}
 use Rattle.pull.specs.Walk.{Block}
-use Rattle.pull.specs.Pull.{nodesMost, blocksMost, Lent, Result, lentInShape, callInShape, contentAnswer, contentBytes, written, refusedPull, pullRun, pulled}
+use Rattle.pull.specs.Pull.{nodesMost, blocksMost, Lent, lentInShape, callInShape, contentAnswer, contentBytes, written, refusedPull, pullRun, pulled}
 use Rattle.pull.proofs.Sizes.{Counted}
 use Rattle.pull.proofs.Results.{call-refused, call-opens}
 use Rattle.pull.proofs.Theorems.{ending-inside, content-few, run-rises, run-ended}
 use Rattle.file_run.specs.Standing.{standing, bytesStanding}
-use Rattle.pull_run.specs.Run.{joined, pullsFrom, runInShape, runCallInShape, RunResult, runResult, refusedRun, runWritten, runPulled}
+use Rattle.pull_run.specs.Run.{joined, pullsFrom, runInShape, runCallInShape, refusedRun, runWritten, runPulled, asRun}
 use Rattle.pull_run.proofs.Results.{buffer-whole, nodes-fit, blocks-fit, run-refused, run-opens}
-
--- a pull's result as that of a run: 0 and 1 are a block that stands, answered with 0
-pub asRun : Result → RunResult
-asRun r =
-    runResult
-    (record {
-      answer = choose (leb (r .numbers .answer) 1) 0 (r .numbers .answer);
-      count = choose (leb (r .numbers .answer) 1) 1 0;
-      «byte_count» = r .numbers .«byte_count»;
-      «node_count» = r .numbers .«node_count»;
-      «block_count» = r .numbers .«block_count»;
-    })
-    (r .memory)
 
 -- ---- refused, by any answer above 1
 as-refused : (answer : ℕ) (lent : Lent) → 2 ≤ answer → asRun (refusedPull answer lent) ≡ refusedRun answer lent
@@ -75,7 +60,7 @@ module _ (image path : List ℕ) (index : ℕ) (lent : Lent) (shape : runInShape
   unfolding callInShape runCallInShape
   same-shape = rw (takes, shape) refl
 
-  -- "a run of one is the single pull but for the hole's number"
+  -- so it is, but for the hole's number
   pub one-block : runPulled image path index 1 lent ≡ asRun (pulled image path index lent)
   unfolding pullsFrom
   one-block = go (runCallInShape image path 1 lent) refl (openedImage image) refl

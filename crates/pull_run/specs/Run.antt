@@ -15,7 +15,7 @@ use Rattle.path.specs.Path.{partCount, isPath}
 use Rattle.list.specs.Lists.{Listed, listing, over}
 use Rattle.walk.specs.Walk.{Seen, empty, unionSeen, Ran, ran, Outcome, ok, stop}
 use Rattle.pull.specs.Walk.{Block}
-use Rattle.pull.specs.Pull.{Lent, lending, pullRun}
+use Rattle.pull.specs.Pull.{Lent, lending, Result, pullRun}
 use Rattle.file_run.specs.Standing.{Standing, standing, before, lastCount, standingOver}
 use Rattle.pull_run.specs.declared.Run.{Run}
 
@@ -24,7 +24,7 @@ abbrev pub joined : Seen → Outcome Block → Ran Standing → Ran Standing
 joined s (stop answer) rest = ran (standing answer []) s
 joined s (ok b) rest = ran (before b (rest .value)) (unionSeen s (rest .seen))
 
--- n single pulls from an index on; "(else 0)"
+-- n single pulls from an index on; none is left and none was refused: "(else 0)"
 unfoldable pub pullsFrom : (ℕ → Ran (Outcome Block)) → ℕ → ℕ → Ran Standing
 pullsFrom one zero index = ran (standing 0 []) empty
 pullsFrom one (suc n) index = joined (one index .seen) (one index .value) (pullsFrom one n (index + 1))
@@ -46,7 +46,8 @@ runNodesMost k = 175 * k + 6
 abbrev pub runBlocksMost : ℕ → ℕ
 runBlocksMost k = 233 * k + 518
 
--- "A run of 0 or over 512 blocks, or a buffer not 4,096 bytes a block, is 4", and so are lists without that room for k names
+-- "A run of 0 or over 512 blocks, or a buffer not 4,096 bytes a block, is 4", and so are lists without that room for k names. The buffer is the
+-- field `block` of what a run is lent
 unfoldable pub runInShape : ℕ → ℕ → Lent → Bool
 runInShape k wanted lent =
     leb 1 wanted && leb wanted wantedMost && eqb (length (lent .block)) (4096 * wanted)
@@ -93,7 +94,22 @@ abbrev pub runPulledFrom : Card → Opening → List ℕ → ℕ → ℕ → Len
 runPulledFrom card (Opened v) path index wanted lent = runWritten (runPulls card v path index wanted) lent
 runPulledFrom card (Refused answer) path index wanted lent = refusedRun answer lent
 
--- the order of checks is the pull's: 4, then 5 to 8 of opening, then the walk
+-- the order of checks is the pull's: 4, then 5 to 8 of opening, then the pulls
 unfoldable pub runPulled : List ℕ → List ℕ → ℕ → ℕ → Lent → RunResult
 runPulled image path index wanted lent =
     choose (runCallInShape image path wanted lent) (runPulledFrom (cardOf image) (openedImage image) path index wanted lent) (refusedRun 4 lent)
+
+-- ---- one block
+
+-- a single pull's result as that of a run: 0 and 1 are a block that stands, answered with 0
+unfoldable pub asRun : Result → RunResult
+asRun r =
+    runResult
+    (record {
+      answer = choose (leb (r .numbers .answer) 1) 0 (r .numbers .answer);
+      count = choose (leb (r .numbers .answer) 1) 1 0;
+      «byte_count» = r .numbers .«byte_count»;
+      «node_count» = r .numbers .«node_count»;
+      «block_count» = r .numbers .«block_count»;
+    })
+    (r .memory)

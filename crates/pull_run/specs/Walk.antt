@@ -1,4 +1,4 @@
--- A run as one walk: the path's names once, the file's inode once, and then its blocks.
+-- "walking the directory once": a run as one walk, the path's names once, the file's inode once, and then its blocks.
 use Prim.Native.Nat.{ℕ}
 use mathlib.Core.List.{List}
 use Rattle.walk.specs.Walk.{Walk, bind}

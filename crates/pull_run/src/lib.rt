@@ -16,7 +16,7 @@ ghost use Rattle.pull_run.specs.Walk.{runWalk};
 ghost use Rattle.pull_run.specs.Run.{wantedMost, runNodesMost, runBlocksMost, runInShape, runPulls, runResult};
 ghost use Rattle.pull_run.specs.Run.{runWritten, runPulled};
 
-// A run's numbers, as they cross to C: how many blocks stand, and the byte count of the last of them.
+// A run's numbers, as they cross to C: how many blocks stand, and the byte count of the last of them, with a refusal too.
 #[repr(C)]
 pub struct Run {
     pub answer: u32,
@@ -26,7 +26,7 @@ pub struct Run {
     pub block_count: u32,
 }
 
-// The walk of a run, over lists that are empty yet.
+// The walk of a run; the lists are still empty.
 fn fill_from_path(
     image: &[u8],
     v: checkpoint::Volume,

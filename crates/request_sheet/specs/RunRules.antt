@@ -21,8 +21,7 @@ use Rattle.bench_sheet.specs.Line.{Line, _is_, Holds, yes}
 abbrev takes : ℕ → ℕ → ℕ → ℕ → ℕ → ℕ
 takes k wanted buffer nodes blocks = yes (runInShape k wanted (lending (replicate buffer 0) (replicate nodes 0) (replicate blocks 0)))
 
--- ---- Single pulls of a file of three blocks, the second a hole and the last one with 7 bytes: each lists the root, the file and its own blocks,
--- the hole's one node more, and so does the pull behind the end.
+-- ---- Single pulls, made up so that their lists can be told apart: a block, a hole, a last block with 7 bytes, and then 3
 abbrev block : ℕ → Fetched → Outcome Block
 block count content = ok (record { count = count; content = content })
 
