@@ -2,7 +2,7 @@
 -- is given the first image as the kept one, the second as the new one, and the lists and counts as that pull left them." K7: "Demand 3
 -- covers paths": where the demand has a name, a path stands.
 use Prim.Native.Nat.{ℕ}
-use mathlib.Core.Path.{_≡_, refl, sym, ap, subst, _∙_}
+use mathlib.Core.Path.{_≡_, refl, ap, subst, _∙_}
 use mathlib.Core.Bool.{true}
 use mathlib.Core.List.{List}
 use mathlib.Core.Logic.{_↔_}
@@ -27,7 +27,8 @@ use Rattle.compare.specs.Compare.{answered, verdict}
 use Rattle.list.proofs.Searching.{FirstNot}
 use Rattle.compare.proofs.Differences.{SameTable, SameBlock, difference-bounds, difference-node, difference-block}
 use Rattle.pull_again.specs.Demand.{PastOpening, said, SameOn, SamePull}
-use Rattle.pull_again.proofs.Steps.{Came, past-came, lists-fit, nodes-of-run, blocks-of-run, same-run, same-written, exactly-same, else-changed, told-same, some-past, all-same}
+use Rattle.pull_again.proofs.Steps.{Came, past-came, lists-fit, nodes-of-run, blocks-of-run, same-run, same-written, exactly-same}
+use Rattle.pull_again.proofs.Steps.{else-changed, told-same, some-past, all-same}
 use Rattle.pull_again.proofs.Steps as steps
 
 module _ (kept path : List ℕ) (index : ℕ) (lent : Lent) (past : PastOpening (pulled kept path index lent))
