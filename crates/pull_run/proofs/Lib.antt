@@ -7,4 +7,5 @@ pub mod Pulls
 pub mod Results
 pub mod Stood
 pub mod Theorems
+pub mod WholeBlocks
 pub mod OneBlock

@@ -170,6 +170,14 @@ module _ (image path : List ℕ) (index wanted : ℕ) (lent : Lent) (v : Volume)
           let at : 4096 * n ≡ length front + 0 = omega arith in
           ap (λ (k : ℕ). drop k (front ++ drop (4096 * n) (lent .block))) at ∙ drop-append-add front (drop (4096 * n) (lent .block)) 0
 
+  -- a block that stands is what its pull comes to
+  pub stands-at : (i : ℕ) → i < R .numbers .count → stood.StandsAs (pullRun (cardOf image) v path) index i (R .memory .block)
+  unfolding runs
+  stands-at i l =
+      let less : i < length (runs .value .stand) = subst (λ (r : RunResult). i < r .numbers .count) wrote l in
+      subst (λ (r : RunResult). stood.StandsAs one index i (r .memory .block)) (sym wrote)
+      (stood.stands one sized (drop (4096 * length (runs .value .stand)) (lent .block)) wanted index i less)
+
   module _ (single : Lent) (takes : lentInShape (partCount path) single ≡ true) where
     -- pull i of the run, by itself
     abbrev P : ℕ → Result
@@ -181,21 +189,19 @@ module _ (image path : List ℕ) (index wanted : ℕ) (lent : Lent) (v : Volume)
         (run-path-shape image path index wanted lent shape) takes in
         call-opens image path (index + i) single (Opened v) s opens
 
+    pub pull-count : (i : ℕ) {b : Block} → one (index + i) .value ≡ ok b → P i .numbers .«byte_count» ≡ b .count
+    pull-count i value = ap (λ (r : Result). r .numbers .«byte_count») (pull-wrote i) ∙ ap countOf value
+
     -- "Each block's bytes are what the single pull gives, holes not told apart"
     pub each-block : (i : ℕ) → i < R .numbers .count
         → (P i .numbers .answer ≤ 1) × (take 4096 (drop (4096 * i) (R .memory .block)) ≡ P i .memory .block)
-    unfolding runs
     each-block i l =
-        let less : i < length (runs .value .stand) = subst (λ (r : RunResult). i < r .numbers .count) wrote l in
-        let s = stood.stands one sized (drop (4096 * length (runs .value .stand)) (lent .block)) wanted index i less in
-        let p : P i ≡ written (one (index + i)) single = pull-wrote i in
-        let value : one (index + i) .value ≡ ok (s .block) = s .value in
+        let s = stands-at i l in
+        let p = pull-wrote i in
         let few = content-few (s .block .content) in
-        let a : P i .numbers .answer ≡ answerOf (ok (s .block)) = ap (λ (r : Result). r .numbers .answer) p ∙ ap answerOf value in (
+        let a : P i .numbers .answer ≡ answerOf (ok (s .block)) = ap (λ (r : Result). r .numbers .answer) p ∙ ap answerOf (s .value) in (
           omega arith,
-          ap (λ (r : RunResult). take 4096 (drop (4096 * i) (r .memory .block))) wrote
-              ∙ s .bytes
-              ∙ sym (ap (λ (r : Result). r .memory .block) p ∙ ap (λ (o : Outcome Block). bufferAfter o (single .block)) value),
+          s .bytes ∙ sym (ap (λ (r : Result). r .memory .block) p ∙ ap (λ (o : Outcome Block). bufferAfter o (single .block)) (s .value)),
         )
 
     -- "the run stops at the first answer that isn't 0 or 1, answers it (else 0) with how many stand"
@@ -229,7 +235,7 @@ module _ (image path : List ℕ) (index wanted : ℕ) (lent : Lent) (v : Volume)
         let s = stood.last-stands one wanted index i (sym (ap (λ (r : RunResult). r .numbers .count) wrote) ∙ l) in
         ap (λ (r : RunResult). r .numbers .«byte_count») wrote
         ∙ s .counts
-        ∙ sym (ap (λ (r : Result). r .numbers .«byte_count») (pull-wrote i) ∙ ap countOf (s .value))
+        ∙ sym (pull-count i (s .value))
 
     -- one of the pulls that were made lists it: of a block that stands, or the one that ended the run
     pub record ListedBy (of : Result → Listed) (x : ℕ) : Type 0 where
