@@ -16,7 +16,7 @@ enum { ADDRESSES = 923, IN_NODE = 1018, NODE_SLOTS = 4052 };
 enum { DIRECT = 11, DIRECT_AT = MAIN + 450 };
 
 /* Its data lies in these blocks, and again from the first on. */
-enum { FIRST_AT = MAIN + 110, DATA_BLOCKS = 300 };
+enum { FIRST_AT = MAIN + 110, DATA_BLOCKS = 250 };
 
 static uint8_t buffer[HARPTIMBER_RUN_BYTES + BLOCK], run_nodes[HARPTIMBER_RUN_NODES_BYTES + 3],
     run_blocks[HARPTIMBER_RUN_BLOCKS_BYTES + 3];
@@ -153,7 +153,7 @@ static void put_long_file(uint64_t size)
     put_direct(1, ADDRESSES + IN_NODE);
     for (uint32_t i = 0; i < DATA_BLOCKS; i++)
         for (size_t at = 0; at < BLOCK; at++)
-            block_at(FIRST_AT + i)[at] = (uint8_t)(i + at + at / 256 + i / 256 * 128 + 1);
+            block_at(FIRST_AT + i)[at] = (uint8_t)(i + at + at / 256 + 1);
 }
 
 static void put_long(uint64_t size)

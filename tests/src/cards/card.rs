@@ -348,11 +348,20 @@ impl Card {
         node
     }
 
-    pub fn set_address(&mut self, ino: u32, index: u32, address: u32) {
+    /// The node and slot with the address of a file's block.
+    fn address_place(&mut self, ino: u32, index: u32) -> Passage {
         let way = self.way(ino, index);
-        let last = way[way.len() - 1];
-        self.image
-            .set(last.node.block, last.slot, u64::from(address));
+        way[way.len() - 1]
+    }
+
+    pub fn address(&mut self, ino: u32, index: u32) -> u32 {
+        let at = self.address_place(ino, index);
+        self.image.get(at.node.block, at.slot) as u32
+    }
+
+    pub fn set_address(&mut self, ino: u32, index: u32, address: u32) {
+        let at = self.address_place(ino, index);
+        self.image.set(at.node.block, at.slot, u64::from(address));
     }
 
     /// Gives a file a block of junk.

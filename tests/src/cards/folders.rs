@@ -44,6 +44,11 @@ impl Shape {
         pick(random, &Shape::ALL)
     }
 
+    /// So many, one kind after the other.
+    pub fn in_turn(count: usize) -> Vec<Shape> {
+        Shape::ALL.into_iter().cycle().take(count).collect()
+    }
+
     fn has_blocks(self) -> bool {
         self.inline & INLINE_DENTRY == 0
     }

@@ -93,46 +93,39 @@ fn sizes() {
     }
 }
 
-/// The rooms for a path by its names, as constants and of a number that a program has.
-#[test]
-fn rooms_by_names() {
-    let uses = "enum { nodes = HARPTIMBER_NODES_BYTES_OF(1), blocks = HARPTIMBER_BLOCKS_BYTES_OF(1 + 1) };
+/// Rooms by a path's names, as constants and of a number that a program has. The names of their macros start with `kind`.
+fn expect_rooms(kind: &str, lens: fn(u32) -> Lens, most: fn(u32) -> [u32; 2]) {
+    let uses = format!(
+        "enum {{ nodes = {kind}NODES_BYTES_OF(1), blocks = {kind}BLOCKS_BYTES_OF(1 + 1) }};
         printf(\"%d %d\\n\", nodes, blocks);
         for (int k = 0; k < HARPTIMBER_NAMES_MOST; k++)
-            printf(\"%d %d %d %d\\n\", HARPTIMBER_NODES_MOST_OF(k + 1), HARPTIMBER_BLOCKS_MOST_OF(k + 1),
-                   HARPTIMBER_NODES_BYTES_OF(k + 1), HARPTIMBER_BLOCKS_BYTES_OF(k + 1));";
-    let mut expected = format!("{} {}\n", Lens::of(1).nodes, Lens::of(2).blocks);
+            printf(\"%d %d %d %d\\n\", {kind}NODES_MOST_OF(k + 1), {kind}BLOCKS_MOST_OF(k + 1),
+                   {kind}NODES_BYTES_OF(k + 1), {kind}BLOCKS_BYTES_OF(k + 1));"
+    );
+    let mut expected = format!("{} {}\n", lens(1).nodes, lens(2).blocks);
     for names in 1..=NAMES_MOST {
-        let Lens { nodes, blocks, .. } = Lens::of(names);
-        let most = (nodes_most(names), blocks_most(names));
-        expected += &format!("{} {} {nodes} {blocks}\n", most.0, most.1);
+        let (Lens { nodes, blocks, .. }, most) = (lens(names), most(names));
+        expected += &format!("{} {} {nodes} {blocks}\n", most[0], most[1]);
     }
     for language in [C99, CPP11] {
-        assert_eq!(printed_by(language, uses), expected, "by {language:?}");
+        assert_eq!(printed_by(language, &uses), expected, "by {language:?}");
     }
 }
 
-/// The same of a run, however many blocks it has.
+#[test]
+fn rooms_by_names() {
+    expect_rooms("HARPTIMBER_", Lens::of, |names| {
+        [nodes_most(names), blocks_most(names)]
+    });
+}
+
+/// However many blocks a run has.
 #[test]
 fn rooms_of_runs_by_names() {
-    let uses = "enum { nodes = HARPTIMBER_RUN_NODES_BYTES_OF(1), blocks = HARPTIMBER_RUN_BLOCKS_BYTES_OF(1 + 1) };
-        printf(\"%d %d\\n\", nodes, blocks);
-        for (int k = 0; k < HARPTIMBER_NAMES_MOST; k++)
-            printf(\"%d %d %d %d\\n\", HARPTIMBER_RUN_NODES_MOST_OF(k + 1), HARPTIMBER_RUN_BLOCKS_MOST_OF(k + 1),
-                   HARPTIMBER_RUN_NODES_BYTES_OF(k + 1), HARPTIMBER_RUN_BLOCKS_BYTES_OF(k + 1));";
-    let mut expected = format!(
-        "{} {}\n",
-        Lens::of_run(1, 1).nodes,
-        Lens::of_run(2, 1).blocks
-    );
-    for names in 1..=NAMES_MOST {
-        let Lens { nodes, blocks, .. } = Lens::of_run(names, 1);
-        let most = (run_nodes_most(names), run_blocks_most(names));
-        expected += &format!("{} {} {nodes} {blocks}\n", most.0, most.1);
-    }
-    for language in [C99, CPP11] {
-        assert_eq!(printed_by(language, uses), expected, "by {language:?}");
-    }
+    let lens = |names| Lens::of_run(names, 1);
+    expect_rooms("HARPTIMBER_RUN_", lens, |names| {
+        [run_nodes_most(names), run_blocks_most(names)]
+    });
 }
 
 /// The bytes of keep files: by what is in one, and the most for a path by its names.

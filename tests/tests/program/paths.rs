@@ -36,8 +36,8 @@ pub(crate) fn name_in(shape: Shape, n: usize) -> Vec<u8> {
 
 /// Names in folders of every kind. Blocks of some folders are behind nodes.
 fn named(names: usize) -> Vec<(Shape, Vec<u8>)> {
-    let shapes = Shape::ALL.into_iter().cycle().take(names);
-    let named = shapes
+    let named = Shape::in_turn(names)
+        .into_iter()
         .enumerate()
         .map(|(n, shape)| (shape, name_in(shape, n)));
     named.collect()

@@ -146,7 +146,7 @@ fn longest() {
 fn folders() {
     let mut compares = Compares::new("compare on the lists of runs of paths");
     for names in [2, 8] {
-        let shapes: Vec<Shape> = Shape::ALL.into_iter().cycle().take(names).collect();
+        let shapes = Shape::in_turn(names);
         let mut folders = Folders::new(&mut compares.trial.random, &shapes, 1000);
         let image = folders.card.image.clone();
         let (path, missing) = (folders.path(), folders.path_with(names - 1, b"missing"));

@@ -76,10 +76,9 @@ fn in_turn() {
         for index in (first..first + 512).step_by(3) {
             stretch.scene.card.set_address(stretch.scene.ino, index, 0);
         }
-        let zeros = stretch.way(first + 1)[0];
-        let block = stretch.scene.card.image.get(zeros.node.block, zeros.slot);
-        let image = &mut stretch.scene.card.image;
-        image.put("zeros", block as u32, 0, &[0; BLOCK_SIZE]);
+        let card = &mut stretch.scene.card;
+        let block = card.address(stretch.scene.ino, first + 1);
+        card.image.put("zeros", block, 0, &[0; BLOCK_SIZE]);
         for (index, blocks) in [(0, 512), (1, 511), (2, 510), (0, 1), (0, 2)] {
             let told = stretch.told(first + index, blocks);
             runs.expect_given(&stretch.call(first + index, blocks), &told);

@@ -8,24 +8,17 @@ use crate::stretch::{Stretch, INLINES};
 
 /// The addresses of a stretch, by index.
 fn addresses(stretch: &mut Stretch) -> Vec<u32> {
-    let indexes = stretch.indexes.clone();
-    let address = |index| {
-        let way = stretch.way(index);
-        let last = way[way.len() - 1];
-        stretch.scene.card.image.get(last.node.block, last.slot) as u32
-    };
-    indexes.map(address).collect()
+    let scene = &mut stretch.scene;
+    let address = |index| scene.card.address(scene.ino, index);
+    stretch.indexes.clone().map(address).collect()
 }
 
-fn set_addresses(stretch: &mut Stretch, addresses: &[u32]) {
+/// With these addresses, as long as a run can be and a few short ones.
+fn expect_runs(runs: &mut Runs, stretch: &mut Stretch, addresses: &[u32]) {
     for (index, &address) in stretch.indexes.clone().zip(addresses) {
         let scene = &mut stretch.scene;
         scene.card.set_address(scene.ino, index, address);
     }
-}
-
-/// As long as a run can be, and a few short ones.
-fn expect_runs(runs: &mut Runs, stretch: &mut Stretch) {
     let first = stretch.indexes.start;
     for (index, blocks) in [(0, 512), (1, 511), (255, 2), (256, 1), (250, 13)] {
         let told = stretch.told(first + index, blocks);
@@ -47,14 +40,11 @@ fn any_order() {
         let mut stretch = stretch(&mut runs, inline);
         let mut order = addresses(&mut stretch);
         order.sort();
-        set_addresses(&mut stretch, &order);
-        expect_runs(&mut runs, &mut stretch);
+        expect_runs(&mut runs, &mut stretch, &order);
         order.reverse();
-        set_addresses(&mut stretch, &order);
-        expect_runs(&mut runs, &mut stretch);
+        expect_runs(&mut runs, &mut stretch, &order);
         shuffle(&mut runs.trial.random, &mut order);
-        set_addresses(&mut stretch, &order);
-        expect_runs(&mut runs, &mut stretch);
+        expect_runs(&mut runs, &mut stretch, &order);
     }
     runs.finish(2 * 3 * 5, &[(0, true)]);
 }
@@ -66,11 +56,9 @@ fn one_block_many_times() {
     for inline in INLINES {
         let mut stretch = stretch(&mut runs, inline);
         let all = addresses(&mut stretch);
-        set_addresses(&mut stretch, &[all[0]; 512]);
-        expect_runs(&mut runs, &mut stretch);
+        expect_runs(&mut runs, &mut stretch, &[all[0]; 512]);
         let in_turn: Vec<u32> = (0..512).map(|nth| all[nth % 2]).collect();
-        set_addresses(&mut stretch, &in_turn);
-        expect_runs(&mut runs, &mut stretch);
+        expect_runs(&mut runs, &mut stretch, &in_turn);
     }
     runs.finish(2 * 2 * 5, &[(0, true)]);
 }
@@ -95,8 +83,7 @@ fn data_that_is_something_else_too() {
         for (nth, address) in order.iter_mut().enumerate().filter(|(nth, _)| nth % 5 < 2) {
             *address = walked[nth % walked.len()];
         }
-        set_addresses(&mut stretch, &order);
-        expect_runs(&mut runs, &mut stretch);
+        expect_runs(&mut runs, &mut stretch, &order);
     }
     runs.finish(2 * 5, &[(0, true)]);
 }

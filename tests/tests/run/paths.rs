@@ -11,18 +11,14 @@ use harptimber_tests::sizes::{run_blocks_most, RUN_MOST};
 
 use crate::stretch::boundaries;
 
-/// The shapes of so many folders, each as another one.
-fn shapes(names: usize) -> Vec<Shape> {
-    Shape::ALL.into_iter().cycle().take(names).collect()
-}
-
 /// Of a run from before the file's one block on, two holes and the block stand. Each stop takes some of them away.
 #[test]
 fn stops_on_the_way() {
     let mut runs = Runs::new("runs stopped on the way");
     let mut tried = 0;
     for names in [1, 2, 8] {
-        let mut folders = Folders::new(&mut runs.trial.random, &shapes(names), INDEX);
+        let shapes = Shape::in_turn(names);
+        let mut folders = Folders::new(&mut runs.trial.random, &shapes, INDEX);
         let path = folders.path();
         let all = stops(&mut folders);
         // Those from the file's size on: behind the blocks in the inode.
@@ -72,10 +68,8 @@ fn most_listed() {
         );
         let searched = deep.searched();
         let bytes = (first..first + RUN_MOST).flat_map(|index| {
-            let way = deep.card.way(deep.ino, index);
-            let last = way[way.len() - 1];
-            let address = deep.card.image.get(last.node.block, last.slot);
-            deep.card.image.block(address as u32).to_vec()
+            let address = deep.card.address(deep.ino, index);
+            deep.card.image.block(address).to_vec()
         });
         let told = Given {
             answer: 0,
@@ -100,7 +94,8 @@ fn most_listed() {
 fn missing_names() {
     let mut runs = Runs::new("runs of missing names");
     for names in [1, 2, 8] {
-        let mut folders = Folders::new(&mut runs.trial.random, &shapes(names), 0);
+        let shapes = Shape::in_turn(names);
+        let mut folders = Folders::new(&mut runs.trial.random, &shapes, 0);
         for nth in [0, names - 1] {
             let path = folders.path_with(nth, b"missing");
             for blocks in [1, 2, 512] {

@@ -5,7 +5,7 @@ use crate::cards::{files, Card, COPY};
 use harptimber_bench::agreed::Agreed;
 use harptimber_bench::grid::{contender, Contender, Grid, Often};
 use harptimber_bench::table::Table;
-use harptimber_tests::program::host;
+use harptimber_tests::program;
 use harptimber_tests::tools::published::File;
 use std::ffi::OsStr;
 use std::os::unix::ffi::OsStrExt;
@@ -60,10 +60,10 @@ impl Whole {
     }
 }
 
-pub fn print(earlier: &str, program: PathBuf, agreed: &mut Agreed) {
+pub fn print(earlier: &str, earlier_program: PathBuf, agreed: &mut Agreed) {
     let [road, .., survey] = &files();
     let columns = [Whole::new(64, road), Whole::new(1024, survey)];
-    let programs = [host().join("target/harptimber"), program];
+    let programs = [program::program(), earlier_program];
     let mut table = Table::new(columns.iter().map(Whole::head));
     for name in ["cat", "compare"] {
         let sides = columns.iter().map(|column| {

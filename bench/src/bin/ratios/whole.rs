@@ -5,10 +5,11 @@ use crate::runs::{self, Memory};
 use harptimber_bench::agreed::Agreed;
 use harptimber_bench::grid::{contender, Contender, Grid, Often};
 use harptimber_bench::pulls;
+use harptimber_tests::program::program;
 use harptimber_tests::tools::published::File;
 use std::env;
 use std::hint::black_box;
-use std::path::{Path, PathBuf};
+use std::path::PathBuf;
 use std::process::{Command, Stdio};
 
 pub const OFTEN: Often = Often {
@@ -54,7 +55,7 @@ impl Whole<'_> {
         let mut grub = Command::new("grub-fstest");
         grub.arg(&image)
             .args(["cat", &format!("(loop0)/{}", self.name())]);
-        let mut harptimber = Command::new(host_program());
+        let mut harptimber = Command::new(program());
         harptimber.arg("cat").arg(&image).arg(self.name());
         let mut reference = Command::new(beside_this("reference_cat"));
         reference.arg(&image).arg(self.name());
@@ -92,11 +93,6 @@ impl Whole<'_> {
 pub fn whole(columns: &[Whole], agreed: &mut Agreed) -> Grid {
     let sides = columns.iter().map(|column| column.sides(agreed));
     Grid::of(OFTEN, sides.collect())
-}
-
-/// The program that `make -C host` builds.
-fn host_program() -> PathBuf {
-    Path::new(env!("CARGO_MANIFEST_DIR")).join("../host/target/harptimber")
 }
 
 /// Another program of this folder.
