@@ -1,11 +1,11 @@
 -- The trees of a node, of a data block and of the way to a leaf and on from there, by cases: no run and no list is named.
-use Prim.Native.Nat.{ℕ, _+_, _*_, _<_}
+use Prim.Native.Nat.{ℕ, _+_, _*_}
 use native.Mathlib.Omega.{arith}
 use mathlib.Core.Path.{_≡_, refl, sym, ap, _∙_}
 use mathlib.Core.Bool.{true, false}
 use mathlib.Core.List.{List, [], _∷_}
 use lib.ListN.{length, drop}
-use borrow.Author.Tests.{eq-eqb, ne-eqb, lt-ltb}
+use borrow.Author.Tests.{eq-eqb, ne-eqb}
 use Rattle.field.specs.Number.{le32}
 use Rattle.field.specs.Card.{Card}
 use Rattle.place.specs.declared.Step.{Step}
@@ -18,7 +18,7 @@ use Rattle.walk.specs.Walk.{done, look, read, ok, stop, onward, andThen}
 use Rattle.node.specs.declared.Data.{Data}
 use Rattle.node.specs.declared.Data.the-variants as d
 use Rattle.node.specs.Node.{Bounds, inMain, belongs, atBlock, atEntry, nodeWalk}
-use Rattle.node.specs.Block.{hole, held, isHole, holding, dataWalk, wayWalk, blockWalk}
+use Rattle.node.specs.Block.{hole, held, isHole, holding, dataWalk}
 use Rattle.node.specs.Leaf.{leafFrom, leafAlong, leafWalk, atLeaf}
 use Rattle.node.specs.Found.{dataOf}
 
@@ -122,9 +122,3 @@ module _ (card : Card) (m : Bounds) (at : ℕ) {leaf : Data} where
       → onward (atLeaf m at) (dataOf card leaf) ≡ dataWalk m address
   unfolding onward
   from-at e f = ap (λ (x : Data). onward (atLeaf m at) (dataOf card x)) e ∙ ap (dataWalk m) (sym f)
-
--- an index whose address stands in the inode
-pub block-in-inode : (m : Bounds) (ino : ℕ) (inode : List ℕ) (A index : ℕ) {n : ℕ} → index < A → n ≡ le32 inode (360 + 4 * index)
-    → blockWalk m ino inode A index ≡ dataWalk m n
-unfolding blockWalk wayWalk placeOf
-block-in-inode m ino inode A index l e = rw (lt-ltb index A l, e)

@@ -470,12 +470,6 @@ pub fn data_block(
         (lists (now (nodes .exit)) (now (blocks .exit)) (r .counts)) ⌝ }
     ensures { λ r. ⌜ DataIn (cardOf (now (image .entry))) (r .data) ⌝ }
 {
-    // Most directories have no block behind these.
-    if index < file.addresses {
-        let inode = field::block_at(image, file.inode);
-        let address = field::get32(inode, 360 + 4 * (index as usize));
-        return data_at(image, v, nodes, blocks, counts, address);
-    }
     let came = find_leaf(image, v, nodes, blocks, counts, file, index);
     let leaf = came.leaf;
     let listed = came.counts;
