@@ -1,5 +1,5 @@
--- "Each block's bytes are what the single pull gives, holes not told apart": a run of one block is the single pull, with every number and
--- every lent byte, but that a hole is answered with 0.
+-- "Each block's bytes are what the single pull gives, holes not told apart": a run of one block, lent a run's rooms, is the single pull,
+-- with every number and every lent byte, but that a hole is answered with 0.
 use Prim.Native.Nat.{ℕ, _/_, _≤_}
 use native.Mathlib.Omega.{arith}
 use mathlib.Core.Path.{_≡_, refl, sym, ap, _∙_}

@@ -204,7 +204,7 @@ fn is_same(image: &[u8], stretch: &Stretch) -> bool {
             .all(|memory| memory.buffer == bytes.buffer)
 }
 
-/// One buffer and two lists for all sides, so that none has better ones.
+/// One buffer for all sides, so that none has a better one. The reader makes its own lists, as such a reader does.
 type Shared<'a> = &'a RefCell<Memory>;
 
 fn archive<'a>(image: &'a [u8], first: u32, memory: Shared<'a>) -> Contender<'a> {
