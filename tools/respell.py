@@ -41,7 +41,8 @@ def local_names(path, text, scoped):
     names = {}
     for old, new, home in scoped:
         brought = re.search(rf"use {re.escape(module(home))}\.\{{([^}}]*)\}}", text)
-        if path == home or brought and old in re.split(r"[\s,]+", brought[1]):
+        turned = new in WORD.findall(text)
+        if not turned and (path == home or brought and old in re.split(r"[\s,]+", brought[1])):
             names[old] = new
     return names
 

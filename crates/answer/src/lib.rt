@@ -1,5 +1,7 @@
 // What an answer number means, under the names of the C header (HARPTIMBER_DATA is DATA here).
 // Done: the other numbers hold the result.
+#![tactic(auto)]
+
 pub const DATA: u32 = 0;
 
 // The block is a hole: zeros.

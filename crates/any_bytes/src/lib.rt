@@ -2,6 +2,8 @@
 // whatever comes by a function that knows nothing of it and asks nothing. A precondition on a call would leave its caller here
 // unproved. A test sees to it that no call of the C header is missing.
 
+#![tactic(auto)]
+
 pub fn name_hash(name: &[u8]) -> harptimber::NameHash {
     harptimber::harptimber_name_hash(name)
 }

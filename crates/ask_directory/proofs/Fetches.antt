@@ -30,24 +30,24 @@ use Rattle.ask_directory.specs.declared.Spot.{Spot}
 use Rattle.ask_directory.specs.declared.Target.{Target}
 use Rattle.ask_directory.specs.declared.Goes.TheVariants.{Stop, Empty, Full, Inline}
 use Rattle.ask_directory.specs.Left.{Question, names_at, inode_then, data_then, node_then}
-use Rattle.ask_directory.specs.Move.{gave, goes_by_lem, moved, goes_on, no_target, fetch_move, SpotIn, MoveIn, GoesIn}
+use Rattle.ask_directory.specs.Move.{gave, goes_by, moved, goes_on, no_target, fetch_move, SpotIn, MoveIn, GoesIn}
 
 -- ---- answers
 module _ (q : Question) (block : List ℕ) (s : Seen) (p : Spot) where
   pub stop_moved : (e : ℕ) → moved q block s (no_target p (Stop e)) ≡ answer (came (ran (stop e) s))
-  unfolding moved goes_by_lem wanting
+  unfolding moved goes_by wanting
   stop_moved e = refl
 
   pub empty_moved : (count : ℕ) → moved q block s (no_target p (Empty count)) ≡ gave count hole s
-  unfolding moved goes_by_lem
+  unfolding moved goes_by
   empty_moved count = refl
 
   pub full_moved : (count : ℕ) → moved q block s (no_target p (Full count)) ≡ gave count (held block) s
-  unfolding moved goes_by_lem
+  unfolding moved goes_by
   full_moved count = refl
 
   pub inline_moved : (count : ℕ) → moved q block s (no_target p (Inline count)) ≡ gave count (held (drop inline_start block)) s
-  unfolding moved goes_by_lem
+  unfolding moved goes_by
   inline_moved count = refl
 
 -- ---- what is so of a fetch: a node that is wanted isn't the inode, and where there is a hole, nothing was looked up
@@ -157,8 +157,8 @@ module _ (q : Question) (inode : List ℕ) (p : Spot) (index : ℕ) where
     left_by next wants = wanting q.kept (sought number p.ino place) next data_next s wants
 
     wants_by_lem : (looked : Bool) (wants : Wants) → WantedBy looked hop wants → (wants ≡ w.Hole → IsFile count)
-        → goes_by_lem q inode here p s (goes_on count wants) ≡ left_by (hop_next hop) wants
-    unfolding goes_by_lem wanting
+        → goes_by q inode here p s (goes_on count wants) ≡ left_by (hop_next hop) wants
+    unfolding goes_by wanting
     wants_by_lem looked (w.Table b) h z = ap (λ (next : List ℕ → Walk (Outcome Block)). left_by next (w.Table b)) (hop_then hop h)
     wants_by_lem looked (w.Node b table_inode) h z = ap (λ (next : List ℕ → Walk (Outcome Block)). left_by next (w.Node b table_inode)) (hop_then hop h)
     wants_by_lem looked (w.Data b) h z = refl

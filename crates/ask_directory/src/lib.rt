@@ -1,5 +1,7 @@
 // Where a walk goes for a reader that is fed one block at a time, and the search of a directory: to the next block that there is.
 // What each means is in specs/: Left, Move.
+#![tactic(auto)]
+
 ghost use Rattle.std.specs.Prelude.{◌≡◌, true, false, List, ◌∷◌, ℕ, ◌<◌, ◌≤◌, length};
 ghost use Rattle.walk.specs.Walk.{Seen};
 ghost use Rattle.inode.specs.Inode.{inode_of, is_directory};
@@ -12,7 +14,7 @@ ghost use Rattle.ask_directory.specs.Move.{moved, goes_on, no_target, fetch_move
 // Where a walk is: the inode number of the directory or file at hand, where in the path the name starts that is sought in it (behind the
 // path's end for a file), and which block of which hash level's bucket is looked for.
 #[repr(C)]
-#[derive(Drop)]
+#[derive(Clone, Copy)]
 pub struct Spot {
     pub ino: u32,
     pub name_at: u32,
@@ -23,7 +25,7 @@ pub struct Spot {
 // The node that is sought: its number and its place in the file; the block index that it leads to, and its hop on the way. An inode has
 // hop 0.
 #[repr(C)]
-#[derive(Drop)]
+#[derive(Clone, Copy)]
 pub struct Target {
     pub number: u32,
     pub place: u32,
@@ -33,7 +35,7 @@ pub struct Target {
 
 // What is asked for next: a table block, a node's block (with the inode that the table has for it), a data block. Or the answer: one
 // that ends the walk, a hole, the block that came, or what is in the inode that came, each with how many bytes are the file's.
-#[derive(Drop)]
+#[derive(Clone, Copy)]
 pub enum Goes {
     Table(u32),
     Node(u32, u32),
@@ -45,7 +47,7 @@ pub enum Goes {
 }
 
 // Where the walk goes, and whether the target's number was looked up.
-#[derive(Drop)]
+#[derive(Clone, Copy)]
 pub struct Move {
     pub goes: Goes,
     pub looked: bool,

@@ -1,5 +1,7 @@
 // A node of a file, and the block of an index of a file, for a reader that is fed one block at a time: what it wants next.
 // What each means is in specs/: Wants, Fetch.
+#![tactic(auto)]
+
 ghost use Rattle.std.specs.Prelude.{◌≡◌, ◌<◌, ◌≤◌, length};
 ghost use Rattle.place.specs.Way.{in_array};
 ghost use Rattle.node.specs.Node.{bounds_of};
@@ -10,7 +12,7 @@ ghost use Rattle.ask_node.specs.Fetch.{way_to, steps_in, no_node, follow_fetch, 
 
 // What is wanted next: a table block, a node's block (with the inode that the table has for it), a data block; or that there is none, or
 // the answer that ends the walk.
-#[derive(Drop)]
+#[derive(Clone, Copy)]
 pub enum Wants {
     Table(u32),
     Node(u32, u32),
@@ -20,7 +22,7 @@ pub enum Wants {
 }
 
 // What is wanted next on the way to a block, whether a node is looked up for it, which and for which place, and at which hop of the way.
-#[derive(Drop)]
+#[derive(Clone, Copy)]
 pub struct Fetch {
     pub wants: Wants,
     pub looked: bool,

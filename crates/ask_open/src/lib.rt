@@ -1,5 +1,7 @@
 // Opening a card for a reader that is fed one block at a time: a block comes, and it is said where opening goes.
 // What each means is in specs/: Came.
+#![tactic(auto)]
+
 ghost use Rattle.std.specs.Prelude.{◌≡◌, true, List, ℕ, ◌≤◌, length, drop};
 ghost use Rattle.field.specs.Choice.{choose};
 ghost use Rattle.superblock.specs.Superblock.{fields_pass};
@@ -13,7 +15,7 @@ ghost use Rattle.ask_open.specs.Came.{open_goes, first_after, AreasFit, PackFits
 
 // What a block is asked for: the first copy of the superblock or the second, a pack's first or last block (of the second pack with whether
 // the first one passed), the journal's block. Or the answer that refuses the card.
-#[derive(Drop)]
+#[derive(Clone, Copy)]
 pub enum Stage {
     FirstCopy,
     SecondCopy,
@@ -26,7 +28,7 @@ pub enum Stage {
 }
 
 // Which block is kept: none, the one that came, as the first pack's or as the second one's; or the second pack's, as the chosen one's.
-#[derive(Drop)]
+#[derive(Clone, Copy)]
 pub enum Keep {
     Nothing,
     First,
@@ -35,7 +37,7 @@ pub enum Keep {
 }
 
 // Where opening goes: the stage, the block that is asked for, what is known of the volume, and which block is kept.
-#[derive(Drop)]
+#[derive(Clone, Copy)]
 pub struct Opening {
     pub stage: Stage,
     pub block: u32,

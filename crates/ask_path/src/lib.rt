@@ -1,5 +1,7 @@
 // The walk of a pull for a reader that is fed one block at a time: a block comes, and it is said where the walk goes.
 // What each means is in ask_directory's specs/: Left, Move.
+#![tactic(auto)]
+
 ghost use Rattle.std.specs.Prelude.{◌≡◌, true, List, ℕ, ◌-◌, ◌<◌, ◌≤◌, length, take, drop, eqb, ltb};
 ghost use Rattle.field.specs.Choice.{choose};
 ghost use Rattle.nat.specs.Table.{entry_in};

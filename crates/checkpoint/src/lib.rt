@@ -1,5 +1,7 @@
 // Opening a card: the checkpoint pack that is chosen, where its NAT map and journal are, and the volume that they describe.
 // What each means is in specs/: Checkpoint, Pack, Journal, Volume.
+#![tactic(auto)]
+
 ghost use Rattle.std.specs.Prelude.{◌≡◌, ◌+◌, ◌<◌, ◌≤◌, true, ◌||◌, length};
 ghost use Rattle.field.specs.Card.{card_of};
 ghost use Rattle.field.specs.Choice.{choose};
@@ -24,7 +26,7 @@ const FASTBOOT: u32 = 32;
 const LARGE_NAT_MAP: u32 = 1024;
 
 // What is read of a checkpoint block's header, under the names in the Linux header.
-#[derive(Drop)]
+#[derive(Clone, Copy)]
 pub struct Checkpoint {
     pub checkpoint_ver: u64,
     pub ckpt_flags: u32,
@@ -36,7 +38,7 @@ pub struct Checkpoint {
 }
 
 // The chosen pack's first block, or that no pack passes.
-#[derive(Drop)]
+#[derive(Clone, Copy)]
 pub enum Chosen {
     Pack(u32),
     Nothing,
@@ -44,7 +46,7 @@ pub enum Chosen {
 
 // An opened volume: what every later step reads the card by.
 #[repr(C)]
-#[derive(Drop)]
+#[derive(Clone, Copy)]
 pub struct Volume {
     // The areas that the superblock names.
     pub areas: superblock::Areas,
@@ -60,7 +62,7 @@ pub struct Volume {
 }
 
 // An opened volume, or the answer that refuses the image.
-#[derive(Drop)]
+#[derive(Clone, Copy)]
 pub enum Opening {
     Opened(Volume),
     Refused(u32),
@@ -141,7 +143,7 @@ pub fn is_newer(first: Checkpoint, second: Checkpoint) -> bool
 {
     let from = first.checkpoint_ver;
     let to = second.checkpoint_ver;
-    let difference = std::num::wrapping_sub_u64(to, from);
+    let difference = to.wrapping_sub(from);
     (0 < difference) & (difference < 0x8000000000000000)
 }
 

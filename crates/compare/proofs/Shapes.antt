@@ -13,7 +13,7 @@ use Rattle.field.specs.Card.{Card}
 use Rattle.field.proofs.Choosing.{clash, needed, needed_le}
 use Rattle.checkpoint.specs.declared.Volume.{Volume}
 use Rattle.checkpoint.specs.Volume.{VolumeIn}
-use Rattle.list.specs.Lists.{AllOf, Rising, Listed, entries, count_fits_lem}
+use Rattle.list.specs.Lists.{AllOf, Rising, Listed, entries, count_fits}
 use Rattle.list.proofs.Rises.{all_map}
 use Rattle.node.specs.Node.{Bounds, bounds_of, in_main}
 use Rattle.compare.specs.Lists.{rising_after, is_rising, all_in_main, lists_in_shape}
@@ -83,16 +83,16 @@ pub record ListsFit (m : Bounds) (nodes blocks : Listed) : Type 0 where
   pub blocks_rise : Rising (entries blocks)
   pub inside : AllOf (λ b. in_main m b ≡ true) (entries blocks)
 
-pub count_fits_lem : (l : Listed) → 4 * l.count ≤ length l.bytes → count_fits_lem l ≡ true
+pub count_fits_lem : (l : Listed) → 4 * l.count ≤ length l.bytes → count_fits l ≡ true
 count_fits_lem l h = le-leb l.count (length l.bytes / 4) (omega arith)
 
-pub fits_count : (l : Listed) → count_fits_lem l ≡ true → 4 * l.count ≤ length l.bytes
+pub fits_count : (l : Listed) → count_fits l ≡ true → 4 * l.count ≤ length l.bytes
 fits_count l h = let t = leb-true l.count (length l.bytes / 4) h in omega arith
 
 -- what the code tests before it reads a number
 module _ (nodes blocks : Listed) where
   abbrev pub CountsFit : Bool
-  CountsFit = leb 1 nodes.count && count_fits_lem nodes && count_fits_lem blocks
+  CountsFit = leb 1 nodes.count && count_fits nodes && count_fits blocks
 
   pub counts_held : CountsFit ≡ true → (4 * nodes.count ≤ length nodes.bytes) × (4 * blocks.count ≤ length blocks.bytes)
   counts_held h = (fits_count nodes (needed (λ p. simp (p, and-false)) h), fits_count blocks (needed (λ p. simp (p, and-false)) h))

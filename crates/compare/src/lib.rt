@@ -1,5 +1,7 @@
 // Compare: whether a new image gives a pull's answer again, from the lists of what that answer rested on.
 // What each means is in specs/: Lists, Difference, Compare.
+#![tactic(auto)]
+
 ghost use Rattle.std.specs.Prelude.{◌≡◌, true, ◌&&◌, ◌+◌, ◌*◌, ◌≤◌, leb, length};
 ghost use Rattle.field.specs.Card.{card_of};
 ghost use Rattle.checkpoint.specs.Volume.{VolumeIn};
@@ -12,7 +14,7 @@ ghost use Rattle.compare.specs.Difference.{same_bounds, same_answer, same_bytes,
 ghost use Rattle.compare.specs.Compare.{answered, verdict, compared_open, compared};
 
 // The first difference between two cards, on what the lists name.
-#[derive(Drop)]
+#[derive(Clone, Copy)]
 pub enum Difference {
     Same,
     BoundsDiffer,
@@ -22,7 +24,7 @@ pub enum Difference {
 
 // Compare's numbers, as they cross to C.
 #[repr(C)]
-#[derive(Drop)]
+#[derive(Clone, Copy)]
 pub struct Compared {
     pub answer: u32,
     pub side: u32,

@@ -1,4 +1,6 @@
 // The checksum of a checkpoint block, eight bytes at a time by a table. What it means is in specs/Checksum.antt, bit by bit.
+#![tactic(auto)]
+
 ghost use Rattle.std.specs.Prelude.{◌≡◌, ◌+◌, ◌*◌, ◌/◌, ◌%◌, ◌<◌, ◌≤◌, length, take, drop};
 ghost use Rattle.crc32.specs.Checksum.{crc_bits, crc_byte, crc_from, checksum_of};
 ghost use Rattle.crc32.specs.Table.{IsTable};

@@ -1,4 +1,6 @@
 // The checksum alone, for tests and measurement; it is not in the library that the rig links.
+#![tactic(auto)]
+
 ghost use Rattle.std.specs.Prelude.{◌≡◌};
 ghost use Rattle.crc32.specs.Checksum.{checksum_of};
 

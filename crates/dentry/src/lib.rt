@@ -1,12 +1,14 @@
 // The slots of a directory block or of an inline directory, and their scan for a name, turn by turn.
 // What each means is in specs/: Slot, Scan.
+#![tactic(auto)]
+
 ghost use Rattle.std.specs.Prelude.{◌≡◌, ◌+◌, ◌-◌, ◌<◌, ◌≤◌, length, drop};
 ghost use Rattle.field.specs.Map.{low_bit};
 ghost use Rattle.dentry.specs.Slot.{layout_of, LayoutIn, wanted, slot_at, in_part};
 ghost use Rattle.dentry.specs.Scan.{free_run, turns_in, turns_most, Scanning, sought_of, Took};
 
 // Where slots are: the byte of the block that they start at, how many there are, and where behind that byte their names begin.
-#[derive(Drop)]
+#[derive(Clone, Copy)]
 pub struct Layout {
     pub start: usize,
     pub slots: usize,
@@ -41,7 +43,7 @@ pub fn part_of(block: &[u8], l: Layout) -> &[u8]
 }
 
 // What one slot holds: nothing, the name's inode number, another entry and how many slots it has, or an entry that doesn't fit.
-#[derive(Drop)]
+#[derive(Clone, Copy)]
 pub enum Slot {
     Free,
     Match(u32),
@@ -50,14 +52,14 @@ pub enum Slot {
 }
 
 // Where a scan stands, and how many turns it took up to there.
-#[derive(Drop)]
+#[derive(Clone, Copy)]
 pub struct Scan {
     pub slot: usize,
     pub turns: usize,
 }
 
 // What a turn of the scan comes to: it goes on, has found the name's inode number, or an entry that doesn't fit.
-#[derive(Drop)]
+#[derive(Clone, Copy)]
 pub enum Turn {
     On,
     Found(u32),
@@ -65,7 +67,7 @@ pub enum Turn {
 }
 
 // What a turn came to, and where the scan stands then.
-#[derive(Drop)]
+#[derive(Clone, Copy)]
 pub struct TurnStep {
     pub turn: Turn,
     pub scan: Scan,

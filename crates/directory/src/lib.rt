@@ -1,5 +1,7 @@
 // A name sought in a directory: the nested search over hash levels, blocks and slots.
 // What it means is in specs/: Find.
+#![tactic(auto)]
+
 ghost use Rattle.std.specs.Prelude.{◌≡◌, true, ◌<◌, ◌≤◌};
 ghost use Rattle.field.specs.Card.{card_of};
 ghost use Rattle.checkpoint.specs.Volume.{VolumeIn};
@@ -11,14 +13,14 @@ ghost use Rattle.dentry.specs.Slot.{wanted};
 ghost use Rattle.directory.specs.Find.{fetch_from, directory_of, levels_walk, find_walk, entry_of};
 
 // The inode number in the name's entry, or the answer that ends the walk.
-#[derive(Drop)]
+#[derive(Clone, Copy)]
 pub enum Entry {
     Found(u32),
     Stop(u32),
 }
 
 // What was found, and how many nodes and blocks are listed then.
-#[derive(Drop)]
+#[derive(Clone, Copy)]
 pub struct EntryStep {
     pub entry: Entry,
     pub counts: walk::Counts,

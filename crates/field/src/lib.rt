@@ -1,5 +1,7 @@
 // Numbers, bits, byte strings and blocks in lent bytes: the leaves that every other layer reads through.
 // What each means is in specs/: Number, Map, Bytes, Card.
+#![tactic(auto)]
+
 ghost use Rattle.std.specs.Prelude.{◌≡◌, ◌+◌, ◌-◌, ◌*◌, ◌/◌, ◌%◌, ◌≤◌, ◌<◌, length};
 ghost use Rattle.field.specs.Number.{le16, le32, le64, put32_at};
 ghost use Rattle.field.specs.Map.{top_bit, low_bit, low_zeros};

@@ -1,5 +1,7 @@
 // The blocks of a file from an index on, put into a buffer one behind the other. The file's inode is walked to once, and a leaf is kept as
 // long as it has addresses left. What that means is in specs/: Standing, Walks.
+#![tactic(auto)]
+
 ghost use Rattle.std.specs.Prelude.{◌≡◌, ◌+◌, ◌<◌, ◌≤◌, length, take, drop};
 ghost use Rattle.field.specs.Card.{card_of};
 ghost use Rattle.checkpoint.specs.Volume.{VolumeIn};
@@ -13,7 +15,7 @@ ghost use Rattle.file_run.specs.Standing.{FilledAs};
 ghost use Rattle.file_run.specs.Walks.{Stands, RegularFile, blocks_walk, file_run_walk, put_at, RoomFor};
 
 // The answer, how many blocks stand, the byte count of the last of them, and how many nodes and blocks are listed then.
-#[derive(Drop)]
+#[derive(Clone, Copy)]
 pub struct Filled {
     pub answer: u32,
     pub count: u32,
@@ -23,7 +25,7 @@ pub struct Filled {
 
 // A block of a file, where in it the file's bytes start and how many they are, the leaf that is kept for the next index, and how many nodes
 // and blocks are listed then.
-#[derive(Drop)]
+#[derive(Clone, Copy)]
 struct FileStep {
     pub data: node::Data,
     pub start: usize,

@@ -1,9 +1,11 @@
 // The C boundary: what the rig's host calls. Each call takes numbers and lent bytes, asks nothing of them, and answers with a
 // struct of 32-bit numbers; host/include/harptimber.h declares the same for C.
+#![tactic(auto)]
+
 ghost use Rattle.std.specs.Prelude.{◌≡◌};
 ghost use Rattle.name_hash.specs.Answer.{hashed};
 ghost use Rattle.nat.specs.Lookup.{table_numbers, lookup_of};
-ghost use Rattle.pull.specs.Pull.{lending, result, pulled};
+ghost use Rattle.pull.specs.Pull.{lending, result_in, pulled};
 ghost use Rattle.pull_run.specs.Run.{run_result, run_pulled};
 ghost use Rattle.reader.specs.Reading.{Started, Stepped};
 ghost use Rattle.reader_result.specs.Result.{read_out};
@@ -17,7 +19,7 @@ ghost use Rattle.harptimber.specs.NameHash.{name_hash};
 ghost use Rattle.harptimber.specs.FilePlace.{crossing, placed, file_place};
 
 #[repr(C)]
-#[derive(Drop)]
+#[derive(Clone, Copy)]
 pub struct NameHash {
     pub answer: u32,
     pub hash: u32,
@@ -25,7 +27,7 @@ pub struct NameHash {
 
 #[unsafe(no_mangle)]
 pub extern "C" fn harptimber_name_hash(name: &[u8]) -> NameHash
-    ensures* { λ r. ⌜ r ≡ name_hash (hashed name.now) ⌝ }
+    ensures { result ≡ name_hash (hashed name.now) }
 {
     match name_hash::hash_answer(name) {
         name_hash::Hashed::Hash(hash) => NameHash {
@@ -40,7 +42,7 @@ pub extern "C" fn harptimber_name_hash(name: &[u8]) -> NameHash
 }
 
 #[repr(C)]
-#[derive(Drop)]
+#[derive(Clone, Copy)]
 pub struct FilePlace {
     pub answer: u32,
     pub steps: u32,
@@ -55,7 +57,7 @@ pub struct FilePlace {
 }
 
 fn answer_with(answer: u32, way: place::Way) -> FilePlace
-    ensures* { λ r. ⌜ r ≡ crossing answer way ⌝ }
+    ensures { result ≡ crossing answer way }
 {
     let nodes = way.steps;
     FilePlace {
@@ -73,7 +75,7 @@ fn answer_with(answer: u32, way: place::Way) -> FilePlace
 }
 
 fn placed_by(way: place::Way) -> FilePlace
-    ensures* { λ r. ⌜ r ≡ placed way ⌝ }
+    ensures { result ≡ placed way }
 {
     if way.count == 0 {
         answer_with(answer::PAST_END, way)
@@ -84,7 +86,7 @@ fn placed_by(way: place::Way) -> FilePlace
 
 #[unsafe(no_mangle)]
 pub extern "C" fn harptimber_file_place(addresses: u32, index: u32) -> FilePlace
-    ensures* { λ r. ⌜ r ≡ file_place addresses index ⌝ }
+    ensures { result ≡ file_place addresses index }
 {
     if (addresses == 873) | (addresses == 923) {
         placed_by(place::find_way(addresses, index))
@@ -94,7 +96,7 @@ pub extern "C" fn harptimber_file_place(addresses: u32, index: u32) -> FilePlace
 }
 
 fn table_numbers(said: nat::TableAnswer) -> nat::Lookup
-    ensures* { λ r. ⌜ r ≡ table_numbers said ⌝ }
+    ensures { result ≡ table_numbers said }
 {
     match said {
         nat::TableAnswer::OutOfRange => nat::Lookup {
@@ -112,7 +114,7 @@ fn table_numbers(said: nat::TableAnswer) -> nat::Lookup
 
 #[unsafe(no_mangle)]
 pub extern "C" fn harptimber_node_lookup(image: &[u8], number: u32) -> nat::Lookup
-    ensures* { λ r. ⌜ r ≡ lookup_of image.now number ⌝ }
+    ensures { result ≡ lookup_of image.now number }
 {
     match checkpoint::open(image) {
         checkpoint::Opening::Opened(v) => table_numbers(nat::table_answer(image, v, number)),
@@ -133,8 +135,8 @@ pub extern "C" fn harptimber_pull(
     nodes: &mut [u8],
     blocks: &mut [u8],
 ) -> pull::Pulled
-    ensures* { λ r. ⌜ result r (lending block.new nodes.new blocks.new)
-        ≡ pulled image.now path.now index (lending block.old nodes.old blocks.old) ⌝ }
+    ensures { result_in result (lending block.new nodes.new blocks.new)
+        ≡ pulled image.now path.now index (lending block.old nodes.old blocks.old) }
 {
     pull::pull(image, path, index, block, nodes, blocks)
 }
@@ -149,9 +151,9 @@ pub extern "C" fn harptimber_pull_run(
     nodes: &mut [u8],
     blocks: &mut [u8],
 ) -> pull_run::Run
-    ensures* { λ r. ⌜ run_result r (lending buffer.new nodes.new blocks.new)
+    ensures { run_result result (lending buffer.new nodes.new blocks.new)
         ≡ run_pulled image.now path.now index wanted
-        (lending buffer.old nodes.old blocks.old) ⌝ }
+        (lending buffer.old nodes.old blocks.old) }
 {
     pull_run::pull_run(image, path, index, wanted, buffer, nodes, blocks)
 }
@@ -162,14 +164,14 @@ pub extern "C" fn harptimber_reader_start(
     path: &[u8],
     index: u32,
 ) -> reader::Reader
-    ensures* { λ r. ⌜ Started card_blocks path.now index r ⌝ }
+    ensures { Started card_blocks path.now index result }
 {
     reader::start(card_blocks, path, index)
 }
 
 #[unsafe(no_mangle)]
 pub extern "C" fn harptimber_reader_step(reader: reader::Reader, bytes: &[u8]) -> reader::Reader
-    ensures* { λ t. ⌜ Stepped reader bytes.now t ⌝ }
+    ensures { Stepped reader bytes.now result }
 {
     reader.step(bytes)
 }
@@ -181,8 +183,8 @@ pub extern "C" fn harptimber_reader_result(
     nodes: &mut [u8],
     blocks: &mut [u8],
 ) -> pull::Pulled
-    ensures* { λ r. ⌜ result r (lending block.new nodes.new blocks.new)
-        ≡ read_out reader (lending block.old nodes.old blocks.old) ⌝ }
+    ensures { result_in result (lending block.new nodes.new blocks.new)
+        ≡ read_out reader (lending block.old nodes.old blocks.old) }
 {
     reader_result::read_out(reader, block, nodes, blocks)
 }
@@ -196,10 +198,9 @@ pub extern "C" fn harptimber_compare(
     blocks: &[u8],
     block_count: u32,
 ) -> compare::Compared
-    ensures* { λ r.
-        ⌜ r
+    ensures { result
         ≡ compared kept.now fresh.now (listing nodes.now node_count)
-        (listing blocks.now block_count) ⌝ }
+        (listing blocks.now block_count) }
 {
     compare::compare(kept, fresh, nodes, node_count, blocks, block_count)
 }
@@ -209,7 +210,7 @@ pub extern "C" fn harptimber_segment_report(
     image: &[u8],
     list: &mut [u8],
 ) -> segment_report::Segments
-    ensures* { λ r. ⌜ reported r list.new ≡ segment_report image.now list.old ⌝ }
+    ensures { reported result list.new ≡ segment_report image.now list.old }
 {
     segment_report::report(image, list)
 }
@@ -221,21 +222,21 @@ pub extern "C" fn harptimber_keep(
     index: u32,
     room: &mut [u8],
 ) -> keep::Written
-    ensures* { λ r. ⌜ writing r room.new ≡ keep_written image.now path.now index room.old ⌝ }
+    ensures { writing result room.new ≡ keep_written image.now path.now index room.old }
 {
     keep::keep(image, path, index, room)
 }
 
 #[unsafe(no_mangle)]
 pub extern "C" fn harptimber_keep_read(file: &[u8]) -> keep_file::Fields
-    ensures* { λ r. ⌜ r ≡ fields_read (read_keep file.now) ⌝ }
+    ensures { result ≡ fields_read (read_keep file.now) }
 {
     keep_file::read(file)
 }
 
 #[unsafe(no_mangle)]
 pub extern "C" fn harptimber_keep_compare(file: &[u8], fresh: &[u8]) -> compare::Compared
-    ensures* { λ r. ⌜ r ≡ keep_compared file.now fresh.now ⌝ }
+    ensures { result ≡ keep_compared file.now fresh.now }
 {
     keep_compare::keep_compare(file, fresh)
 }

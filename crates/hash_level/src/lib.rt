@@ -1,5 +1,7 @@
 // The hash levels of a directory: how many buckets they have, and where each starts.
 // What each means is in specs/: Level, Table.
+#![tactic(auto)]
+
 ghost use Rattle.std.specs.Prelude.{◌≡◌, ◌+◌, ◌<◌};
 ghost use Rattle.hash_level.specs.Level.{buckets_of, blocks_of, first_of, level_of};
 ghost use Rattle.hash_level.specs.Table.{IsTable};
@@ -7,7 +9,7 @@ ghost use Rattle.hash_level.specs.Table.{IsTable};
 mod table;
 
 // What a hash level has for a hash: the first block of its bucket, and how many blocks that has.
-#[derive(Drop)]
+#[derive(Clone, Copy)]
 pub struct Level {
     pub count: usize,
     pub bucket: usize,

@@ -1,5 +1,7 @@
 // What is read of an inode, and which inodes are read.
 // What each means is in specs/Inode.antt.
+#![tactic(auto)]
+
 ghost use Rattle.std.specs.Prelude.{◌≡◌, false, ◌≤◌, length};
 ghost use Rattle.inode.specs.Inode.{inode_of, has_inline_data, has_inline_dentry, has_extra_attr, data_room, is_directory, is_regular};
 ghost use Rattle.inode.specs.Inode.{levels_in, dir_level_in, addresses_in, is_past, count_in};
@@ -8,7 +10,7 @@ ghost use Rattle.inode.specs.Inode.{levels_in, dir_level_in, addresses_in, is_pa
 pub const INLINE_START: usize = 364;
 
 // What is read of an inode.
-#[derive(Drop)]
+#[derive(Clone, Copy)]
 pub struct Inode {
     pub mode: u16,
     pub inline: u8,

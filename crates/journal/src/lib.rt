@@ -1,11 +1,13 @@
 // A journal's count, the search of its entries, and whether they name a number twice, the same for every width. What each means is in
 // specs/Journal.
+#![tactic(auto)]
+
 ghost use Rattle.std.specs.Prelude.{◌≡◌, ◌+◌, ◌≤◌, length};
 ghost use Rattle.field.specs.Number.{le16};
 ghost use Rattle.journal.specs.Journal.{count_within, entry_start, search_from, journal_find, named_before, names_twice};
 
 // Where the entry that was sought starts, or that there is none.
-#[derive(Drop)]
+#[derive(Clone, Copy)]
 pub enum Sought {
     At(usize),
     Absent,

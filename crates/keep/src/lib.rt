@@ -1,19 +1,21 @@
 // The writer of keep files: a pull is made, and what it answered and rested on is laid out.
 // What each means is in specs/: Writing, Parts.
+#![tactic(auto)]
+
 ghost use Rattle.std.specs.Prelude.{◌≡◌, true, [], ◌∷◌, ◌+◌, ◌*◌, ◌≤◌, ◌<◌, length};
 ghost use Rattle.field.specs.Card.{card_of};
 ghost use Rattle.checkpoint.specs.Volume.{VolumeIn};
 ghost use Rattle.path.specs.Path.{is_path};
 ghost use Rattle.list.specs.Lists.{AllOf, bytes_of, listing, entries};
 ghost use Rattle.buffer.specs.Laid.{laid_at};
-ghost use Rattle.pull.specs.Pull.{lending, result};
+ghost use Rattle.pull.specs.Pull.{lending, result_in};
 ghost use Rattle.keep_file.specs.Layout.{file_end, header, answer_bytes, layout};
 ghost use Rattle.keep.specs.Writing.{writing, file_written, keep_of, keep_written};
 ghost use Rattle.keep.specs.Parts.{node_entry, block_entry, nodes_of, blocks_of, front_of, keep_found, end_found, Keepable};
 
 // The writer's numbers, as they cross to C.
 #[repr(C)]
-#[derive(Drop)]
+#[derive(Clone, Copy)]
 pub struct Written {
     pub answer: u32,
     pub length: u32,
@@ -23,7 +25,7 @@ pub struct Written {
 
 fn put_three(room: &mut [u8], at: usize, a: u32, b: u32, c: u32)
     requires { at + 12 ≤ length room.old }
-    ensures* { λ _. ⌜ room.new ≡ laid_at at (bytes_of (a ∷ b ∷ c ∷ [])) room.old ⌝ }
+    ensures { room.new ≡ laid_at at (bytes_of (a ∷ b ∷ c ∷ [])) room.old }
 {
     buffer::put_number(room, at, a);
     buffer::put_number(room, at + 4, b);
@@ -33,7 +35,7 @@ fn put_three(room: &mut [u8], at: usize, a: u32, b: u32, c: u32)
 // The header, by its first three numbers.
 fn put_header(room: &mut [u8], path: u32, nodes: u32, blocks: u32)
     requires { (24 ≤ length room.old) × (file_end path nodes blocks < 4294967296) }
-    ensures* { λ _. ⌜ room.new ≡ laid_at 0 (header path nodes blocks) room.old ⌝ }
+    ensures { room.new ≡ laid_at 0 (header path nodes blocks) room.old }
 {
     let nodes_at = path + 4140;
     let blocks_at = nodes_at + 16 * nodes;
@@ -43,7 +45,7 @@ fn put_header(room: &mut [u8], path: u32, nodes: u32, blocks: u32)
 
 fn put_answer(room: &mut [u8], at: usize, said: nat::TableAnswer)
     requires { at + 12 ≤ length room.old }
-    ensures* { λ _. ⌜ room.new ≡ laid_at at (answer_bytes said) room.old ⌝ }
+    ensures { room.new ≡ laid_at at (answer_bytes said) room.old }
 {
     match said {
         nat::TableAnswer::OutOfRange => put_three(room, at, answer::NO_NODE, 0, 0),
@@ -60,7 +62,7 @@ fn put_answer(room: &mut [u8], at: usize, said: nat::TableAnswer)
 fn put_node(image: &[u8], v: checkpoint::Volume, number: u32, room: &mut [u8], at: usize)
     requires volume_in { VolumeIn (card_of image.now) v }
     requires at_in_bounds { at + 16 ≤ length room.old }
-    ensures* { λ _. ⌜ room.new ≡ laid_at at (node_entry (card_of image.now) v number) room.old ⌝ }
+    ensures { room.new ≡ laid_at at (node_entry (card_of image.now) v number) room.old }
 {
     buffer::put_number(room, at, number);
     put_answer(room, at + 4, nat::table_answer(image, v, number));
@@ -69,7 +71,7 @@ fn put_node(image: &[u8], v: checkpoint::Volume, number: u32, room: &mut [u8], a
 fn put_block(image: &[u8], b: u32, room: &mut [u8], at: usize)
     requires b_bound { b < (card_of image.now).blocks }
     requires at_in_bounds { at + 4100 ≤ length room.old }
-    ensures* { λ _. ⌜ room.new ≡ laid_at at (block_entry (card_of image.now) b) room.old ⌝ }
+    ensures { room.new ≡ laid_at at (block_entry (card_of image.now) b) room.old }
 {
     buffer::put_number(room, at, b);
     buffer::put_bytes(room, at + 4, field::block_at(image, b));
@@ -87,8 +89,8 @@ fn put_nodes(
 )
     requires volume_in { VolumeIn (card_of image.now) v }
     requires count_in_bounds { (4 * count ≤ length nodes.now) × (at + 16 * count ≤ length room.old) }
-    ensures* { λ _. ⌜ room.new
-        ≡ laid_at at (nodes_of (card_of image.now) v (listing nodes.now count)) room.old ⌝ }
+    ensures { room.new
+        ≡ laid_at at (nodes_of (card_of image.now) v (listing nodes.now count)) room.old }
 {
     let mut i: usize = 0;
     while i < count as usize {
@@ -101,8 +103,8 @@ fn put_nodes(
 fn put_blocks(image: &[u8], blocks: &[u8], count: u32, room: &mut [u8], at: usize)
     requires all_of { AllOf (λ b. b < (card_of image.now).blocks) (entries (listing blocks.now count)) }
     requires count_in_bounds { (4 * count ≤ length blocks.now) × (at + 4100 * count ≤ length room.old) }
-    ensures* { λ _. ⌜ room.new
-        ≡ laid_at at (blocks_of (card_of image.now) (listing blocks.now count)) room.old ⌝ }
+    ensures { room.new
+        ≡ laid_at at (blocks_of (card_of image.now) (listing blocks.now count)) room.old }
 {
     let mut i: usize = 0;
     while i < count as usize {
@@ -124,8 +126,8 @@ fn put_front(
 )
     requires { (length block.now ≡ 4096) × (length path.now + 4140 ≤ length room.old)
         × (file_end (length path.now) pulled.node_count pulled.block_count < 4294967296) }
-    ensures* { λ _. ⌜ room.new
-        ≡ laid_at 0 (front_of v path.now index pulled block.now) room.old ⌝ }
+    ensures { room.new
+        ≡ laid_at 0 (front_of v path.now index pulled block.now) room.old }
 {
     let p = path.len();
     let areas = v.areas;
@@ -150,9 +152,9 @@ fn put_file(
 )
     requires keepable { Keepable (card_of image.now) v path.now (result pulled (lending block.now nodes.now blocks.now)) }
     requires blocks_in_bounds { end_found path.now (result pulled (lending block.now nodes.now blocks.now)) ≤ length room.old }
-    ensures* { λ _. ⌜ room.new
+    ensures { room.new
         ≡ laid_at 0 (layout (keep_found (card_of image.now) v path.now index
-        (result pulled (lending block.now nodes.now blocks.now)))) room.old ⌝ }
+        (result_in pulled (lending block.now nodes.now blocks.now)))) room.old }
 {
     let nodes_at = path.len() + 4140;
     let blocks_at = nodes_at + 16 * (pulled.node_count as usize);
@@ -174,9 +176,9 @@ fn write_file(
     room: &mut [u8],
 ) -> Written
     requires { Keepable (card_of image.now) v path.now (result pulled (lending block.now nodes.now blocks.now)) }
-    ensures* { λ r. ⌜ writing r room.new
+    ensures { writing result room.new
         ≡ file_written (layout (keep_found (card_of image.now) v path.now index
-        (result pulled (lending block.now nodes.now blocks.now)))) room.old ⌝ }
+        (result_in pulled (lending block.now nodes.now blocks.now)))) room.old }
 {
     let end = keep_file::file_end(
         path.len(),
@@ -206,8 +208,8 @@ fn keep_opened(
 ) -> Written
     requires volume_in { VolumeIn (card_of image.now) v }
     requires path_value { is_path path.now ≡ true }
-    ensures* { λ r. ⌜ writing r room.new
-        ≡ file_written (layout (keep_of (card_of image.now) v path.now index)) room.old ⌝ }
+    ensures { writing result room.new
+        ≡ file_written (layout (keep_of (card_of image.now) v path.now index)) room.old }
 {
     let mut block = [0; 4096];
     let mut nodes = [0; 5616];
@@ -218,7 +220,7 @@ fn keep_opened(
 
 // A keep file of a pull. The call's shape is tested first, then the image is opened, then the pull is made.
 pub fn keep(image: &[u8], path: &[u8], index: u32, room: &mut [u8]) -> Written
-    ensures* { λ r. ⌜ writing r room.new ≡ keep_written image.now path.now index room.old ⌝ }
+    ensures { writing result room.new ≡ keep_written image.now path.now index room.old }
 {
     let k = path::name_count(path);
     if !(superblock::in_shape(image.len()) & (k != 0)) {

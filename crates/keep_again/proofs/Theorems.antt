@@ -17,7 +17,7 @@ use Rattle.checkpoint.proofs.Inside.{image_shaped, image_volume}
 use Rattle.walk.specs.Walk.{view_of}
 use Rattle.node.specs.Node.{bounds_of}
 use Rattle.path.specs.Path.{part_count, is_path}
-use Rattle.pull.specs.Pull.{Lent, lending, Result, result, lent_in_shape, call_in_shape, pulled, nodes_left}
+use Rattle.pull.specs.Pull.{Lent, lending, Result, result_in, lent_in_shape, call_in_shape, pulled, nodes_left}
 use Rattle.pull.specs.declared.Pulled.{Pulled}
 use Rattle.pull.proofs.Results.{call_in_shape_lem}
 use Rattle.pull.proofs.Theorems.{run_some}
@@ -167,7 +167,7 @@ said_wrote image path index room fresh e =
     ⊎_elim (λ a. a) (λ none. absurd (nothing_same fresh (rw none at e))) (no_file (ends image path index room))
 
 pub again_holds : (image fresh path : List ℕ) (index : ℕ) (room : List ℕ) (lent : Lent) {w : Written} {room' : List ℕ} {c : Compared} {p : Pulled} {left : Lent}
-    → writing w room' ≡ keep_written image path index room → c ≡ keep_compared (file_of (writing w room')) fresh → result p left ≡ pulled fresh path index lent
+    → writing w room' ≡ keep_written image path index room → c ≡ keep_compared (file_of (writing w room')) fresh → result_in p left ≡ pulled fresh path index lent
     → KeptAgain image fresh path index room room' lent left (record { kept = w; compared = c; second = p })
 unfolding keep_run
 again_holds image fresh path index room lent {w} {room'} {c} {p} {left} wrote compared second = record {

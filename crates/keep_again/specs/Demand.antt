@@ -2,7 +2,7 @@
 use Rattle.std.specs.Prelude.{ℕ, ◌≤◌, ◌≡◌, List, true, take}
 use Rattle.list.specs.Lists.{entries}
 use Rattle.path.specs.Path.{part_count}
-use Rattle.pull.specs.Pull.{Lent, Result, result, lent_in_shape, nodes_left, blocks_left, pulled}
+use Rattle.pull.specs.Pull.{Lent, Result, result_in, lent_in_shape, nodes_left, blocks_left, pulled}
 use Rattle.keep_file.specs.Keep.{numbers_of, Keep}
 use Rattle.keep_file.specs.Reading.{kept, read_keep}
 use Rattle.keep.specs.Writing.{Writing, writing, keep_written}
@@ -27,6 +27,6 @@ pub record GivesKept (k : Keep) (r : Result) : Type 0 where
 pub record KeptAgain (image fresh path : List ℕ) (index : ℕ) (room room' : List ℕ) (lent left : Lent) (r : Again) : Type 0 where
   pub wrote : writing r.kept room' ≡ keep_written image path index room
   pub compared : r.compared ≡ keep_compared (file_of (writing r.kept room')) fresh
-  pub second : result r.second left ≡ pulled fresh path index lent
+  pub second : result_in r.second left ≡ pulled fresh path index lent
   pub same : lent_in_shape (part_count path) lent ≡ true → r.compared.answer ≡ 15
-      → (k : Keep) × (read_keep (file_of (writing r.kept room')) ≡ kept k) × (k.path ≡ path) × (k.index ≡ index) × GivesKept k (result r.second left)
+      → (k : Keep) × (read_keep (file_of (writing r.kept room')) ≡ kept k) × (k.path ≡ path) × (k.index ≡ index) × GivesKept k (result_in r.second left)

@@ -1,12 +1,14 @@
 // What a host does that can't keep whole old images: it keeps a file for a block, and when a new image comes it compares the file with
 // it. If that says "same", the pull on the new image gives what the file holds; here that pull is made, and the contract says so.
+#![tactic(auto)]
+
 ghost use Rattle.std.specs.Prelude.{◌≡◌, ◌≤◌, length, take};
 ghost use Rattle.pull.specs.Pull.{lending};
 ghost use Rattle.keep_compare.specs.Compare.{keep_compared};
 ghost use Rattle.keep_again.specs.Demand.{KeptAgain};
 
 // What the writer says, what the comparison says, and the pull on the new image.
-#[derive(Drop)]
+#[derive(Clone, Copy)]
 pub struct Again {
     pub kept: keep::Written,
     pub compared: compare::Compared,

@@ -1,4 +1,6 @@
 // Keep files: which bytes are one, and what stands where in it. What each means is in specs/: Keep, Layout, Reading.
+#![tactic(auto)]
+
 ghost use Rattle.std.specs.Prelude.{◌≡◌, true, ◌+◌, ◌*◌, ◌≤◌, ◌<◌, length};
 ghost use Rattle.keep_file.specs.Layout.{file_end};
 ghost use Rattle.keep_file.specs.Reading.{answer_at, is_answer, are_answers, measured, lists_readable, readable};
@@ -6,7 +8,7 @@ ghost use Rattle.keep_file.specs.Reading.{keep_in, read_keep, refused_fields, fi
 
 // A keep file's numbers, as they cross to C.
 #[repr(C)]
-#[derive(Drop)]
+#[derive(Clone, Copy)]
 pub struct Fields {
     pub answer: u32,
     pub path_len: u32,

@@ -1,11 +1,13 @@
 // A rising list of numbers at the front of lent bytes, four bytes a number, and the insertion of one.
 // What a list and an insertion mean is in specs/: Lists, Insertion.
+#![tactic(auto)]
+
 ghost use Rattle.std.specs.Prelude.{◌≡◌, ◌+◌, ◌*◌, ◌≤◌, length};
 ghost use Rattle.list.specs.Lists.{Holds, HasInserted};
 ghost use Rattle.list.specs.Insertion.{Placed, Shifted};
 
 // Where a number goes in a rising list.
-#[derive(Drop)]
+#[derive(Clone, Copy)]
 enum Spot {
     Before(usize),
     Present,

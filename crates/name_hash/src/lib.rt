@@ -1,19 +1,21 @@
 // A name: which byte strings are one, and the hash that a directory files it under.
 // What each means is in specs/: Name, Hash, Answer.
+#![tactic(auto)]
+
 ghost use Rattle.std.specs.Prelude.{◌≡◌, ◌≤◌};
 ghost use Rattle.name_hash.specs.Name.{name_bytes, is_name};
 ghost use Rattle.name_hash.specs.Hash.{add32, half_round, round, tea, push, key_word, key_of, is_dots, hash_of};
 ghost use Rattle.name_hash.specs.Answer.{hashed};
 
 // The hash's two words.
-#[derive(Drop)]
+#[derive(Clone, Copy)]
 pub struct State {
     pub first: u32,
     pub second: u32,
 }
 
 // What up to sixteen bytes of a name add to the hash.
-#[derive(Drop)]
+#[derive(Clone, Copy)]
 pub struct Key {
     pub a: u32,
     pub b: u32,
@@ -21,7 +23,7 @@ pub struct Key {
     pub d: u32,
 }
 
-#[derive(Drop)]
+#[derive(Clone, Copy)]
 pub enum Hashed {
     Hash(u32),
     BadName,
@@ -31,7 +33,7 @@ pub enum Hashed {
 fn add(x: u32, y: u32) -> u32
     ensures { result ≡ add32 x y }
 {
-    std::num::wrapping_add_u32(x, y)
+    x.wrapping_add(y)
 }
 
 fn half_round(x: u32, sum: u32, k: u32, l: u32) -> u32

@@ -1,5 +1,7 @@
 // Node lookup: the journal first, then the node address table.
 // What each means is in specs/: Entry, Table, Lookup.
+#![tactic(auto)]
+
 ghost use Rattle.std.specs.Prelude.{◌≡◌, true, ◌+◌, ◌*◌, ◌%◌, ◌≤◌, ◌<◌, length};
 ghost use Rattle.field.specs.Number.{le16};
 ghost use Rattle.field.specs.Map.{top_bit};
@@ -9,14 +11,14 @@ ghost use Rattle.nat.specs.Entry.{inode_at, address_at, in_journal};
 ghost use Rattle.nat.specs.Table.{in_range, copy_address, nat_map_in, entry_in, in_table, or_table, table_answer};
 
 // What a journal says of a node number: inode and address, or nothing.
-#[derive(Drop)]
+#[derive(Clone, Copy)]
 pub enum InJournal {
     Held(u32, u32),
     Absent,
 }
 
 // What a volume says of a node number: inode and address as stored, or that there is no such number.
-#[derive(Drop)]
+#[derive(Clone, Copy)]
 pub enum TableAnswer {
     OutOfRange,
     Entry(u32, u32),
@@ -24,7 +26,7 @@ pub enum TableAnswer {
 
 // What node lookup answers: the answer's number, then inode and address as stored, which are 0 unless the answer is 0.
 #[repr(C)]
-#[derive(Drop)]
+#[derive(Clone, Copy)]
 pub struct Lookup {
     pub answer: u32,
     pub inode: u32,

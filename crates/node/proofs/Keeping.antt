@@ -22,7 +22,7 @@ use Rattle.node.specs.declared.Leaf.{Leaf}
 use Rattle.node.specs.declared.File.{File}
 use Rattle.node.specs.Node.{bounds_of}
 use Rattle.node.specs.Block.{Fetched}
-use Rattle.node.specs.Leaf.{leaf_walk, at_leaf_lem, addresses_from, address_at, addresses_end, file_leaf_walk, LeafOf, Keeps}
+use Rattle.node.specs.Leaf.{leaf_walk, at_leaf, addresses_from, address_at, addresses_end, file_leaf_walk, LeafOf, Keeps}
 use Rattle.node.specs.Found.{data_of, DataIn, FileIn, file_block_walk}
 use Rattle.node.proofs.LeafWalks.{leaf_same, block_through}
 
@@ -135,7 +135,7 @@ keeps_none e =
 -- ---- a block through its leaf
 module _ (card : Card) (v : Volume) (file : File) (index : ℕ) {s : Lists} (fits : Fits (view_of card v) (file_block_walk card v file index) s) where
   abbrev from : ℕ → Outcome Fetched → Walk (Outcome Fetched)
-  from at = onward (at_leaf_lem (bounds_of v) at)
+  from at = onward (at_leaf (bounds_of v) at)
 
   begins : Reached (view_of card v) (file_block_walk card v file index) s (bind (file_leaf_walk card v file index) (from (address_at (place_in file index)))) s
   begins = reached_to (reached_start _ _ _) (block_through (bounds_of v) file.ino (card.block file.inode) file.addresses index)

@@ -1,5 +1,7 @@
 // A node of a file, and the data block of an index of a file.
 // What each means is in specs/: Node, Block, Found, Leaf.
+#![tactic(auto)]
+
 ghost use Rattle.std.specs.Prelude.{◌≡◌, ◌+◌, ◌≤◌, length};
 ghost use Rattle.field.specs.Card.{card_of};
 ghost use Rattle.place.specs.Place.{SlotsIn};
@@ -12,14 +14,14 @@ ghost use Rattle.node.specs.declared.Data.TheVariants as d;
 ghost use Rattle.node.specs.Leaf.{leaf_from, at_leaf, address_at, addresses_end, file_leaf_walk, LeafOf, Keeps};
 
 // The block of a node, or the answer that ends the walk.
-#[derive(Drop)]
+#[derive(Clone, Copy)]
 pub enum Found {
     At(u32),
     Stop(u32),
 }
 
 // The block of an index of a file, that there is none, or the answer that ends the walk.
-#[derive(Drop)]
+#[derive(Clone, Copy)]
 pub enum Data {
     Hole,
     At(u32),
@@ -27,13 +29,13 @@ pub enum Data {
 }
 
 // What was found, and how many nodes and blocks are listed then.
-#[derive(Drop)]
+#[derive(Clone, Copy)]
 pub struct NodeStep {
     pub found: Found,
     pub counts: walk::Counts,
 }
 
-#[derive(Drop)]
+#[derive(Clone, Copy)]
 pub struct DataStep {
     pub data: Data,
     pub counts: walk::Counts,
@@ -41,21 +43,21 @@ pub struct DataStep {
 
 // A leaf, the node that holds addresses of a file's blocks, or what is known in its place: a hole, or the answer that ended the walk to it.
 // Where in its bytes the address of an index stands, and where its addresses end.
-#[derive(Drop)]
+#[derive(Clone, Copy)]
 pub struct Leaf {
     pub node: Data,
     pub at: u32,
     pub end: u32,
 }
 
-#[derive(Drop)]
+#[derive(Clone, Copy)]
 pub struct LeafStep {
     pub leaf: Leaf,
     pub counts: walk::Counts,
 }
 
 // The data block of an index, and its leaf, in which the address of the next index stands.
-#[derive(Drop)]
+#[derive(Clone, Copy)]
 pub struct KeptStep {
     pub data: Data,
     pub leaf: Leaf,
@@ -63,7 +65,7 @@ pub struct KeptStep {
 }
 
 // A file: its inode number, the block of its inode, and how many addresses the inode holds.
-#[derive(Drop)]
+#[derive(Clone, Copy)]
 pub struct File {
     pub ino: u32,
     pub inode: u32,
@@ -270,7 +272,7 @@ pub fn no_leaf() -> Leaf
 }
 
 // Where in the bytes of its leaf the address of a place stands, and where the leaf's addresses end.
-#[derive(Drop)]
+#[derive(Clone, Copy)]
 struct Span {
     pub at: u32,
     pub end: u32,

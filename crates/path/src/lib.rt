@@ -1,4 +1,6 @@
 // A path and its parts, each a part of the path's own bytes. What they mean is in specs/: Path.
+#![tactic(auto)]
+
 ghost use Rattle.std.specs.Prelude.{◌≡◌, ◌+◌, ◌≤◌, length, drop};
 ghost use Rattle.path.specs.Path.{first_part, name_count};
 

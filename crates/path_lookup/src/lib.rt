@@ -1,5 +1,7 @@
 // A path looked up: its names one after another, each in the directory that the one before it led to.
 // What it means is in specs/: Lookup.
+#![tactic(auto)]
+
 ghost use Rattle.std.specs.Prelude.{◌<◌};
 ghost use Rattle.field.specs.Card.{card_of};
 ghost use Rattle.checkpoint.specs.Volume.{VolumeIn};

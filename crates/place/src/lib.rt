@@ -1,10 +1,12 @@
 // File place: where the address of a file's block is, and the way to it through the file's nodes.
 // What each means is in specs/: Place, Way.
+#![tactic(auto)]
+
 ghost use Rattle.std.specs.Prelude.{◌≡◌, []};
 ghost use Rattle.place.specs.Place.{place_of, NodesIn};
 ghost use Rattle.place.specs.Way.{step, way_of, in_array};
 
-#[derive(Drop)]
+#[derive(Clone, Copy)]
 pub enum Place {
     // A slot of the inode.
     Inode(u32),
@@ -19,14 +21,14 @@ pub enum Place {
 }
 
 // A node on the way to a block: its place number in the file, and the slot taken in it.
-#[derive(Drop)]
+#[derive(Clone, Copy)]
 pub struct Step {
     pub number: u32,
     pub slot: u32,
 }
 
 // The nodes on the way, the inode first. There are none where the index is past the last.
-#[derive(Drop)]
+#[derive(Clone, Copy)]
 pub struct Way {
     pub count: u32,
     pub steps: [Step; 4],

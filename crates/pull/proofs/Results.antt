@@ -20,7 +20,7 @@ use Rattle.walk.proofs.Fits.{fits_start}
 use Rattle.walk.proofs.Written.{left_value, left_counts, left_nodes, left_blocks}
 use Rattle.node.specs.Node.{Bounds, bounds_of}
 use Rattle.pull.specs.Walk.{Block, pull_walk}
-use Rattle.pull.specs.Pull.{nodes_most, blocks_most, Lent, lending, result, lent_in_shape, call_in_shape}
+use Rattle.pull.specs.Pull.{nodes_most, blocks_most, Lent, lending, result_in, lent_in_shape, call_in_shape}
 use Rattle.pull.specs.Pull.{answer_of, count_of, buffer_after, refused_pull, written, pull_run, pulled_from, pulled}
 use Rattle.pull.proofs.Sizes.{pull_within}
 
@@ -52,7 +52,7 @@ module _ (card : Card) (v : Volume) (path : List ℕ) (index : ℕ) (lent : Lent
     (left : Walked (view_of card v) (pull_walk (bounds_of v) path index) (lists lent.nodes lent.blocks none) x (lists nodes blocks counts)) where
   pub pull_written : (bytes : (k : ℕ) → get_or nodes k 0 < 256) (bytes' : (k : ℕ) → get_or blocks k 0 < 256) {block : List ℕ} {answer count : ℕ}
       → answer ≡ answer_of x → count ≡ count_of x → block ≡ buffer_after x lent.block
-      → result (record { answer = answer; byte_count = count; node_count = counts.nodes; block_count = counts.blocks })
+      → result_in (record { answer = answer; byte_count = count; node_count = counts.nodes; block_count = counts.blocks })
       (lending block nodes blocks) ≡ written (pull_run card v path index) lent
   unfolding pull_run
   pull_written f g {block} {answer} {count} p q r =

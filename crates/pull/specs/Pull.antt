@@ -36,8 +36,8 @@ pub record Result : Type 0 where
   pub numbers : Pulled
   pub memory : Lent
 
-abbrev pub result : Pulled → Lent → Result
-result numbers memory = record { numbers = numbers; memory = memory }
+abbrev pub result_in : Pulled → Lent → Result
+result_in numbers memory = record { numbers = numbers; memory = memory }
 
 -- "the lists and counts as that pull left them"
 abbrev pub nodes_left : Result → Listed
@@ -80,12 +80,12 @@ buffer_after (stop answer) buffer = buffer
 
 -- "as 4": untouched, and counts 0
 abbrev pub refused_pull : ℕ → Lent → Result
-refused_pull answer lent = result (record { answer = answer; byte_count = 0; node_count = 0; block_count = 0 }) lent
+refused_pull answer lent = result_in (record { answer = answer; byte_count = 0; node_count = 0; block_count = 0 }) lent
 
 -- the numbers of a walk, and its lists written
 abbrev pub written : Ran (Outcome Block) → Lent → Result
 written r lent =
-    result
+    result_in
     (record {
       answer = answer_of r.value;
       byte_count = count_of r.value;

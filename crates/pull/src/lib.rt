@@ -1,5 +1,7 @@
 // Pull: one block of the file that a path leads to, with the lists of what the answer rested on.
 // What each means is in specs/: Walk, Pull.
+#![tactic(auto)]
+
 ghost use Rattle.std.specs.Prelude.{◌≡◌, true, ◌&&◌, ◌+◌, ◌/◌, ◌≤◌, ◌<◌, eqb, leb, length};
 ghost use Rattle.field.specs.Card.{card_of};
 ghost use Rattle.checkpoint.specs.Volume.{VolumeIn};
@@ -8,12 +10,12 @@ ghost use Rattle.node.specs.Node.{bounds_of};
 ghost use Rattle.node.specs.Found.{DataIn};
 ghost use Rattle.path.specs.Path.{names_most, part_count, is_path};
 ghost use Rattle.pull.specs.Walk.{at_file, file_walk, block_found, pull_walk};
-ghost use Rattle.pull.specs.Pull.{nodes_most, blocks_most, lending, result, lent_in_shape};
+ghost use Rattle.pull.specs.Pull.{nodes_most, blocks_most, lending, result_in, lent_in_shape};
 ghost use Rattle.pull.specs.Pull.{answer_of, count_of, buffer_after, written, pull_run, pulled};
 
 // A pull's numbers, as they cross to C.
 #[repr(C)]
-#[derive(Drop)]
+#[derive(Clone, Copy)]
 pub struct Pulled {
     pub answer: u32,
     pub byte_count: u32,
@@ -22,7 +24,7 @@ pub struct Pulled {
 }
 
 // A block of a file, where in it the file's bytes start and how many they are, and how many nodes and blocks are listed then.
-#[derive(Drop)]
+#[derive(Clone, Copy)]
 struct BlockStep {
     pub data: node::Data,
     pub start: usize,
@@ -45,10 +47,10 @@ fn block_from_inode(
         (lists nodes.old blocks.old counts) }
     requires volume_in { VolumeIn (card_of image.now) v }
     requires at_bound { at < (card_of image.now).blocks }
-    ensures* fact { λ r. ⌜ Walked (image_view image.now v) (at_file (bounds_of v) index ino ((card_of image.now).block at))
-        (lists nodes.old blocks.old counts) (block_found (card_of image.now) r.data r.start r.bytes)
-        (lists nodes.new blocks.new r.counts) ⌝ }
-    ensures* fact_2 { λ r. ⌜ DataIn (card_of image.now) r.data × (r.start + r.bytes ≤ 4096) ⌝ }
+    ensures fact { Walked (image_view image.now v) (at_file (bounds_of v) index ino ((card_of image.now).block at))
+        (lists nodes.old blocks.old counts) (block_found (card_of image.now) result.data result.start result.bytes)
+        (lists nodes.new blocks.new result.counts) }
+    ensures fact_2 { DataIn (card_of image.now) result.data × (result.start + result.bytes ≤ 4096) }
 {
     let i = inode::inode_of(field::block_at(image, at));
     if !inode::is_regular(i) {
@@ -104,10 +106,10 @@ fn block_of_file(
 ) -> BlockStep
     requires fits { Fits (image_view image.now v) (file_walk (bounds_of v) index ino) (lists nodes.old blocks.old counts) }
     requires volume_in { VolumeIn (card_of image.now) v }
-    ensures* fact { λ r. ⌜ Walked (image_view image.now v) (file_walk (bounds_of v) index ino)
-        (lists nodes.old blocks.old counts) (block_found (card_of image.now) r.data r.start r.bytes)
-        (lists nodes.new blocks.new r.counts) ⌝ }
-    ensures* fact_2 { λ r. ⌜ DataIn (card_of image.now) r.data × (r.start + r.bytes ≤ 4096) ⌝ }
+    ensures fact { Walked (image_view image.now v) (file_walk (bounds_of v) index ino)
+        (lists nodes.old blocks.old counts) (block_found (card_of image.now) result.data result.start result.bytes)
+        (lists nodes.new blocks.new result.counts) }
+    ensures fact_2 { DataIn (card_of image.now) result.data × (result.start + result.bytes ≤ 4096) }
 {
     let step = node::node_step(image, v, nodes, blocks, counts, ino, ino, 0);
     let found = step.found;
@@ -134,10 +136,10 @@ fn walk_to(
 ) -> BlockStep
     requires fits { Fits (image_view image.now v) (pull_walk (bounds_of v) path.now index) (lists nodes.old blocks.old none) }
     requires volume_in { VolumeIn (card_of image.now) v }
-    ensures* fact { λ r. ⌜ Walked (image_view image.now v) (pull_walk (bounds_of v) path.now index)
-        (lists nodes.old blocks.old none) (block_found (card_of image.now) r.data r.start r.bytes)
-        (lists nodes.new blocks.new r.counts) ⌝ }
-    ensures* fact_2 { λ r. ⌜ DataIn (card_of image.now) r.data × (r.start + r.bytes ≤ 4096) ⌝ }
+    ensures fact { Walked (image_view image.now v) (pull_walk (bounds_of v) path.now index)
+        (lists nodes.old blocks.old none) (block_found (card_of image.now) result.data result.start result.bytes)
+        (lists nodes.new blocks.new result.counts) }
+    ensures fact_2 { DataIn (card_of image.now) result.data × (result.start + result.bytes ≤ 4096) }
 {
     let empty = walk::Counts {
         nodes: 0,
@@ -158,7 +160,7 @@ fn walk_to(
 }
 
 // An answer with its byte count.
-#[derive(Drop)]
+#[derive(Clone, Copy)]
 pub struct Delivered {
     pub answer: u32,
     pub count: u32,
@@ -174,9 +176,9 @@ pub fn deliver(
 ) -> Delivered
     requires data_in { DataIn (card_of image.now) «data» × (start + count ≤ 4096) }
     requires buffer_len { length buffer.old ≡ 4096 }
-    ensures* { λ r. ⌜ (r.answer ≡ answer_of (block_found (card_of image.now) «data» start count))
-        × (r.count ≡ count_of (block_found (card_of image.now) «data» start count))
-        × (buffer.new ≡ buffer_after (block_found (card_of image.now) «data» start count) buffer.old) ⌝ }
+    ensures { (result.answer ≡ answer_of (block_found (card_of image.now) «data» start count))
+        × (result.count ≡ count_of (block_found (card_of image.now) «data» start count))
+        × (buffer.new ≡ buffer_after (block_found (card_of image.now) «data» start count) buffer.old) }
 {
     let bytes = count as u32;
     match data {
@@ -202,7 +204,7 @@ pub fn deliver(
 }
 
 pub fn refused_pull(answer: u32) -> Pulled
-    ensures* { λ r. ⌜ r ≡ record { answer = answer; byte_count = 0; node_count = 0; block_count = 0 } ⌝ }
+    ensures { result ≡ record { answer = answer; byte_count = 0; node_count = 0; block_count = 0 } }
 {
     Pulled {
         answer,
@@ -215,7 +217,7 @@ pub fn refused_pull(answer: u32) -> Pulled
 // Whether the lent memory is of the lengths that a pull of k names takes.
 pub fn lent_in_shape(k: usize, block: usize, nodes: usize, blocks: usize) -> bool
     requires { k ≤ names_most }
-    ensures* { λ r. ⌜ r ≡ (eqb block 4096 && leb (nodes_most k) (nodes / 4) && leb (blocks_most k) (blocks / 4)) ⌝ }
+    ensures { result ≡ (eqb block 4096 && leb (nodes_most k) (nodes / 4) && leb (blocks_most k) (blocks / 4)) }
 {
     (block == 4096) & (175 * k + 4 <= nodes / 4) & (233 * k + 5 <= blocks / 4)
 }
@@ -233,9 +235,9 @@ pub fn pull_opened(
     requires volume_in { VolumeIn (card_of image.now) v }
     requires path_value { is_path path.now ≡ true }
     requires blocks_value { lent_in_shape (part_count path.now) (lending block.old nodes.old blocks.old) ≡ true }
-    ensures* { λ r. ⌜ result r (lending block.new nodes.new blocks.new)
+    ensures { result_in result (lending block.new nodes.new blocks.new)
         ≡ written (pull_run (card_of image.now) v path.now index)
-        (lending block.old nodes.old blocks.old) ⌝ }
+        (lending block.old nodes.old blocks.old) }
 {
     let step = walk_to(image, v, nodes, blocks, path, index);
     let data = step.data;
@@ -258,9 +260,9 @@ pub fn pull(
     nodes: &mut [u8],
     blocks: &mut [u8],
 ) -> Pulled
-    ensures* { λ r. ⌜ result r (lending block.new nodes.new blocks.new)
+    ensures { result_in result (lending block.new nodes.new blocks.new)
         ≡ pulled image.now path.now index
-        (lending block.old nodes.old blocks.old) ⌝ }
+        (lending block.old nodes.old blocks.old) }
 {
     let k = path::name_count(path);
     if !(superblock::in_shape(image.len())

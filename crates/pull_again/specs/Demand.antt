@@ -6,7 +6,7 @@ use Rattle.nat.specs.Table.{table_answer}
 use Rattle.list.specs.Lists.{AllOf, entries}
 use Rattle.node.specs.Node.{bounds_of}
 use Rattle.path.specs.Path.{part_count}
-use Rattle.pull.specs.Pull.{Lent, Result, result, lent_in_shape, nodes_left, blocks_left, pulled}
+use Rattle.pull.specs.Pull.{Lent, Result, result_in, lent_in_shape, nodes_left, blocks_left, pulled}
 use Rattle.compare.specs.declared.Compared.{Compared}
 use Rattle.compare.specs.Compare.{compared}
 use Rattle.pull_again.specs.declared.Again.{Again}
@@ -37,7 +37,7 @@ pub record SamePull (r q : Result) : Type 0 where
 -- What a host that pulls, compares and pulls again has in hand, over the memory that it lent to the first pull and to the second:
 -- both pulls are the definition's, Compare says what it says of the first one's lists, and where that is "same" the pulls are the same.
 pub record PulledAgain (kept fresh path : List ℕ) (index : ℕ) (lent lent' left left' : Lent) (r : Again) : Type 0 where
-  pub first : result r.first left ≡ pulled kept path index lent
+  pub first : result_in r.first left ≡ pulled kept path index lent
   pub compared : r.compared ≡ said kept fresh (pulled kept path index lent)
-  pub second : result r.second left' ≡ pulled fresh path index lent'
-  pub same : lent_in_shape (part_count path) lent' ≡ true → r.compared.answer ≡ 15 → SamePull (result r.first left) (result r.second left')
+  pub second : result_in r.second left' ≡ pulled fresh path index lent'
+  pub same : lent_in_shape (part_count path) lent' ≡ true → r.compared.answer ≡ 15 → SamePull (result_in r.first left) (result_in r.second left')

@@ -1,10 +1,12 @@
 // What a host does with a cache: it pulls a block and keeps the image and the lists, and when a new image comes it compares. If
 // that says "same", the pull on the new image gives what was kept; here that pull is made, and the contract says so.
+#![tactic(auto)]
+
 ghost use Rattle.pull.specs.Pull.{lending};
 ghost use Rattle.pull_again.specs.Demand.{PulledAgain};
 
 // The first pull, what Compare says, and the second pull.
-#[derive(Drop)]
+#[derive(Clone, Copy)]
 pub struct Again {
     pub first: pull::Pulled,
     pub compared: compare::Compared,

@@ -1,5 +1,7 @@
 // A run of pulls: the path is looked up once, then block after block is put into the buffer.
 // What each means is in specs/: Run, Walk.
+#![tactic(auto)]
+
 ghost use Rattle.std.specs.Prelude.{◌≡◌, true, ◌&&◌, ◌*◌, ◌/◌, ◌≤◌, eqb, leb};
 ghost use Rattle.field.specs.Card.{card_of};
 ghost use Rattle.checkpoint.specs.Volume.{VolumeIn};
@@ -15,7 +17,7 @@ ghost use Rattle.pull_run.specs.Run.{run_written, run_pulled};
 
 // A run's numbers, as they cross to C: how many blocks stand, and the byte count of the last of them, with a refusal too.
 #[repr(C)]
-#[derive(Drop)]
+#[derive(Clone, Copy)]
 pub struct Run {
     pub answer: u32,
     pub count: u32,

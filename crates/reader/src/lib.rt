@@ -1,5 +1,7 @@
 // A reader that is fed one block at a time: its state goes into a step by value, and comes back.
 // What each means is in specs/: Reading.
+#![tactic(auto)]
+
 ghost use Rattle.std.specs.Prelude.{◌≡◌, true, List, ℕ, ◌≤◌, length, take};
 ghost use Rattle.field.specs.Choice.{choose};
 ghost use Rattle.list.specs.Lists.{Rising, insert, numbers};
@@ -94,7 +96,7 @@ fn keep_block(into: &mut [u8; 4096], from: &[u8], keeps: bool)
     ensures { into.new ≡ choose keeps from.now into.old }
 {
     if keeps {
-        bytes::copy(from, into);
+        buffer::copy(from, into);
     }
 }
 
@@ -103,7 +105,7 @@ fn keep_second(into: &mut [u8; 4096], from: &[u8; 4096], keeps: bool)
     ensures { into.new ≡ choose keeps from.now into.old }
 {
     if keeps {
-        bytes::copy(from, into);
+        buffer::copy(from, into);
     }
 }
 
@@ -111,7 +113,7 @@ fn keep_path(into: &mut [u8; 2048], from: &[u8])
     requires { length from.now ≤ 2048 }
     ensures { (take (length from.now) into.new ≡ from.now) × (length into.new ≡ 2048) }
 {
-    bytes::copy(from, into);
+    buffer::copy(from, into);
 }
 
 // The journal's bytes in its block, where it is kept.
@@ -121,7 +123,7 @@ fn keep_journal(into: &mut [u8; 512], block: &[u8], at: u32, keeps: bool)
 {
     if keeps {
         let start = at as usize;
-        bytes::copy(&block[start..start + 512], into);
+        buffer::copy(&block[start..start + 512], into);
     }
 }
 

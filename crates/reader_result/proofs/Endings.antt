@@ -11,7 +11,7 @@ use Rattle.field.proofs.Choosing.{needed, needed_le}
 use Rattle.path.proofs.Counting.{count_few}
 use Rattle.list.specs.Lists.{numbers, over}
 use Rattle.list.proofs.Entries.{length_numbers}
-use Rattle.pull.specs.Pull.{nodes_most, blocks_most, Lent, lending, Result, result, lent_in_shape, refused_pull}
+use Rattle.pull.specs.Pull.{nodes_most, blocks_most, Lent, lending, Result, result_in, lent_in_shape, refused_pull}
 use Rattle.pull.proofs.Results.{block_room}
 use Rattle.asking.specs.Pull.{result_of}
 use Rattle.reader_state.specs.declared.At.{At}
@@ -121,7 +121,7 @@ ending_refused at m nodes blocks lent e = rw (eq-eqb _ _ e)
 module _ (at : At) (m : Memory) (nodes blocks : List ℕ) (lent : Lent) where
   abbrev pub read_as : Result
   read_as =
-      result (numbers_of at)
+      result_in (numbers_of at)
       (lending (bytes_by at.stage at.byte_count m.held lent.block) (over (numbers nodes 0 at.node_count) lent.nodes)
       (over (numbers blocks 0 at.block_count) lent.blocks))
 

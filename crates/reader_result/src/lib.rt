@@ -1,14 +1,16 @@
 // What a reader that is fed one block at a time gives, once the answer is there: what the pull gives.
 // What it means is in specs/: Result.
+#![tactic(auto)]
+
 ghost use Rattle.std.specs.Prelude.{◌≡◌, ◌+◌, ◌*◌, ◌≤◌, length, take, leb};
 ghost use Rattle.list.specs.Lists.{numbers, over};
 ghost use Rattle.path.specs.Path.{name_count};
-ghost use Rattle.pull.specs.Pull.{lending, result};
+ghost use Rattle.pull.specs.Pull.{lending, result_in};
 ghost use Rattle.reader_result.specs.Result.{start_by, answer_fits, list_fits, counts_fit_in, answer_by, count_by, numbers_of, bytes_by, read_out};
 
 fn names_in(path: &[u8; 2048], length: u32) -> usize
     requires { length ≤ 2048 }
-    ensures* { λ r. ⌜ r ≡ name_count (take length path.now) ⌝ }
+    ensures { result ≡ name_count (take length path.now) }
 {
     let bytes: &[u8] = path;
     path::name_count(&bytes[..length as usize])
@@ -16,32 +18,32 @@ fn names_in(path: &[u8; 2048], length: u32) -> usize
 
 // Where the answer's bytes start in the block that is held.
 fn start_in(stage: u32) -> usize
-    ensures* { λ r. ⌜ (r ≡ start_by stage) × (r ≤ 4096) ⌝ }
+    ensures { (result ≡ start_by stage) × (result ≤ 4096) }
 {
     if 3 < stage { inode::INLINE_START } else { 0 }
 }
 
 fn list_fits(count: u32, most: u32, bytes: usize) -> bool
-    ensures* { λ r. ⌜ r ≡ list_fits count most bytes ⌝ }
+    ensures { result ≡ list_fits count most bytes }
 {
     (count <= most) & (count as usize <= bytes / 4)
 }
 
 fn bytes_fit(stage: u32, count: u32) -> bool
-    ensures* { λ r. ⌜ r ≡ leb (count + start_by stage) 4096 ⌝ }
+    ensures { result ≡ leb (count + start_by stage) 4096 }
 {
     let end = count as usize + start_in(stage);
     end <= 4096
 }
 
 fn answer_fits(stage: u32, answer: u32) -> bool
-    ensures* { λ r. ⌜ r ≡ answer_fits stage answer ⌝ }
+    ensures { result ≡ answer_fits stage answer }
 {
     (1 < stage) | (answer <= 14)
 }
 
 fn counts_fit(at: reader_state::At, nodes: usize, blocks: usize) -> bool
-    ensures* { λ r. ⌜ r ≡ counts_fit_in at nodes blocks ⌝ }
+    ensures { result ≡ counts_fit_in at nodes blocks }
 {
     list_fits(at.node_count, 1404, nodes)
         & list_fits(at.block_count, 1869, blocks)
@@ -51,7 +53,7 @@ fn counts_fit(at: reader_state::At, nodes: usize, blocks: usize) -> bool
 
 fn copy_list(from: &[u8], count: u32, into: &mut [u8])
     requires { (4 * count ≤ length from.now) × (4 * count ≤ length into.old) }
-    ensures* { λ _. ⌜ into.new ≡ over (numbers from.now 0 count) into.old ⌝ }
+    ensures { into.new ≡ over (numbers from.now 0 count) into.old }
 {
     let end = 4 * count as usize;
     buffer::put_bytes(into, 0, &from[..end]);
@@ -59,20 +61,20 @@ fn copy_list(from: &[u8], count: u32, into: &mut [u8])
 
 fn copy_nodes(from: &[u8; 5620], count: u32, into: &mut [u8])
     requires { (count ≤ 1404) × (4 * count ≤ length into.old) }
-    ensures* { λ _. ⌜ into.new ≡ over (numbers from.now 0 count) into.old ⌝ }
+    ensures { into.new ≡ over (numbers from.now 0 count) into.old }
 {
     copy_list(from, count, into);
 }
 
 fn copy_blocks(from: &[u8; 7480], count: u32, into: &mut [u8])
     requires { (count ≤ 1869) × (4 * count ≤ length into.old) }
-    ensures* { λ _. ⌜ into.new ≡ over (numbers from.now 0 count) into.old ⌝ }
+    ensures { into.new ≡ over (numbers from.now 0 count) into.old }
 {
     copy_list(from, count, into);
 }
 
 fn answer_by(stage: u32, answer: u32) -> u32
-    ensures* { λ r. ⌜ r ≡ answer_by stage answer ⌝ }
+    ensures { result ≡ answer_by stage answer }
 {
     match stage {
         1 => answer,
@@ -82,14 +84,14 @@ fn answer_by(stage: u32, answer: u32) -> u32
 }
 
 fn count_by(stage: u32, count: u32) -> u32
-    ensures* { λ r. ⌜ r ≡ count_by stage count ⌝ }
+    ensures { result ≡ count_by stage count }
 {
     if stage == 1 { 0 } else { count }
 }
 
 // The answer's numbers.
 fn numbers_of(at: reader_state::At) -> pull::Pulled
-    ensures* { λ r. ⌜ r ≡ numbers_of at ⌝ }
+    ensures { result ≡ numbers_of at }
 {
     pull::Pulled {
         answer: answer_by(at.stage, at.answer),
@@ -102,7 +104,7 @@ fn numbers_of(at: reader_state::At) -> pull::Pulled
 // Its bytes: none, zeros, or those of the block that is held.
 fn put_answer(stage: u32, count: u32, held: &[u8; 4096], block: &mut [u8])
     requires { (length block.old ≡ 4096) × (count + start_by stage ≤ 4096) }
-    ensures* { λ _. ⌜ block.new ≡ bytes_by stage count held.now block.old ⌝ }
+    ensures { block.new ≡ bytes_by stage count held.now block.old }
 {
     match stage {
         1 => {}
@@ -118,8 +120,8 @@ pub fn read_out(
     nodes: &mut [u8],
     blocks: &mut [u8],
 ) -> pull::Pulled
-    ensures* { λ p. ⌜ result p (lending block.new nodes.new blocks.new)
-        ≡ read_out r (lending block.old nodes.old blocks.old) ⌝ }
+    ensures { result_in result (lending block.new nodes.new blocks.new)
+        ≡ read_out r (lending block.old nodes.old blocks.old) }
 {
     let t = r;
     let at = t.at;

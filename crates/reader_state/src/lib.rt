@@ -1,5 +1,7 @@
 // Where a reader is that is fed one block at a time, and what it does with the block that comes: its numbers then, which bytes it keeps, and
 // what it lists. What each means is in specs/: Resume, Decision, Fits.
+#![tactic(auto)]
+
 ghost use Rattle.std.specs.Prelude.{◌≡◌, true, List, ℕ, ◌≤◌, ◌<◌, length};
 ghost use Rattle.asking.specs.Asking.{Asking};
 ghost use Rattle.asking.specs.Open.{Opens};
@@ -12,7 +14,7 @@ ghost use Rattle.reader_state.specs.Fits.{areas_fit, pack_fits, map_fits, open_f
 // A reader's numbers, as they cross to C. First whether a block is asked for, and which; then the stage that it is asked for in, or the
 // answer's kind, and what was given at the start.
 #[repr(C)]
-#[derive(Drop)]
+#[derive(Clone, Copy)]
 pub struct At {
     pub asks: u32,
     pub block: u32,
@@ -32,7 +34,7 @@ pub struct At {
 
 // The numbers then; which of its blocks is kept, and whether the journal is; the node that was looked up, if one was, and whether the block
 // that is asked for is one that the walk reads.
-#[derive(Drop)]
+#[derive(Clone, Copy)]
 pub struct Decision {
     pub at: At,
     pub keep: ask_open::Keep,

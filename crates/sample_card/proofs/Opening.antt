@@ -9,7 +9,7 @@ use Rattle.superblock.specs.Superblock.{superblock_of, logs_pass, units_pass, co
 use Rattle.superblock.specs.Areas.{found}
 use Rattle.checkpoint.specs.declared.Chosen.TheVariants.{Pack}
 use Rattle.checkpoint.specs.declared.Opening.TheVariants.{Opened}
-use Rattle.checkpoint.specs.Pack.{block_passes, pack_passes, chosen, first_passes_lem, last_passes}
+use Rattle.checkpoint.specs.Pack.{block_passes, pack_passes, chosen, first_passes, last_passes}
 use Rattle.checkpoint.specs.Checkpoint.{checkpoint_of}
 use Rattle.checkpoint.specs.Journal.{damaged, journal_in, journal_placed, journal_offset}
 use Rattle.checkpoint.specs.Volume.{maps_readable, header_readable, journal_readable, open_pack, opened}
@@ -35,11 +35,11 @@ block_passes_lem = rw (pack_numbers.2, pack_numbers.3, pack_sum)
 
 -- the first pack's last block is as its first; of the second pack there is none
 first_passes_lem : pack_passes card 512 ≡ true
-unfolding pack_passes first_passes_lem last_passes checkpoint_of runs block_in
+unfolding pack_passes first_passes last_passes checkpoint_of runs block_in
 first_passes_lem = simp (pack_numbers.0, pack_numbers.1, block_passes_lem)
 
 second_fails : pack_passes card 1024 ≡ false
-unfolding pack_passes first_passes_lem block_passes checkpoint_of runs block_in zeros le16 le32
+unfolding pack_passes first_passes block_passes checkpoint_of runs block_in zeros le16 le32
 second_fails = refl
 
 first_chosen : chosen card 512 ≡ Pack 512

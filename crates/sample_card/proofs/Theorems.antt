@@ -22,7 +22,7 @@ use Rattle.path.specs.Path.{parts_of, part_count, are_names, is_path}
 use Rattle.walk.specs.Walk.{Ran, ran, Outcome}
 use Rattle.node.specs.Block.{hole, held}
 use Rattle.pull.specs.Walk.{Block}
-use Rattle.pull.specs.Pull.{Lent, lending, Result, result, lent_in_shape, written, pull_run, pulled}
+use Rattle.pull.specs.Pull.{Lent, lending, Result, result_in, lent_in_shape, written, pull_run, pulled}
 use Rattle.pull.proofs.Results.{call_in_shape_lem, call_opens}
 use Rattle.file_run.specs.Standing.{Standing, standing, bytes_standing}
 use Rattle.pull_run.specs.Run.{pulls_from, run_in_shape, run_pulls, run_result, run_written, run_pulled}
@@ -60,7 +60,7 @@ a_lookup_answers_0 = rw (some_card_opens, image_card) (ap table_numbers table_en
 -- a pull's whole result: the answer, the byte count, what the block buffer holds then, and the two lists, written into the lent memory
 abbrev pub leaves : ℕ → ℕ → List ℕ → List ℕ → List ℕ → Lent → Result
 leaves answer count block nodes blocks lent =
-    result (record { answer = answer; byte_count = count; node_count = length nodes; block_count = length blocks })
+    result_in (record { answer = answer; byte_count = count; node_count = length nodes; block_count = length blocks })
     (lending block (over nodes lent.nodes) (over blocks lent.blocks))
 
 -- there is memory in shape to lend: for one name, and for eight

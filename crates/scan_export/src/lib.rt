@@ -1,5 +1,7 @@
 // The scan of a directory block, or of an inline directory, alone, for tests; it is not in the library that the rig links.
 // What it means is in specs/: Scanned.
+#![tactic(auto)]
+
 ghost use Rattle.std.specs.Prelude.{◌≡◌, ◌≤◌, drop};
 ghost use Rattle.inode.specs.Inode.{inline_start};
 ghost use Rattle.dentry.specs.Slot.{layout_of, block_layout, inline_layout};
@@ -8,7 +10,7 @@ ghost use Rattle.scan_export.specs.Scanned.{seeks, scanned};
 
 // A scan's numbers, as they cross to C.
 #[repr(C)]
-#[derive(Drop)]
+#[derive(Clone, Copy)]
 pub struct Scanned {
     pub answer: u32,
     pub inode: u32,

@@ -1,5 +1,7 @@
 // The segment report: the main segments whose SIT entry has a valid count that is off, and the valid blocks of all.
 // What each means is in specs/: Off, Report.
+#![tactic(auto)]
+
 ghost use Rattle.std.specs.Prelude.{◌≡◌, ◌*◌, ◌≤◌, ◌<◌, length};
 ghost use Rattle.field.specs.Card.{card_of};
 ghost use Rattle.sit.specs.Table.{sit_entry};
@@ -8,7 +10,7 @@ ghost use Rattle.segment_report.specs.Report.{reported, with_segment, refused_nu
 
 // A report's numbers, as they cross to C: how many segments are listed, and the ones in all maps.
 #[repr(C)]
-#[derive(Drop)]
+#[derive(Clone, Copy)]
 pub struct Segments {
     pub answer: u32,
     pub count: u32,

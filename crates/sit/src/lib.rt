@@ -1,5 +1,7 @@
 // The segment information table (SIT): a main segment's entry, by the journal first and then by the table, and what it says.
 // What each means is in specs/: Entry, Table, Opening.
+#![tactic(auto)]
+
 ghost use Rattle.std.specs.Prelude.{◌≡◌, ◌+◌, ◌*◌, ◌≤◌, ◌<◌, length};
 ghost use Rattle.field.specs.Map.{top_bit};
 ghost use Rattle.field.specs.Card.{card_of};

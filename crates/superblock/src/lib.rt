@@ -1,5 +1,7 @@
 // The superblock: which copy is used, and the areas that it names.
 // What each means is in specs/: Shape, Superblock, Areas.
+#![tactic(auto)]
+
 ghost use Rattle.std.specs.Prelude.{◌≡◌, ◌≤◌, ◌<◌, length, eqb};
 ghost use Rattle.field.specs.Card.{card_of};
 ghost use Rattle.field.specs.Choice.{choose};
@@ -13,7 +15,7 @@ ghost use Rattle.superblock.specs.Areas.{areas_of, accepted, found};
 const MOST_BLOCKS: usize = 4194304;
 
 // A copy's fields, under their names in the Linux header.
-#[derive(Drop)]
+#[derive(Clone, Copy)]
 pub struct Superblock {
     pub log_sectorsize: u32,
     pub log_sectors_per_block: u32,
@@ -43,7 +45,7 @@ pub struct Superblock {
 
 // The block address of each area, and its size in segments. The main area ends before block main_end.
 #[repr(C)]
-#[derive(Drop)]
+#[derive(Clone, Copy)]
 pub struct Areas {
     pub checkpoint: u32,
     pub sit: u32,
@@ -58,14 +60,14 @@ pub struct Areas {
 }
 
 // The areas that the copy in use names, or the answer that refuses the image.
-#[derive(Drop)]
+#[derive(Clone, Copy)]
 pub enum Found {
     At(Areas),
     Refused(u32),
 }
 
 // A copy's fields, if it passes.
-#[derive(Drop)]
+#[derive(Clone, Copy)]
 pub enum Tried {
     Passed(Superblock),
     Failed,

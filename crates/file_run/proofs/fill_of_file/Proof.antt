@@ -6,7 +6,7 @@ use Rattle.field.specs.Card.{Card, card_of}
 use Rattle.walk.specs.Walk.{Walk, ok}
 use Rattle.walk.proofs.Fits.{fits_part}
 use Rattle.node.specs.Node.{bounds_of}
-use Rattle.node.specs.Found.{found_of_lem, FoundIn}
+use Rattle.node.specs.Found.{found_of, FoundIn}
 use Rattle.file_run.specs.Standing.{Standing}
 use Rattle.file_run.specs.Walks.{blocks_walk, file_run_walk}
 use Rattle.file_run.proofs.Unless.{unless_stop, unless_fits, unless_filled}
@@ -33,8 +33,8 @@ abbrev found_of_lem : tie.After-found2 → tie.After-listed
 found_of_lem k = k.before.before
 
 value : (k : tie.After-found2) → let l = found_of_lem k in
-    found_of_lem (card_of_lem l) (step_of l).node-step.result.found ≡ ok ((card_of_lem l).block k.found2.given.0.0)
-value k = ap (found_of_lem (card_of_lem (found_of_lem k))) k.found2.given.1
+    found_of (card_of_lem l) (step_of l).node-step.result.found ≡ ok ((card_of_lem l).block k.found2.given.0.0)
+value k = ap (found_of (card_of_lem (found_of_lem k))) k.found2.given.1
 
 on_card_lem : (k : tie.After-found2) → k.found2.given.0.0 < (card_of_lem (found_of_lem k)).blocks
 on_card_lem k = let l = found_of_lem k in subst (FoundIn (card_of_lem l)) k.found2.given.1 (step_of l).node-step.ensures.1
@@ -73,7 +73,7 @@ returns c =
     let k = c.before in
     let l = k.before.before in
     unless_stop (rest_of l) (step_of l).node-step.ensures.0
-    (ap (found_of_lem (card_of_lem l)) k.found.given.1)
+    (ap (found_of (card_of_lem l)) k.found.given.1)
 
 same_length_3 : tie.Need-same-length-3
 same_length_3 c = search rules

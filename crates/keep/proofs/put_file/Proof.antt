@@ -1,5 +1,5 @@
 -- What stands before the lists, then the nodes, then the blocks.
-use Rattle.pull.specs.Pull.{Result, lending, result}
+use Rattle.pull.specs.Pull.{Result, lending, result_in}
 use Rattle.keep.proofs.Found.{file_laid}
 use borrow.Author.Rules.{rules}
 use Rattle.keep.proofs.put_file.Statement.{statement}
@@ -47,7 +47,7 @@ returns c =
     let nodes = nodes_of_lem blocks in
     let front = front_of_lem nodes in
     let s = start_of front in
-    let r : Result = result s.args.pulled (lending s.args.block.now s.args.nodes.now s.args.blocks.now) in
+    let r : Result = result_in s.args.pulled (lending s.args.block.now s.args.nodes.now s.args.blocks.now) in
     file_laid s.args.image.now s.args.v s.args.path.now s.args.index r s.pre.0 s.args.room.now front.put_front.ensures
     nodes.put-nodes.ensures blocks.put-blocks.ensures s.pre.1
 

@@ -5,7 +5,7 @@ use mathlib.Core.List.{List}
 use lib.ListN.{length}
 use Prim.Native.Nat.{ℕ}
 use Rattle.field.specs.Card.{card_of}
-use Rattle.pull.specs.Pull.{Result, lending, result}
+use Rattle.pull.specs.Pull.{Result, lending, result_in}
 use Rattle.keep_file.specs.Layout.{layout}
 use Rattle.keep.specs.Parts.{keep_found}
 use Rattle.keep.proofs.Found.{found_length, room_short, room_enough}
@@ -18,7 +18,7 @@ abbrev start_of : tie.After-file-end → tie.Start
 start_of k = k.before.before.before.before.before.before.before.before.before
 
 abbrev result_of_lem : tie.Start → Result
-result_of_lem s = result s.args.pulled (lending s.args.block.now s.args.nodes.now s.args.blocks.now)
+result_of_lem s = result_in s.args.pulled (lending s.args.block.now s.args.nodes.now s.args.blocks.now)
 
 abbrev file_of_lem : tie.Start → List ℕ
 file_of_lem s = layout (keep_found (card_of s.args.image.now) s.args.v s.args.path.now s.args.index (result_of_lem s))

@@ -7,7 +7,7 @@ use mathlib.Core.List.{List, ◌∷◌}
 use lib.ListN.{length, drop, take}
 use borrow.Author.Rules.{rules}
 use borrow.Author.Tests.{eq-eqb, ne_eqb, not-true, not-false}
-use Rattle.name_hash.specs.Name.{is_name_lem}
+use Rattle.name_hash.specs.Name.{is_name}
 use Rattle.path.specs.Path.{names_most, parts_of, name_count}
 use Rattle.path.proofs.Parts.{parts_behind, part_inside, parts_from, some_part}
 use Rattle.path.proofs.Counting.{count_on, count_start, count_none, count_next, count_all, count_ninth}
@@ -50,7 +50,7 @@ counted k =
     let l = loop_of k in
     l.loop.inv.2 ∙ ap (count_on l.loop.count) (parts_from (path_of_lem l) l.loop.start _ l.loop.inv.0 k.part-end.ensures)
 
-is_name_lem : (k : tie.Else1 invariant_loop decreases_loop) → is_name_lem (part_of (end_of (tested_at k))) ≡ true
+is_name_lem : (k : tie.Else1 invariant_loop decreases_loop) → is_name (part_of (end_of (tested_at k))) ≡ true
 is_name_lem k = sym (tested_at k).is_name.ensures ∙ not-false _ k.if1.false
 
 -- and it is a name

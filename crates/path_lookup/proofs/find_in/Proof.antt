@@ -4,7 +4,7 @@ use mathlib.Core.Path.{◌≡◌, ap, subst}
 use Rattle.field.specs.Card.{Card, card_of}
 use Rattle.walk.specs.Walk.{ok}
 use Rattle.walk.proofs.Fits.{fits_first}
-use Rattle.node.specs.Found.{found_of_lem, FoundIn}
+use Rattle.node.specs.Found.{found_of, FoundIn}
 use Rattle.path_lookup.specs.Lookup.{at_directory, directory_walk}
 use Rattle.walk.proofs.Both.{both_stop, second_fits, both_walked}
 use borrow.Author.Rules.{rules}
@@ -26,8 +26,8 @@ abbrev found_of_lem : tie.After-found2 → tie.After-listed
 found_of_lem k = k.before.before
 
 value : (k : tie.After-found2) → let l = found_of_lem k in
-    found_of_lem (card_of_lem l) (step_of l).node-step.result.found ≡ ok ((card_of_lem l).block k.found2.given.0.0)
-value k = ap (found_of_lem (card_of_lem (found_of_lem k))) k.found2.given.1
+    found_of (card_of_lem l) (step_of l).node-step.result.found ≡ ok ((card_of_lem l).block k.found2.given.0.0)
+value k = ap (found_of (card_of_lem (found_of_lem k))) k.found2.given.1
 
 on_card_lem : (k : tie.After-found2) → k.found2.given.0.0 < (card_of_lem (found_of_lem k)).blocks
 on_card_lem k = let l = found_of_lem k in subst (FoundIn (card_of_lem l)) k.found2.given.1 (step_of l).node-step.ensures.1
@@ -65,7 +65,7 @@ unfolding directory_walk
 returns c =
     let k = c.before in
     let l = k.before.before in
-    let stopped = ap (found_of_lem (card_of_lem l)) k.found.given.1 in
+    let stopped = ap (found_of (card_of_lem l)) k.found.given.1 in
     both_stop (at_directory _ _ _) (step_of l).node-step.ensures.0 stopped
 
 same_length_3 : tie.Need-same-length-3

@@ -8,7 +8,7 @@ use Rattle.checkpoint.proofs.Inside.{image_volume}
 use Rattle.path.specs.Path.{names_most}
 use Rattle.path.proofs.Counting.{count_few}
 use Rattle.pull.specs.declared.Pulled.{Pulled}
-use Rattle.pull.specs.Pull.{Lent, lending, result, lent_in_shape, call_in_shape}
+use Rattle.pull.specs.Pull.{Lent, lending, result_in, lent_in_shape, call_in_shape}
 use Rattle.pull.proofs.Results.{call_refused, call_opens, path_in_shape, lent_shape, counted_shape}
 use borrow.Author.Rules.{rules}
 use Rattle.pull.proofs.pull.Statement.{statement}
@@ -65,7 +65,7 @@ returns c =
     let k = c.before.before in
     let s = start_of k in
     let out = tested k ∙ not-true _ c.before.if1.true in
-    ap (λ (p : Pulled). result p (lent_of s)) c.refused-pull.ensures
+    ap (λ (p : Pulled). result_in p (lent_of s)) c.refused-pull.ensures
     ∙ sym (call_refused s.args.image.now s.args.path.now s.args.index (lent_of s) out)
 
 open_requires : tie.Need-open-requires
@@ -100,7 +100,7 @@ returns_2 c =
     let o = k.before.before in
     let s = begun o in
     let opens = sym o.«open».ensures ∙ k.number.given.1 in
-    ap (λ (p : Pulled). result p (lent_of s)) c.refused-pull2.ensures
+    ap (λ (p : Pulled). result_in p (lent_of s)) c.refused-pull2.ensures
     ∙ sym (call_opens s.args.image.now s.args.path.now s.args.index (lent_of s) _ (in_shape_lem o) opens)
 
 same_length : tie.Need-same-length

@@ -6,7 +6,7 @@ use borrow.Author.Tests.{not-true, not-false}
 use Rattle.path.specs.Path.{names_most}
 use Rattle.path.proofs.Counting.{count_few}
 use Rattle.pull.specs.declared.Pulled.{Pulled}
-use Rattle.pull.specs.Pull.{Lent, lending, Result, result, lent_in_shape}
+use Rattle.pull.specs.Pull.{Lent, lending, Result, result_in, lent_in_shape}
 use Rattle.reader.specs.Reading.{memory_in}
 use Rattle.reader_result.proofs.Endings.{answered, fitting, fitting_counted, read_early, read_unfit, read_so, path_within}
 use Rattle.reader_result.proofs.Endings.{block_length, bytes_inside, nodes_inside, blocks_inside, read_as, ending_refused, ending_read}
@@ -66,7 +66,7 @@ returns : tie.Need-returns
 returns c =
     let s = start_of c.before.before in
     let early = not-true _ c.before.if1.true in
-    ap (λ (p : Pulled). result p (lent_of s)) c.refused-pull.ensures ∙ sym (read_early s.args.r (lent_of s) early)
+    ap (λ (p : Pulled). result_in p (lent_of s)) c.refused-pull.ensures ∙ sym (read_early s.args.r (lent_of s) early)
 
 names_in_requires : tie.Need-names-in-requires
 names_in_requires c κs =
@@ -88,7 +88,7 @@ returns_2 c =
     let k = c.before.before in
     let s = tested_from k in
     let unfit = tested k ∙ not-true _ c.before.if2.true in
-    ap (λ (p : Pulled). result p (lent_of s)) c.refused-pull2.ensures ∙ sym (read_unfit s.args.r (lent_of s) (there (there_of k)) unfit)
+    ap (λ (p : Pulled). result_in p (lent_of s)) c.refused-pull2.ensures ∙ sym (read_unfit s.args.r (lent_of s) (there (there_of k)) unfit)
 
 refused_pull_requires_3 : tie.Need-refused-pull-requires-3
 refused_pull_requires_3 c κs = search rules
@@ -98,7 +98,7 @@ returns_3 c =
     let k = c.before.before in
     let s = tested_from (fit_of k) in
     let r = s.args.r in
-    ap (λ (p : Pulled). result p (lent_of s)) c.refused-pull3.ensures
+    ap (λ (p : Pulled). result_in p (lent_of s)) c.refused-pull3.ensures
     ∙ sym (ending_refused r.at (memory_in r) r.nodes r.blocks (lent_of s) c.before.if3.true)
     ∙ sym (read_so r (lent_of s) (there (there_of (fit_of k))) (fits k.before))
 
@@ -144,7 +144,7 @@ returns_4 c =
     let s = tested_from k.before in
     let r = s.args.r in
     let left : Result =
-    result c.Numbers-of.result (lending put.put-answer.last.1.1.1.0 nodes.copy-nodes.last.1.1.0 blocks.copy_blocks.new.1.1.0) in
+    result_in c.Numbers-of.result (lending put.put-answer.last.1.1.1.0 nodes.copy-nodes.last.1.1.0 blocks.copy_blocks.new.1.1.0) in
     let same : left ≡ read_as r.at (memory_in r) r.nodes r.blocks (lent_of s) =
     λ i. record {
       numbers = c.Numbers-of.ensures i;
