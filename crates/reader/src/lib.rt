@@ -13,7 +13,7 @@ ghost use Rattle.reader.specs.Reading.{with_numbers, sound_by, takes_first, take
 
 // Its numbers; the path; two blocks; the NAT journal; both lists, each with room for one number more than eight names can list.
 #[repr(C)]
-#[derive(Drop)]
+#[derive(Clone, Copy)]
 pub struct Reader {
     pub at: reader_state::At,
     pub path: [u8; 2048],

@@ -1,0 +1,25 @@
+-- `in_bucket` meets its contract: past the last index there is nothing, up to it the block is fetched.
+use native.Mathlib.Omega.{arith}
+use mathlib.Core.Path.{◌≡◌, ap, ◌∙◌}
+use Rattle.inode.specs.Inode.{inode_of, addresses_in}
+use Rattle.asking.specs.Table.{Kept, keeping}
+use Rattle.ask_directory.specs.declared.Move.{Move}
+use Rattle.ask_directory.proofs.Searching.{past_last, up_to_last}
+use borrow.Author.Rules.{rules}
+use Rattle.ask_directory.proofs.in_bucket.Goals as goal
+use Rattle.ask_directory.proofs.in_bucket.Goals.{After-addresses_in}
+
+held : (k : After-addresses_in) → k.addresses_in.result ≡ addresses_in (inode_of k.args.inode.now)
+held k = k.addresses_in.ensures.0 ∙ ap addresses_in k.inode_of-i.ensures
+
+pub returns-then-last-index : goal.returns-then-last-index
+returns-then-last-index c =
+    let none = past_last ((keeping c.args.v c.args.first.now c.args.journal.now)) c.args.inode.now c.args.spot c.args.index (omega (arith, c.if-last-index.true, held (goal.at.returns-then-last-index c).After-addresses_in)) in
+    let hop = ap (λ (m : Move). m.target.hop) c.go_to.ensures in
+    record { value = none c.go_to.ensures; hop_bound = omega arith }
+
+pub returns : goal.returns
+returns c =
+    let some = up_to_last ((keeping c.args.v c.args.first.now c.args.journal.now)) c.args.inode.now c.args.spot c.args.index (omega (arith, c.if-last-index.false, held (goal.at.returns c).After-addresses_in)) in
+    let hop = ap (λ (m : Move). m.target.hop) c.fetch_move.ensures in
+    record { value = some c.fetch_block-f.ensures.value c.fetch_move.ensures; hop_bound = omega (arith, c.fetch_block-f.ensures.hop_in) }

@@ -1,0 +1,19 @@
+use Rattle.std.proofs.Common.{sym, refl, arith, length-take-le, rules, eq-eqb, ne_eqb}
+use Rattle.checkpoint.specs.Pack.{block_passes}
+use borrow.Author.Rules.{rules}
+use Rattle.checkpoint.proofs.block_passes.Goals as goal
+
+pub returns-then-cp-ne4092 : goal.returns-then-cp-ne4092
+unfolding block_passes
+returns-then-cp-ne4092 c =
+    rw (← c.requires.1, ne_eqb _ _ c.if-cp-ne4092.true)
+
+pub slice_bounds-checksum-end : goal.slice_bounds-checksum-end
+slice_bounds-checksum-end c =
+    sym (length-take-le _ c.BEFORE.args.block.now (omega arith))
+
+pub returns : goal.returns
+unfolding block_passes
+returns c =
+    let s = c.BEFORE in
+    rw (← s.requires.1, eq-eqb _ _ c.NOFIELD-if1.false, c.get32.ensures, c.checksum-sum.ensures)

@@ -1,0 +1,8 @@
+use Rattle.std.proofs.Common.{rules}
+use Rattle.checkpoint.specs.Volume.{header_readable}
+use borrow.Author.Rules.{rules}
+use Rattle.checkpoint.proofs.header_readable.Goals as goal
+
+pub returns : goal.returns
+unfolding header_readable
+returns c = rw (c.damaged.ensures, c.maps_readable.ensures)

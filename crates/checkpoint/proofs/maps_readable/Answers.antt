@@ -1,0 +1,9 @@
+use Rattle.std.proofs.Common.{refl, rules}
+use Rattle.checkpoint.specs.Volume.{maps_readable}
+use borrow.Author.Rules.{rules}
+use Rattle.checkpoint.proofs.maps_readable.Goals as goal
+
+pub returns : goal.returns
+unfolding maps_readable
+returns c =
+    rw (c.journal_placed.ensures, c.flag_set.ensures)

@@ -1,0 +1,6 @@
+use borrow.Author.Rules.{rules}
+use Rattle.compare.proofs.same_node.Goals as goal
+
+pub returns : goal.returns
+returns c =
+    rw (← c.table_answer.ensures, ← c.table_answer-2.ensures) c.same_answer.ensures

@@ -1,0 +1,6 @@
+use lib.Bits.{and_mask}
+use borrow.Author.Rules.{rules}
+use Rattle.field.proofs.last_bit.Goals as goal
+
+pub returns : goal.returns
+returns c = and_mask c.args.x 1

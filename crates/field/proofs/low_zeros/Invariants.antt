@@ -1,0 +1,13 @@
+-- `low_zeros` meets its contract. Where the loop stands, all bits of the run are 0.
+use native.Mathlib.Omega.{arith}
+use mathlib.Core.Path.{◌≡◌, refl, sym, ◌∙◌}
+use Prim.Native.Nat.{◌-◌, ◌≤◌}
+use Rattle.field.specs.Map.{zeros_from, low_zeros}
+use Rattle.field.proofs.Zeros.{run_on, run_end}
+use Rattle.field.proofs.low_zeros.Given as goal
+
+abbrev pub invariant-loop-run : goal.invariant-loop-run
+invariant-loop-run l = (l.run ≤ l.end - l.b) × (l.most ≡ l.end - l.b) × (low_zeros l.map l.run l.b ≡ l.run)
+
+abbrev pub decreases-loop-run : goal.decreases-loop-run
+decreases-loop-run l = l.most - l.run

@@ -1,0 +1,16 @@
+-- The invariant: what is left to compare decides.
+use mathlib.Core.Path.{◌≡◌, refl, ◌∙◌, sym}
+use Prim.Native.Nat.{◌+◌, ◌-◌, ◌≤◌}
+use native.Mathlib.Nat.{add-zero}
+use native.Mathlib.Omega.{arith}
+use lib.ListN.{length, drop, drop_of_length-le}
+use Rattle.field.specs.Bytes.{same_at}
+use Rattle.field.proofs.Comparing.{same_next, same_stops}
+use Rattle.field.proofs.same_at.Given as goal
+
+abbrev pub invariant-loop-i : goal.invariant-loop-i
+invariant-loop-i l =
+    (l.i ≤ length l.string) × (same_at l.bytes l.at l.string ≡ same_at l.bytes (l.at + l.i) (drop l.i l.string))
+
+abbrev pub decreases-loop-i : goal.decreases-loop-i
+decreases-loop-i l = length l.string - l.i

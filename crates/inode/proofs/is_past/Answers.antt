@@ -1,0 +1,9 @@
+use mathlib.Core.Path.{refl}
+use Rattle.inode.specs.Inode.{is_past}
+use borrow.Author.Rules.{rules}
+use Rattle.inode.proofs.is_past.Goals as goal
+
+pub returns : goal.returns
+unfolding is_past
+returns c =
+    rw (← c.addresses_in.ensures.0)

@@ -1,0 +1,17 @@
+-- A table answer of either kind is three numbers.
+use Prim.Native.Nat.{ℕ}
+use mathlib.Core.List.{List}
+use mathlib.Core.Path.{ap, sym, ◌∙◌}
+use Rattle.nat.specs.declared.TableAnswer.{TableAnswer}
+use Rattle.buffer.specs.Laid.{laid_at}
+use Rattle.keep_file.specs.Layout.{answer_bytes}
+use borrow.Author.Rules.{rules}
+use Rattle.keep.proofs.put_answer.Goals as goal
+
+pub returns-in-OutOfRange : goal.returns-in-OutOfRange
+returns-in-OutOfRange c =
+    c.put_three.ensures ∙ ap ((laid_at c.args.at (answer_bytes t) c.args.room.now)) (sym c.in-OutOfRange.is)
+
+pub returns-in-Entry : goal.returns-in-Entry
+returns-in-Entry c =
+    c.put_three-in-Entry.ensures ∙ ap ((laid_at c.args.at (answer_bytes t) c.args.room.now)) (sym c.in-Entry.is)

@@ -1,0 +1,13 @@
+-- The invariant: what is left decides.
+use Prim.Native.Nat.{◌-◌, ◌≤◌}
+use native.Mathlib.Omega.{arith}
+use mathlib.Core.Path.{◌≡◌, sym, ◌∙◌}
+use Rattle.keep_file.specs.Reading.{are_answers}
+use Rattle.keep_file.proofs.Answers.{Left, answers_start, answers_over, answers_on, answers_stop}
+use Rattle.keep_file.proofs.are_answers.Given as goal
+
+abbrev pub invariant-loop-i : goal.invariant-loop-i
+invariant-loop-i l = (l.i ≤ l.count) × (are_answers l.file l.start l.count ≡ Left l.file l.start l.i l.count)
+
+abbrev pub decreases-loop-i : goal.decreases-loop-i
+decreases-loop-i l = l.count - l.i

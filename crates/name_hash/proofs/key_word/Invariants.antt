@@ -1,0 +1,11 @@
+-- The loop's invariant: the key word is what the bytes that are left make of the word reached.
+use Rattle.std.proofs.Common.{◌≡◌, ◌-◌, ◌≤◌, sym, ◌∙◌, add-zero, arith}
+use Rattle.name_hash.specs.Hash.{key_word}
+use Rattle.name_hash.proofs.Words.{word_from, word_next, word_short, word_full}
+use Rattle.name_hash.proofs.key_word.Given as goal
+
+abbrev pub invariant-loop-j : goal.invariant-loop-j
+invariant-loop-j l = (l.j ≤ 4) × (key_word l.pad l.rest l.at ≡ word_from l.rest l.at l.w l.j)
+
+abbrev pub decreases-loop-j : goal.decreases-loop-j
+decreases-loop-j l = 4 - l.j

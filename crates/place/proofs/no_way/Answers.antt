@@ -1,0 +1,6 @@
+use mathlib.Core.Path.{refl}
+use borrow.Author.Rules.{rules}
+use Rattle.place.proofs.no_way.Goals as goal
+
+pub returns : goal.returns
+returns c = rw c.node-none.ensures

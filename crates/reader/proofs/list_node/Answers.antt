@@ -1,0 +1,30 @@
+-- `list_node` meets its contract.
+use Prim.Native.Nat.{ℕ}
+use native.Mathlib.Omega.{arith}
+use mathlib.Core.Path.{sym, ap, ◌∙◌}
+use mathlib.Core.Bool.{Bool}
+use mathlib.Core.List.{List}
+use borrow.Author.Tests.{not-true, not-false}
+use Rattle.field.specs.Choice.{choose}
+use Rattle.list.specs.Lists.{insert, numbers}
+use Rattle.reader.proofs.Listing.{one_more, inserted_few}
+use borrow.Author.Rules.{rules}
+use Rattle.reader.proofs.list_node.Goals as goal
+
+pub returns-then-not-looked : goal.returns-then-not-looked
+returns-then-not-looked c = ap ((let l = numbers c.args.list.now 0 c.args.count in
+    choose t (insert c.args.number l) l)) (sym (not-true c.args.looked c.if-not-looked.true))
+
+pub insert-requires : goal.insert-requires
+insert-requires c =
+    one_more c.args.list.now c.args.count c.args.number c.requires.1 (search rules)
+
+pub overflow_cast-result : goal.overflow_cast-result
+overflow_cast-result c =
+    let few = inserted_few c.args.list.now c.args.count c.args.number c.insert.ensures in
+    omega (arith, few, c.requires.0)
+
+pub returns : goal.returns
+returns c =
+    c.insert.ensures.list ∙ ap ((let l = numbers c.args.list.now 0 c.args.count in
+    choose t (insert c.args.number l) l)) (sym (not-false c.args.looked c.if-not-looked.false))

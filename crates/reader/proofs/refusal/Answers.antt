@@ -1,0 +1,6 @@
+-- `refusal` meets its contract.
+use borrow.Author.Rules.{rules}
+use Rattle.reader.proofs.refusal.Goals as goal
+
+pub returns : goal.returns
+returns c = rw c.refuses_at.ensures

@@ -1,0 +1,13 @@
+-- The answer's number by its kind.
+use borrow.Author.Tests.{eq-eqb, ne_eqb}
+use borrow.Author.Rules.{rules}
+use Rattle.reader_result.proofs.answer_by.Goals as goal
+
+pub returns-in-1 : goal.returns-in-1
+returns-in-1 c = rw (eq-eqb _ _ c.in-1.is)
+
+pub returns-in-2 : goal.returns-in-2
+returns-in-2 c = rw c.in-2.is
+
+pub returns-in_default : goal.returns-in_default
+returns-in_default c = rw (ne_eqb _ _ c.in_default.ARM-match.rest.0.1, ne_eqb _ _ c.in_default.ARM-match.rest.1)

@@ -1,0 +1,17 @@
+-- `put_answer` meets its contract: the buffer is left, cleared or filled.
+use mathlib.Core.Path.{◌∙◌}
+use borrow.Author.Tests.{eq-eqb, ne_eqb}
+use borrow.Author.Rules.{rules}
+use Rattle.reader_result.proofs.put_answer.Goals as goal
+
+pub returns-in-1 : goal.returns-in-1
+returns-in-1 c = rw (eq-eqb _ _ c.in-1.is)
+
+pub returns-in-2 : goal.returns-in-2
+returns-in-2 c =
+    rw c.in-2.is (c.clear.ensures ∙ rw c.requires.0)
+
+pub returns-in_default : goal.returns-in_default
+returns-in_default c =
+    let none = c.in_default.ARM-match.rest in
+    rw (ne_eqb _ _ none.0.1, ne_eqb _ _ none.1) (c.put_block.ensures ∙ rw c.start_in.ensures.0)

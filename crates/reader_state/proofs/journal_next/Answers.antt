@@ -1,0 +1,48 @@
+-- `journal_next` meets its contract: the journal can't be searched, or the walk begins.
+use Prim.Native.Nat.{◌+◌, ◌-◌}
+use native.Mathlib.Omega.{arith}
+use mathlib.Core.Path.{◌≡◌, sym, ◌∙◌}
+use mathlib.Core.Bool.{true}
+use lib.ListN.{drop}
+use borrow.Author.Tests.{not-true, not-false}
+use Rattle.checkpoint.specs.Volume.{journal_readable}
+use Rattle.reader_state.specs.Resume.{Memory, memory, path_in}
+use Rattle.reader_state.proofs.Opened.{refuse_decided, journal_inside_lem, journal_kept}
+use Rattle.reader_state.proofs.Stages.{journal_decided}
+use borrow.Author.Rules.{rules}
+use Rattle.reader_state.proofs.journal_next.Goals as goal
+use Rattle.reader_state.proofs.journal_next.Goals.{Else-not-journal_readable}
+
+readable : (k : Else-not-journal_readable) → let a = k.args in journal_readable (drop a.at.volume.journal_at a.bytes.now) ≡ true
+readable k = sym k.journal_readable.ensures ∙ not-false _ k.if-not-journal_readable.false
+
+-- its 512 bytes
+part : (k : Else-not-journal_readable) → let at = k.args.at.volume.journal_at in at + 512 - at ≡ 512
+part k = omega arith
+
+-- ---- the needs
+pub journal_readable-requires : goal.journal_readable-requires
+journal_readable-requires c =
+    (c.requires.2, journal_inside_lem c.args.at ((memory c.args.path.now c.args.first.now c.args.held.now c.args.journal.now)) c.args.bytes.now c.requires.1 c.requires.0)
+
+pub returns-then-not-journal_readable : goal.returns-then-not-journal_readable
+returns-then-not-journal_readable c =
+    let closed = sym c.journal_readable.ensures ∙ not-true _ c.if-not-journal_readable.true in
+    rw c.refuses_at.ensures (refuse_decided c.args.at ((memory c.args.path.now c.args.first.now c.args.held.now c.args.journal.now)) c.args.bytes.now c.requires.1 c.requires.0 closed)
+
+pub slice_bounds-enter-end : goal.slice_bounds-enter-end
+slice_bounds-enter-end c =
+    let inside = journal_inside_lem c.args.at ((memory c.args.path.now c.args.first.now c.args.held.now c.args.journal.now)) c.args.bytes.now c.requires.1 c.requires.0 in
+    omega (arith, inside, c.requires.2)
+
+pub enter-m-requires : goal.enter-m-requires
+enter-m-requires c =
+    rw (part (goal.at.enter-m-requires c).Else-not-journal_readable) (journal_kept c.args.at ((memory c.args.path.now c.args.first.now c.args.held.now c.args.journal.now)) c.args.bytes.now c.requires.1 c.requires.0 c.requires.2 (readable (goal.at.enter-m-requires c).Else-not-journal_readable))
+
+pub returns : goal.returns
+returns c =
+    let at = c.args.at in
+    let same = c.enter-m.ensures.by_index (path_in at ((memory c.args.path.now c.args.first.now c.args.held.now c.args.journal.now))) at.index c.args.held.now in
+    rw c.walk_on.ensures
+    (journal_decided at ((memory c.args.path.now c.args.first.now c.args.held.now c.args.journal.now)) c.args.bytes.now c.requires.1 c.requires.0 c.requires.2 (readable (goal.at.returns c).Else-not-journal_readable) c.enter-m.result
+    (λ t. rw (part (goal.at.returns c).Else-not-journal_readable) at (same t)) (c.enter-m.ensures.by_index_2 (path_in at ((memory c.args.path.now c.args.first.now c.args.held.now c.args.journal.now))) at.index c.args.held.now))

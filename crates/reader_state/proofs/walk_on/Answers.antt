@@ -1,0 +1,6 @@
+-- `walk_on` meets its contract.
+use borrow.Author.Rules.{rules}
+use Rattle.reader_state.proofs.walk_on.Goals as goal
+
+pub returns : goal.returns
+returns c = rw (c.reads_block.ensures, c.NOFIELD-Goes-at.ensures)

@@ -1,0 +1,8 @@
+use mathlib.Core.Path.{refl}
+use Rattle.superblock.specs.Superblock.{logs_pass}
+use borrow.Author.Rules.{rules}
+use Rattle.superblock.proofs.logs_pass.Goals as goal
+
+pub returns : goal.returns
+unfolding logs_pass
+returns c = refl

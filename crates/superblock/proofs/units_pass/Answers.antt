@@ -1,0 +1,8 @@
+use mathlib.Core.Path.{refl}
+use Rattle.superblock.specs.Superblock.{units_pass}
+use borrow.Author.Rules.{rules}
+use Rattle.superblock.proofs.units_pass.Goals as goal
+
+pub returns : goal.returns
+unfolding units_pass
+returns c = refl
