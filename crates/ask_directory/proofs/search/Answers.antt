@@ -49,7 +49,7 @@ overflow_add-n c = omega (arith, (here (goal.at.overflow_add-n c).After-level_fr
 pub returns-then-depth-n : goal.returns-then-depth-n
 returns-then-depth-n c =
     let over = c.if-here-k.true in
-    let at = c.args.name-at in
+    let at = c.args.name_at in
     let last = c.if-depth-n.true in
     record { by_index = search_end (here (goal.at.returns-then-depth-n c).After-level_from-here) over at last c.go_to.ensures; by_index_2 = end_in (here (goal.at.returns-then-depth-n c).After-level_from-here) over at last c.go_to.ensures }
 
@@ -77,9 +77,9 @@ in_bucket-next-requires c =
 pub returns-then-not-is_empty : goal.returns-then-not-is_empty
 returns-then-not-is_empty c =
     let on = c.if-here-k.false in
-    let full = sym c.is_empty.ensures ∙ not-true c.is_empty.result c.if-not-is_empty.true in
-    let inside = found_in (here (goal.at.returns-then-not-is_empty c).After-level_from-here) c.args.name-at on c.in_bucket-next.ensures.value full c.requires.inode_len.1 c.in_bucket-next.ensures.hop_bound in
-    record { by_index = search_found (here (goal.at.returns-then-not-is_empty c).After-level_from-here) c.args.name-at on c.in_bucket-next.ensures.value full; by_index_2 = inside }
+    let full = sym c.is_empty.ensures ∙ c.if-not-is_empty.true in
+    let inside = found_in (here (goal.at.returns-then-not-is_empty c).After-level_from-here) c.args.name_at on c.in_bucket-next.ensures.value full c.requires.inode_len.1 c.in_bucket-next.ensures.hop_bound in
+    record { by_index = search_found (here (goal.at.returns-then-not-is_empty c).After-level_from-here) c.args.name_at on c.in_bucket-next.ensures.value full; by_index_2 = inside }
 
 pub overflow_add-k : goal.overflow_add-k
 overflow_add-k c = omega (arith, (here (goal.at.overflow_add-k c).After-level_from-here).go.few)
@@ -91,5 +91,5 @@ loop-k-smaller c =
 pub loop-k-preserved : goal.loop-k-preserved
 loop-k-preserved c =
     let on = c.if-here-k.false in
-    let empty = sym c.is_empty.ensures ∙ not-false c.is_empty.result c.if-not-is_empty.false in
-    (c.loop-k.invariant.0, search_hole (here (goal.at.loop-k-preserved c).After-level_from-here) c.args.name-at on c.in_bucket-next.ensures.value empty)
+    let empty = sym c.is_empty.ensures ∙ c.if-not-is_empty.false in
+    (c.loop-k.invariant.0, search_hole (here (goal.at.loop-k-preserved c).After-level_from-here) c.args.name_at on c.in_bucket-next.ensures.value empty)

@@ -12,11 +12,11 @@ use Rattle.ask_node.proofs.seek.Goals as goal
 use Rattle.ask_node.proofs.seek.Goals.{Else-not-in_range}
 
 in_range_here : (k : Else-not-in_range) → let a = k.args in in_range a.v a.number ≡ true
-in_range_here k = sym k.in_range.ensures ∙ not-false _ k.if-not-in_range.false
+in_range_here k = sym k.in_range.ensures ∙ k.if-not-in_range.false
 
 pub returns-then-not-in_range : goal.returns-then-not-in_range
 unfolding seek_wants
-returns-then-not-in_range c = rw (← c.in_range.ensures, not-true c.in_range.result c.if-not-in_range.true)
+returns-then-not-in_range c = rw (← c.in_range.ensures, c.if-not-in_range.true)
 
 pub table_address-requires : goal.table_address-requires
 table_address-requires c =

@@ -12,7 +12,7 @@ use Rattle.ask_open.proofs.choose_first.Goals.{Else-not-passed}
 
 -- the first one passed
 passed_by : (k : Else-not-passed) → k.args.passed ≡ true
-passed_by k = not-false _ k.if-not-passed.false
+passed_by k = k.if-not-passed.false
 
 pub returns-then-not-passed : goal.returns-then-not-passed
 returns-then-not-passed c =
@@ -21,7 +21,7 @@ returns-then-not-passed c =
     let o = c.refuse.result in
     let refused = c.refuse.ensures.0 in record { result_value = (λ k blocks second bytes.
           goes_refused k blocks first second bytes o 7 refused
-          ∙ sym (none_passes k a.areas first first a.passed (not-true _ c.if-not-passed.true))); by_index = (λ second bytes. knows_refused first second bytes o refused, ) }
+          ∙ sym (none_passes k a.areas first first a.passed c.if-not-passed.true)); by_index = (λ second bytes. knows_refused first second bytes o refused, ) }
 
 pub choose_pack-requires : goal.choose_pack-requires
 choose_pack-requires c =

@@ -12,10 +12,10 @@ use Rattle.ask_open.proofs.Going.{goes_refused, to_second_copy}
 use Rattle.ask_open.proofs.Knowing.{copy_fields, knows_refused}
 use borrow.Author.Rules.{rules}
 use Rattle.ask_open.proofs.copy_came.Goals as goal
-use Rattle.ask_open.proofs.copy_came.Goals.{In-Failed, In-Passed-2}
+use Rattle.ask_open.proofs.copy_came.Goals.{In-Failed, In-Passed}
 
 -- the copy passes, with these fields
-passed_by : (k : In-Passed-2) → (passes k.args.blocks (copy_of (k.args.bytes.now)) ≡ true) × (k.in-Passed.s ≡ superblock_of (copy_of (k.args.bytes.now)))
+passed_by : (k : In-Passed) → (passes k.args.blocks (copy_of (k.args.bytes.now)) ≡ true) × (k.in-Passed.s ≡ superblock_of (copy_of (k.args.bytes.now)))
 passed_by k =
     passed k.args.blocks (copy_of k.args.bytes.now) k.try_copy.ensures k.in-Passed.is
 
@@ -26,7 +26,7 @@ failed_by k =
 
 pub copy_passed-requires : goal.copy_passed-requires
 copy_passed-requires c =
-    rw (passed_by (goal.at.copy_passed-requires c).In-Passed-2).1 (copy_fields c.args.blocks (copy_of c.args.bytes.now) (passed_by (goal.at.copy_passed-requires c).In-Passed-2).0)
+    rw (passed_by c).1 (copy_fields c.args.blocks (copy_of c.args.bytes.now) (passed_by c).0)
 
 pub returns-then-second_copy : goal.returns-then-second_copy
 returns-then-second_copy c =
@@ -41,7 +41,7 @@ pub returns-in-Passed : goal.returns-in-Passed
 returns-in-Passed c =
     let a = c.args in
     let bytes = c.args.bytes.now in
-    let same = passed_by (goal.at.returns-in-Passed c).In-Passed-2 in record { result_value = (λ k first second.
+    let same = passed_by (goal.at.returns-in-Passed c).In-Passed in record { result_value = (λ k first second.
           c.NOFIELD-copy-Passed.ensures.0 k first second bytes
           ∙ ap (λ s. areas_ask k (accepted s)) same.1 ∙ sym (copy_passes_lem k a.blocks bytes a.second-copy same.0)); by_index = (λ first second. c.NOFIELD-copy-Passed.ensures.1 first second bytes, ) }
 

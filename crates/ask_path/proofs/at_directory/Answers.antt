@@ -24,7 +24,7 @@ use Rattle.ask_path.proofs.at_directory.Goals.{After-part_end-end, After-scan-tu
 
 -- ---- what is known there
 is_directory_lem : (k : Else-not-is_directory) → is_directory k.inode_of-i.result ≡ true
-is_directory_lem k = sym k.is_directory.ensures ∙ not-false _ k.if-not-is_directory.false
+is_directory_lem k = sym k.is_directory.ensures ∙ k.if-not-is_directory.false
 
 inside : (k : After-part_end-end) → let a = k.args in (a.name-at ≤ k.part_end-end.result) × (k.part_end-end.result ≤ length a.path.now)
 inside k = part_inside _ _ _ k.requires.bytes_len.1 k.part_end-end.ensures
@@ -50,23 +50,23 @@ slots k index seen =
     let q = question ((keeping k.args.v k.args.first.now k.args.journal.now)) k.args.path.now index in
     slots_came q _ _ seen _ _ ((let it : let a = k.args in
     names_from a.path.now a.name-at
-    ≡ take (k.part_end-end.result - a.name-at) (drop a.name-at a.path.now) ∷ names_from a.path.now (k.part_end-end.result + 1) = names_from_lem _ _ k.requires.bytes_len.1 k.part_end-end.ensures in it)) k.inode_of-i.ensures ((let it : is_directory k.inode_of-i.result ≡ true = sym k.is_directory.ensures ∙ not-false _ k.if-not-is_directory.false in it)) k.if-i-eq0.false k.scan-turn.result (is_inline k)
+    ≡ take (k.part_end-end.result - a.name-at) (drop a.name-at a.path.now) ∷ names_from a.path.now (k.part_end-end.result + 1) = names_from_lem _ _ k.requires.bytes_len.1 k.part_end-end.ensures in it)) k.inode_of-i.ensures ((let it : is_directory k.inode_of-i.result ≡ true = sym k.is_directory.ensures ∙ k.if-not-is_directory.false in it)) k.if-i-eq0.false k.scan-turn.result (is_inline k)
     k.hash-hash.ensures k.scan-turn.ensures
 
 pub returns-then-not-is_directory : goal.returns-then-not-is_directory
 returns-then-not-is_directory c =
     let a = c.args in
-    let other = sym c.is_directory.ensures ∙ not-true _ c.if-not-is_directory.true in record { by_index = (λ index seen.
+    let other = sym c.is_directory.ensures ∙ c.if-not-is_directory.true in record { by_index = (λ index seen.
           let q = question ((keeping c.args.v c.args.first.now c.args.journal.now)) a.path.now index in
           let e = names_from_lem a.path.now a.name-at c.requires.bytes_len.1 refl in
-          rw c.go_to.ensures (other_came q _ _ _ _ _ e c.inode_of-i.ensures ((record { ino = c.args.ino; name_at = c.args.name-at; level = 0; block = 0 })) other)); by_index_2 = (λ index. rw c.go_to.ensures tt, ) }
+          rw c.go_to.ensures (other_came q _ _ _ _ _ e c.inode_of-i.ensures ((record { ino = c.args.ino; name_at = c.args.name_at; level = 0; block = 0 })) other)); by_index_2 = (λ index. rw c.go_to.ensures tt, ) }
 
 pub returns-then-i-eq0 : goal.returns-then-i-eq0
 returns-then-i-eq0 c =
     let a = c.args in record { by_index = (λ index seen.
           let q = question ((keeping c.args.v c.args.first.now c.args.journal.now)) a.path.now index in
           let e = names_from_lem a.path.now a.name-at c.requires.bytes_len.1 refl in
-          rw c.go_to-then-i-eq0.ensures (empty_came q _ _ _ _ _ e c.inode_of-i.ensures (is_directory_lem (goal.at.returns-then-i-eq0 c).Else-not-is_directory) ((record { ino = c.args.ino; name_at = c.args.name-at; level = 0; block = 0 })) c.if-i-eq0.true)); by_index_2 = (λ index. rw c.go_to-then-i-eq0.ensures tt, ) }
+          rw c.go_to-then-i-eq0.ensures (empty_came q _ _ _ _ _ e c.inode_of-i.ensures (is_directory_lem (goal.at.returns-then-i-eq0 c).Else-not-is_directory) ((record { ino = c.args.ino; name_at = c.args.name_at; level = 0; block = 0 })) c.if-i-eq0.true)); by_index_2 = (λ index. rw c.go_to-then-i-eq0.ensures tt, ) }
 
 pub slice_bounds-hash-end : goal.slice_bounds-hash-end
 slice_bounds-hash-end c = let known = inside c in omega arith
@@ -98,7 +98,7 @@ pub returns-in-Malformed : goal.returns-in-Malformed
 returns-in-Malformed c =
     record { by_index = (λ index seen.
           let q = question ((keeping c.args.v c.args.first.now c.args.journal.now)) c.args.path.now index in
-          let malformed = turn_malformed q seen _ (done (stop 2)) _ c.args.bytes.now ((record { ino = c.args.ino; name_at = c.args.name-at; level = 0; block = 0 })) c.in-Malformed.is in
+          let malformed = turn_malformed q seen _ (done (stop 2)) _ c.args.bytes.now ((record { ino = c.args.ino; name_at = c.args.name_at; level = 0; block = 0 })) c.in-Malformed.is in
           rw c.go_to-in-Malformed.ensures (malformed ∙ sym (slots (goal.at.returns-in-Malformed c).After-scan-turn index seen))); by_index_2 = (λ index. rw c.go_to-in-Malformed.ensures tt, ) }
 
 pub returns-in-On : goal.returns-in-On
@@ -106,7 +106,7 @@ returns-in-On c =
     record { by_index = (λ index seen.
           let q = question ((keeping c.args.v c.args.first.now c.args.journal.now)) c.args.path.now index in
           let absent = turn_on q seen _ (done (stop 2)) _ c.in-On.is in
-          rw c.go_to-in-On.ensures (stopped q seen _ 2 c.args.bytes.now ((record { ino = c.args.ino; name_at = c.args.name-at; level = 0; block = 0 })) ∙ sym (slots (goal.at.returns-in-On c).After-scan-turn index seen ∙ absent))); by_index_2 = (λ index. rw c.go_to-in-On.ensures tt, ) }
+          rw c.go_to-in-On.ensures (stopped q seen _ 2 c.args.bytes.now ((record { ino = c.args.ino; name_at = c.args.name_at; level = 0; block = 0 })) ∙ sym (slots (goal.at.returns-in-On c).After-scan-turn index seen ∙ absent))); by_index_2 = (λ index. rw c.go_to-in-On.ensures tt, ) }
 
 pub returns-then-i-eq0-2 : goal.returns-then-i-eq0-2
 returns-then-i-eq0-2 c =
@@ -114,7 +114,7 @@ returns-then-i-eq0-2 c =
           let q = question ((keeping c.args.v c.args.first.now c.args.journal.now)) c.args.path.now index in
           rw c.go_to-then-i-eq0-2.ensures
           (no_levels q _ _ _ _ _ (names (goal.at.returns-then-i-eq0-2 c).After-part_end-end) c.inode_of-i.ensures (is_directory_lem (goal.at.returns-then-i-eq0-2 c).Else-not-is_directory) c.if-i-eq0.false (has_blocks (goal.at.returns-then-i-eq0-2 c).Else-has_inline_dentry)
-          ((record { ino = c.args.ino; name_at = c.args.name-at; level = 0; block = 0 })) c.if-i-eq0-2.true)); by_index_2 = (λ index. rw c.go_to-then-i-eq0-2.ensures tt, ) }
+          ((record { ino = c.args.ino; name_at = c.args.name_at; level = 0; block = 0 })) c.if-i-eq0-2.true)); by_index_2 = (λ index. rw c.go_to-then-i-eq0-2.ensures tt, ) }
 
 pub search-requires : goal.search-requires
 search-requires c =

@@ -23,7 +23,7 @@ own : (k : Else-not-belongs) → (seen : Seen) → let a = k.args in
 own k seen =
     let a = k.args in
     own_came ((let a = k.args in question (keeping a.v a.first.now a.journal.now) a.path.now a.index)) a.target.number a.spot.ino a.target.place a.table-inode a.bytes.now seen ((let a = k.args in node_then ((let a = k.args in question (keeping a.v a.first.now a.journal.now) a.path.now a.index)) a.spot a.inode.now a.target.index a.target.hop))
-    (sym k.belongs.ensures ∙ not-false _ k.if-not-belongs.false)
+    (sym k.belongs.ensures ∙ k.if-not-belongs.false)
 
 -- an inode, with the names that are left
 inode_left : (k : Else-target-ne0) → (seen : Seen) → let a = k.args in
@@ -40,7 +40,7 @@ inode_left k seen =
 pub returns-then-not-belongs : goal.returns-then-not-belongs
 returns-then-not-belongs c =
     let a = c.args in
-    let other = sym c.belongs.ensures ∙ not-true _ c.if-not-belongs.true in
+    let other = sym c.belongs.ensures ∙ c.if-not-belongs.true in
     record { result_value = (λ seen. rw c.go_to.ensures (foreign_came ((let a = c.args in question (keeping a.v a.first.now a.journal.now) a.path.now a.index)) _ _ _ _ _ seen _ _ a.spot other)); move_in = rw c.go_to.ensures tt }
 
 pub at_way-requires : goal.at_way-requires

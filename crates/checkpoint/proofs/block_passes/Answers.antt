@@ -10,10 +10,9 @@ returns-then-cp-ne4092 c =
 
 pub slice_bounds-checksum-end : goal.slice_bounds-checksum-end
 slice_bounds-checksum-end c =
-    sym (length-take-le _ c.BEFORE.args.block.now (omega arith))
+    sym (length-take-le _ c.args.block.now (omega arith))
 
 pub returns : goal.returns
 unfolding block_passes
 returns c =
-    let s = c.BEFORE in
-    rw (← s.requires.1, eq-eqb _ _ c.NOFIELD-if1.false, c.get32.ensures, c.checksum-sum.ensures)
+    rw (← c.requires.1, eq-eqb _ _ c.if-cp-ne4092.false, c.get32.ensures, c.checksum-sum.ensures)

@@ -8,7 +8,7 @@ use Rattle.checkpoint.proofs.is_newer.Goals as goal
 pub returns : goal.returns
 unfolding newer
 returns c =
-    let a = c.BEFORE.args in
+    let a = c.args in
     let wraps = c.NOFIELD-wrapping-sub-u64.ensures in
     let e : wrapped_difference a.first.checkpoint_ver a.second.checkpoint_ver ≡ c.NOFIELD-wrapping-sub-u64.result = omega arith in
     rw e

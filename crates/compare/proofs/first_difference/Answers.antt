@@ -14,7 +14,7 @@ use Rattle.compare.proofs.first_difference.Goals as goal
 use Rattle.compare.proofs.first_difference.Goals.{Else-not-same_bounds, Start}
 
 bounds_same : (k : Else-not-same_bounds) → let a = k.args in same_bounds (bounds_of a.v) (bounds_of a.u) ≡ true
-bounds_same k = sym k.same_bounds.ensures ∙ not-false _ k.if-not-same_bounds.false
+bounds_same k = sym k.same_bounds.ensures ∙ k.if-not-same_bounds.false
 
 -- and the lists are as they should be
 fit : (k : Start) → let a = k.args in
@@ -23,7 +23,7 @@ fit k = in_shape_lists _ _ _ k.requires.block_count_value
 
 pub returns-then-not-same_bounds : goal.returns-then-not-same_bounds
 returns-then-not-same_bounds c =
-    sym (bounds_differ _ _ _ _ _ _ (sym c.same_bounds.ensures ∙ not-true _ c.if-not-same_bounds.true))
+    sym (bounds_differ _ _ _ _ _ _ (sym c.same_bounds.ensures ∙ c.if-not-same_bounds.true))
 
 pub nodes_differ-first-requires : goal.nodes_differ-first-requires
 nodes_differ-first-requires c =

@@ -14,7 +14,7 @@ use Rattle.compare.proofs.lists_in_shape.Goals.{Else-not-counts_fit}
 -- the counts passed, so each list is held by its slice
 passed : (k : Else-not-counts_fit) → let a = k.args in
     CountsFit (listing a.nodes.now a.node-count) (listing a.blocks.now a.block-count) ≡ true
-passed k = sym k.counts_fit.ensures ∙ not-false _ k.if-not-counts_fit.false
+passed k = sym k.counts_fit.ensures ∙ k.if-not-counts_fit.false
 
 held : (k : Else-not-counts_fit) → let a = k.args in
     (4 * a.node-count ≤ length a.nodes.now) × (4 * a.block-count ≤ length a.blocks.now)
@@ -24,7 +24,7 @@ held k =
 
 pub returns-then-not-counts_fit : goal.returns-then-not-counts_fit
 returns-then-not-counts_fit c =
-    sym (counts_refuse _ _ _ (sym c.counts_fit.ensures ∙ not-true _ c.if-not-counts_fit.true))
+    sym (counts_refuse _ _ _ (sym c.counts_fit.ensures ∙ c.if-not-counts_fit.true))
 
 pub is_rising-requires : goal.is_rising-requires
 is_rising-requires c =

@@ -15,7 +15,7 @@ used k z = k.if-slot_bit-eq0.false (k.slot_bit.ensures ∙ z)
 
 entry : (k : Else-not-fits) → let a = k.args in Formed a.l a.part.now a.slot k.get16-len.result
 unfolding well_formed
-entry k = record { used = used PLACE-Else-slot_bit-eq0; sized = k.get16-len.ensures; fits = not-false _ k.if-not-fits.false }
+entry k = record { used = used PLACE-Else-slot_bit-eq0; sized = k.get16-len.ensures; fits = k.if-not-fits.false }
 
 pub returns-then-slot_bit-eq0 : goal.returns-then-slot_bit-eq0
 returns-then-slot_bit-eq0 c =
@@ -24,7 +24,7 @@ returns-then-slot_bit-eq0 c =
 pub returns-then-not-fits : goal.returns-then-not-fits
 unfolding well_formed
 returns-then-not-fits c =
-    sym (slot_malformed _ _ _ _ (used (goal.at.returns-then-not-fits c).Else-slot_bit-eq0) c.get16-len.ensures (not-true _ c.if-not-fits.true))
+    sym (slot_malformed _ _ _ _ (used (goal.at.returns-then-not-fits c).Else-slot_bit-eq0) c.get16-len.ensures c.if-not-fits.true)
 
 pub returns-then-get32-hash : goal.returns-then-get32-hash
 returns-then-get32-hash c =

@@ -18,7 +18,7 @@ use Rattle.directory.proofs.Turns.{Levels, levels_start, levels_next, levels_out
 use Rattle.directory.proofs.Turns.{Bucket, bucket_start, bucket_stop, bucket_hole, bucket_absent, bucket_found, bucket_malformed}
 use borrow.Author.Rules.{rules}
 use Rattle.directory.proofs.find_by.Goals as goal
-use Rattle.directory.proofs.find_by.Goals.{After-block_at, After-listed-1, At-levels, At-slots, In-At-2, In-bucket}
+use Rattle.directory.proofs.find_by.Goals.{After-block_at, After-listed-1, At-levels, At-slots, In-At, In-bucket}
 
 -- ---- the places on the way
 -- a turn of the loop over blocks, the level that it is in, and the start
@@ -144,12 +144,12 @@ bucket-preserved-in-Hole c =
 
 pub block_at-requires : goal.block_at-requires
 block_at-requires c =
-    in_card_lem (goal.at.block_at-requires c).In-At-2
+    in_card_lem c
 
 pub part_of-part-requires : goal.part_of-part-requires
 part_of-part-requires c =
     let known = (layout_of_lem (turn_of (listed_of c))).layout_of_lem.ensures in
-    (length_of_block _ _ (in_card_lem (goal.at.part_of-part-requires c).In-At-2) c.block_at.ensures, known.1, known.2)
+    (length_of_block _ _ (in_card_lem (goal.at.part_of-part-requires c).In-At) c.block_at.ensures, known.1, known.2)
 
 pub slots-init : goal.slots-init
 slots-init c =

@@ -16,7 +16,7 @@ read_of : (k : After-inode_of-i) → let a = k.args in k.inode_of-i.result ≡ i
 read_of k = rw k.block_at.ensures at k.inode_of-i.ensures
 
 regular : (k : Else-not-is_regular) → is_regular k.inode_of-i.result ≡ true
-regular k = sym k.is_regular.ensures ∙ not-false _ k.if-not-is_regular.false
+regular k = sym k.is_regular.ensures ∙ k.if-not-is_regular.false
 
 pub inode_of-i-requires : goal.inode_of-i-requires
 inode_of-i-requires c =
@@ -24,7 +24,7 @@ inode_of-i-requires c =
 
 pub returns-then-not-is_regular : goal.returns-then-not-is_regular
 returns-then-not-is_regular c =
-    let other = sym c.is_regular.ensures ∙ not-true _ c.if-not-is_regular.true in
+    let other = sym c.is_regular.ensures ∙ c.if-not-is_regular.true in
     let some = c.requires.room_for.some in
     none_stands (reached_done (reached_to (reached_start _ _ _) (other_kind _ _ _ (read_of (goal.at.returns-then-not-is_regular c).After-inode_of-i) other _ _ some)))
 

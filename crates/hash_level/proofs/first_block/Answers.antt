@@ -15,4 +15,4 @@ next_first-first-requires c =
 
 pub returns : goal.returns
 returns c =
-    c.loop-i.invariant.0 ∙ ap (first_of c.args.dir-level) (omega (arith, c.loop-i-test, c.loop-i.invariant.1))
+    c.loop-i.invariant.0 ∙ ap (first_of c.args.dir_level) (omega (arith, c.loop-i-test, c.loop-i.invariant.1))

@@ -18,11 +18,11 @@ tested k =
     counted_shape k.args.image.now k.args.path.now k.name_count-k.ensures k.in_shape.ensures
 
 in_shape_lem : (k : After-open) → in_shape (length k.args.image.now) && is_path k.args.path.now ≡ true
-in_shape_lem k = (let it : in_shape (length k.args.image.now) && is_path k.args.path.now ≡ (k.in_shape.result && not (eqb k.name_count-k.result 0)) = counted_shape k.args.image.now k.args.path.now k.name_count-k.ensures k.in_shape.ensures in it) ∙ not-false _ k.if-not-in_shape-k.false
+in_shape_lem k = (let it : in_shape (length k.args.image.now) && is_path k.args.path.now ≡ (k.in_shape.result && not (eqb k.name_count-k.result 0)) = counted_shape k.args.image.now k.args.path.now k.name_count-k.ensures k.in_shape.ensures in it) ∙ k.if-not-in_shape-k.false
 
 pub returns-then-not-in_shape-k : goal.returns-then-not-in_shape-k
 returns-then-not-in_shape-k c =
-    sym (call_refused c.args.image.now c.args.path.now c.args.index c.args.room.now (tested (goal.at.returns-then-not-in_shape-k c).After-in_shape ∙ not-true _ c.if-not-in_shape-k.true))
+    sym (call_refused c.args.image.now c.args.path.now c.args.index c.args.room.now (tested (goal.at.returns-then-not-in_shape-k c).After-in_shape ∙ c.if-not-in_shape-k.true))
 
 pub keep_opened-requires : goal.keep_opened-requires
 keep_opened-requires c =

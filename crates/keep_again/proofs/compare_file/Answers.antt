@@ -5,4 +5,4 @@ use borrow.Author.Rules.{rules}
 use Rattle.keep_again.proofs.compare_file.Goals as goal
 
 pub slice_bounds-keep_compare-end : goal.slice_bounds-keep_compare-end
-slice_bounds-keep_compare-end c = sym (length-take-le _ _ c.BEFORE.requires)
+slice_bounds-keep_compare-end c = sym (length-take-le _ _ c.requires)

@@ -11,8 +11,8 @@ use Rattle.keep_again.proofs.keep_again.Goals as goal
 
 pub compare_file-compared-requires : goal.compare_file-compared-requires
 compare_file-compared-requires c =
-    subst (λ (w : Writing). w.numbers.length ≤ length w.room) (sym c.NOFIELD-keep.ensures) (file_inside (ends _ _ _ _))
+    subst (λ (w : Writing). w.numbers.length ≤ length w.room) (sym c.keep-kept.ensures) (file_inside (ends _ _ _ _))
 
 pub returns : goal.returns
 returns c =
-    again_holds _ _ _ _ _ _ c.NOFIELD-keep.ensures c.compare_file-compared.ensures c.pull-second.ensures
+    again_holds _ _ _ _ _ _ c.keep-kept.ensures c.compare_file-compared.ensures c.pull-second.ensures

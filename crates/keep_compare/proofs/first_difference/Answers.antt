@@ -15,12 +15,12 @@ use Rattle.keep_compare.proofs.first_difference.Goals as goal
 use Rattle.keep_compare.proofs.first_difference.Goals.{Else-not-same_bounds}
 
 bounds_same : (k : Else-not-same_bounds) → let a = k.args in same_bounds (keep_in a.file.now).bounds (bounds_of a.u) ≡ true
-bounds_same k = sym k.same_bounds.ensures ∙ not-false _ k.if-not-same_bounds.false
+bounds_same k = sym k.same_bounds.ensures ∙ k.if-not-same_bounds.false
 
 pub returns-then-not-same_bounds : goal.returns-then-not-same_bounds
 unfolding keep_difference
 returns-then-not-same_bounds c =
-    sym (bounds_differ _ _ _ _ _ _ (sym c.same_bounds.ensures ∙ not-true _ c.if-not-same_bounds.true))
+    sym (bounds_differ _ _ _ _ _ _ (sym c.same_bounds.ensures ∙ c.if-not-same_bounds.true))
 
 pub kept_blocks_differ-requires : goal.kept_blocks_differ-requires
 kept_blocks_differ-requires c =

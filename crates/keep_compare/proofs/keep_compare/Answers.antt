@@ -13,34 +13,34 @@ use Rattle.keep_file.proofs.Refusing.{read_readable, read_refused}
 use Rattle.keep_compare.proofs.Openings.{file_refused, shape_refused, fresh_refused_lem, fresh_opened}
 use borrow.Author.Rules.{rules}
 use Rattle.keep_compare.proofs.keep_compare.Goals as goal
-use Rattle.keep_compare.proofs.keep_compare.Goals.{Else-not-in_shape, Else-not-is_readable, In-Opened-2}
+use Rattle.keep_compare.proofs.keep_compare.Goals.{Else-not-in_shape, Else-not-is_readable, In-Opened}
 
 -- ---- what is known there
 passed : (k : Else-not-is_readable) → readable k.args.file.now ≡ true
-passed k = sym k.is_readable.ensures ∙ not-false _ k.if-not-is_readable.false
+passed k = sym k.is_readable.ensures ∙ k.if-not-is_readable.false
 
 reads : (k : Else-not-is_readable) → let file = k.args.file.now in read_keep file ≡ kept (keep_in file)
 reads k = read_readable _ (passed k)
 
 in_shape_lem : (k : Else-not-in_shape) → in_shape (length k.args.fresh.now) ≡ true
-in_shape_lem k = sym k.in_shape.ensures ∙ not-false _ k.if-not-in_shape.false
+in_shape_lem k = sym k.in_shape.ensures ∙ k.if-not-in_shape.false
 
-opens : (k : In-Opened-2) → opened_image k.args.fresh.now ≡ Opened k.in-Opened.u
+opens : (k : In-Opened) → opened_image k.args.fresh.now ≡ Opened k.in-Opened.u
 opens k = sym k.NOFIELD-«open».ensures ∙ k.in-Opened.is
 
 pub returns-then-not-is_readable : goal.returns-then-not-is_readable
 returns-then-not-is_readable c =
-    let fails = sym c.is_readable.ensures ∙ not-true _ c.if-not-is_readable.true in
+    let fails = sym c.is_readable.ensures ∙ c.if-not-is_readable.true in
     c.NOFIELD-Numbers-of.ensures ∙ sym (file_refused _ _ (read_refused _ fails))
 
 pub returns-then-not-in_shape : goal.returns-then-not-in_shape
 returns-then-not-in_shape c =
-    let fails = sym c.in_shape.ensures ∙ not-true _ c.if-not-in_shape.true in
+    let fails = sym c.in_shape.ensures ∙ c.if-not-in_shape.true in
     c.numbers_of-then-not-in_shape.ensures ∙ sym (shape_refused _ _ (reads (goal.at.returns-then-not-in_shape c).Else-not-is_readable) fails)
 
 pub first_difference-requires : goal.first_difference-requires
 first_difference-requires c =
-    let k : tie.After-u = (goal.at.first_difference-requires c).In-Opened-2 in
+    let k : tie.After-u = c in
     record { volume_in = image_volume _ _ (opens k); file_value = passed (read_of (shaped_of k)) }
 
 pub returns-in-Refused : goal.returns-in-Refused
@@ -50,5 +50,5 @@ returns-in-Refused c =
 
 pub returns-in-Opened : goal.returns-in-Opened
 returns-in-Opened c =
-    let k : tie.After-u = (goal.at.returns-in-Opened c).In-Opened-2 in
+    let k : tie.After-u = (goal.at.returns-in-Opened c).In-Opened in
     c.verdict_of.ensures ∙ ap verdict c.first_difference.ensures ∙ sym (fresh_opened _ _ (reads (read_of (shaped_of k))) _ (opens k))

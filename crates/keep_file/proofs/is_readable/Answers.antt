@@ -8,12 +8,12 @@ use Rattle.keep_file.proofs.is_readable.Goals as goal
 use Rattle.keep_file.proofs.is_readable.Goals.{Else-not-is_measured}
 
 measures : (k : Else-not-is_measured) → measured k.args.file.now ≡ true
-measures k = sym k.is_measured.ensures ∙ not-false _ k.if-not-is_measured.false
+measures k = sym k.is_measured.ensures ∙ k.if-not-is_measured.false
 
 pub returns-then-not-is_measured : goal.returns-then-not-is_measured
 unfolding readable
 returns-then-not-is_measured c =
-    let fails = sym c.is_measured.ensures ∙ not-true _ c.if-not-is_measured.true in
+    let fails = sym c.is_measured.ensures ∙ c.if-not-is_measured.true in
     rw fails
 
 pub lists_readable-requires : goal.lists_readable-requires

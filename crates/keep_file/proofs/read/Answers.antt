@@ -9,11 +9,11 @@ use Rattle.keep_file.proofs.read.Goals as goal
 use Rattle.keep_file.proofs.read.Goals.{Else-not-is_readable}
 
 reads : (k : Else-not-is_readable) → readable k.args.file.now ≡ true
-reads k = sym k.is_readable.ensures ∙ not-false _ k.if-not-is_readable.false
+reads k = sym k.is_readable.ensures ∙ k.if-not-is_readable.false
 
 pub returns-then-not-is_readable : goal.returns-then-not-is_readable
 returns-then-not-is_readable c =
-    c.refused_fields.ensures ∙ ap fields_read (sym (read_refused _ (sym c.is_readable.ensures ∙ not-true _ c.if-not-is_readable.true)))
+    c.refused_fields.ensures ∙ ap fields_read (sym (read_refused _ (sym c.is_readable.ensures ∙ c.if-not-is_readable.true)))
 
 pub fields_in-requires : goal.fields_in-requires
 fields_in-requires c = readable_measured _ (reads c)

@@ -5,8 +5,8 @@ use Rattle.list.proofs.shift_in.Goals as goal
 
 pub loop-i-preserved : goal.loop-i-preserved
 loop-i-preserved c =
-    let more = c.NOFIELD-loop-test.true in
-    shift_again c.NOFIELD-loop.invariant c.BEFORE.requires.1 c.put32.ensures more c.get32-next.ensures c.put32.auto.0
+    let more = c.loop-i-test.true in
+    shift_again c.loop-i.invariant c.requires.1 c.put32.ensures more c.get32-next.ensures c.put32.auto.bytes
 
 pub returns : goal.returns
 returns c =

@@ -7,11 +7,11 @@ use Rattle.nat.proofs.table_answer.Goals as goal
 use Rattle.nat.proofs.table_answer.Goals.{Else-not-in_range}
 
 in_range_here : (k : Else-not-in_range) → let a = k.args in in_range a.v a.number ≡ true
-in_range_here k = sym k.in_range.ensures ∙ not-false _ k.if-not-in_range.false
+in_range_here k = sym k.in_range.ensures ∙ k.if-not-in_range.false
 
 pub returns-then-not-in_range : goal.returns-then-not-in_range
 unfolding table_answer
-returns-then-not-in_range c = rw (← c.in_range.ensures, not-true c.in_range.result c.if-not-in_range.true)
+returns-then-not-in_range c = rw (← c.in_range.ensures, c.if-not-in_range.true)
 
 pub or_table-requires : goal.or_table-requires
 or_table-requires c =

@@ -14,7 +14,7 @@ use Rattle.node.proofs.data_at.Goals as goal
 use Rattle.node.proofs.data_at.Goals.{Else-not-in_main}
 
 inside : (k : Else-not-in_main) → in_main (bounds_of k.args.v) k.args.address ≡ true
-inside k = sym k.in_main.ensures ∙ not-false _ k.if-not-in_main.false
+inside k = sym k.in_main.ensures ∙ k.if-not-in_main.false
 
 to_read : (k : Else-not-in_main) → let a = k.args in let s = lists a.nodes.now a.blocks.now a.counts in
     Reached (image_view a.image.now a.v) (data_walk (bounds_of a.v) a.address) s (read a.address holding) s
@@ -30,7 +30,7 @@ returns-then-is_hole c =
 pub returns-then-not-in_main : goal.returns-then-not-in_main
 returns-then-not-in_main c =
     let held = sym c.is_hole.ensures ∙ c.if-is_hole.false in
-    let out = sym c.in_main.ensures ∙ not-true _ c.if-not-in_main.true in
+    let out = sym c.in_main.ensures ∙ c.if-not-in_main.true in
     record { walked = reached_done (reached_to (reached_start _ _ _) (data_outside _ _ held out)); data_in = tt }
 
 pub insert-requires : goal.insert-requires

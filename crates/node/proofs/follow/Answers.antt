@@ -11,13 +11,13 @@ use Rattle.node.proofs.Following.{Course, Following, following_start, following_
 use Rattle.node.proofs.Following.{following_hole, following_fits, following_stop, following_next}
 use borrow.Author.Rules.{rules}
 use Rattle.node.proofs.follow.Goals as goal
-use Rattle.node.proofs.follow.Goals.{After-get32-number, In-At-2}
+use Rattle.node.proofs.follow.Goals.{After-get32-number, In-At}
 
 read_number : (k : After-get32-number) → k.get32-number.result ≡ le32 ((card_of k.args.image.now).block k.loop-i.node) k.loop-i.at
 read_number k =
     rw (← k.block_at.ensures) k.get32-number.ensures
 
-in_image : (k : In-At-2) → k.in-At.address < (card_of k.args.image.now).blocks
+in_image : (k : In-At) → k.in-At.address < (card_of k.args.image.now).blocks
 in_image k =
     subst (FoundIn (card_of k.args.image.now)) k.in-At.is k.node_step-came.ensures.found_in
 
@@ -83,7 +83,7 @@ loop-i-preserved c =
     let card = card_of c.args.image.now in
     let told = ap (found_of card) c.in-At.is in
     let went = c.node_step-came.ensures.walked in
-    following_next c.loop-i.invariant c.loop-i-test.true (read_number (goal.at.loop-i-preserved c).After-get32-number) c.if-number-eq0.false went told (in_image (goal.at.loop-i-preserved c).In-At-2)
+    following_next c.loop-i.invariant c.loop-i-test.true (read_number (goal.at.loop-i-preserved c).After-get32-number) c.if-number-eq0.false went told (in_image (goal.at.loop-i-preserved c).In-At)
 
 pub returns : goal.returns
 returns c =

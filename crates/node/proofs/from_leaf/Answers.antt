@@ -14,9 +14,9 @@ use Rattle.node.specs.Found.{data_of, DataIn}
 use Rattle.node.proofs.Cases.{from_hole, from_stop, from_at}
 use borrow.Author.Rules.{rules}
 use Rattle.node.proofs.from_leaf.Goals as goal
-use Rattle.node.proofs.from_leaf.Goals.{After-get32-address, In-At-2}
+use Rattle.node.proofs.from_leaf.Goals.{After-get32-address, In-At}
 
-in_image : (k : In-At-2) → k.in-At.block < (card_of k.args.image.now).blocks
+in_image : (k : In-At) → k.in-At.block < (card_of k.args.image.now).blocks
 in_image k = subst (DataIn (card_of k.args.image.now)) k.in-At.is k.requires.data_in.0
 
 to_data : (k : After-get32-address) → let a = k.args in let s = lists a.nodes.now a.blocks.now a.counts in
@@ -27,11 +27,11 @@ to_data k =
     (rw (← k.block_at.ensures) k.get32-address.ensures))
 
 pub block_at-requires : goal.block_at-requires
-block_at-requires c = in_image (goal.at.block_at-requires c).In-At-2
+block_at-requires c = in_image c
 
 pub get32-address-requires : goal.get32-address-requires
 get32-address-requires c =
-    let size = length_of_block _ _ (in_image (goal.at.get32-address-requires c).In-At-2) c.block_at.ensures in
+    let size = length_of_block _ _ (in_image (goal.at.get32-address-requires c).In-At) c.block_at.ensures in
     let within = c.requires.data_in.1 in
     omega arith
 

@@ -16,7 +16,7 @@ use Rattle.node.proofs.Cases.{node_look, entry_range, entry_zero, entry_outside,
 use Rattle.node.proofs.Sizes.{in_card_lem}
 use borrow.Author.Rules.{rules}
 use Rattle.node.proofs.node_step.Goals as goal
-use Rattle.node.proofs.node_step.Goals.{After-block_at-block, After-table_answer-entry, Else-not-in_main, In-Entry-2}
+use Rattle.node.proofs.node_step.Goals.{After-block_at-block, After-table_answer-entry, Else-not-in_main, In-Entry}
 
 looked : (k : After-table_answer-entry) → (let a = k.args in
     Reached (image_view a.image.now a.v) (node_walk (bounds_of a.v) a.number a.ino a.place)
@@ -27,7 +27,7 @@ looked k =
     let begins = reached_to (reached_start _ _ _) (node_look _ _ _ _) in
     reached_to (reached_look begins k.insert.ensures) (ap ((let a = k.args in at_entry (bounds_of a.v) a.number a.ino a.place)) (sym k.table_answer-entry.ensures))
 
-has : (k : In-Entry-2) → (let a = k.args in
+has : (k : In-Entry) → (let a = k.args in
     Reached (image_view a.image.now a.v) (node_walk (bounds_of a.v) a.number a.ino a.place)
     (lists a.nodes.now a.blocks.now a.counts) rest t) ((let a = k.args in at_entry (bounds_of a.v) a.number a.ino a.place) (Entry (k.in-Entry.table_inode) (k.in-Entry.address))) ((let a = k.args in
     let listed = k.insert in
@@ -40,7 +40,7 @@ has k = reached_to ((let it : (let a = k.args in
     reached_to (reached_look begins k.insert.ensures) (ap ((let a = k.args in at_entry (bounds_of a.v) a.number a.ino a.place)) (sym k.table_answer-entry.ensures)) in it)) (ap ((let a = k.args in at_entry (bounds_of a.v) a.number a.ino a.place)) k.in-Entry.is)
 
 inside : (k : Else-not-in_main) → in_main (bounds_of k.args.v) (k.in-Entry.address) ≡ true
-inside k = sym k.in_main.ensures ∙ not-false _ k.if-not-in_main.false
+inside k = sym k.in_main.ensures ∙ k.if-not-in_main.false
 
 in_image : (k : Else-not-in_main) → k.in-Entry.address < (card_of k.args.image.now).blocks
 in_image k = in_card_lem _ (inside k) k.requires.volume_in
@@ -81,7 +81,7 @@ block_read c =
     (lists a.nodes.now a.blocks.now a.counts) rest t) ((let a = c.args in at_entry (bounds_of a.v) a.number a.ino a.place) c.table_answer-entry.result) ((let a = c.args in
     let listed = c.insert in
     lists listed.last.0 a.blocks.now (record { nodes = listed.result; blocks = a.counts.blocks }))) = let begins = reached_to (reached_start _ _ _) (node_look _ _ _ _) in
-    reached_to (reached_look begins c.insert.ensures) (ap ((let a = c.args in at_entry (bounds_of a.v) a.number a.ino a.place)) (sym c.table_answer-entry.ensures)) in it)) (ap ((let a = c.args in at_entry (bounds_of a.v) a.number a.ino a.place)) c.in-Entry.is) in it)) (entry_inside _ _ _ _ _ _ c.if-address-eq0.false ((let it : in_main (bounds_of c.args.v) c.in-Entry.address ≡ true = sym c.in_main.ensures ∙ not-false _ c.if-not-in_main.false in it))) in it)) c.insert-2.ensures) (ap ((let a = c.args in at_block a.number a.ino a.place c.in-Entry.table_inode)) (sym c.block_at-block.ensures))
+    reached_to (reached_look begins c.insert.ensures) (ap ((let a = c.args in at_entry (bounds_of a.v) a.number a.ino a.place)) (sym c.table_answer-entry.ensures)) in it)) (ap ((let a = c.args in at_entry (bounds_of a.v) a.number a.ino a.place)) c.in-Entry.is) in it)) (entry_inside _ _ _ _ _ _ c.if-address-eq0.false ((let it : in_main (bounds_of c.args.v) c.in-Entry.address ≡ true = sym c.in_main.ensures ∙ c.if-not-in_main.false in it))) in it)) c.insert-2.ensures) (ap ((let a = c.args in at_block a.number a.ino a.place c.in-Entry.table_inode)) (sym c.block_at-block.ensures))
 
 -- ---- the needs
 pub insert-requires : goal.insert-requires
@@ -94,12 +94,12 @@ returns-in_default c =
 
 pub returns-then-address-eq0 : goal.returns-then-address-eq0
 returns-then-address-eq0 c =
-    record { walked = reached_done (reached_to (has (goal.at.returns-then-address-eq0 c).In-Entry-2) (entry_zero _ _ _ _ _ _ c.if-address-eq0.true)); found_in = tt }
+    record { walked = reached_done (reached_to (has (goal.at.returns-then-address-eq0 c).In-Entry) (entry_zero _ _ _ _ _ _ c.if-address-eq0.true)); found_in = tt }
 
 pub returns-then-not-in_main : goal.returns-then-not-in_main
 returns-then-not-in_main c =
-    let out = sym c.in_main.ensures ∙ not-true _ c.if-not-in_main.true in
-    record { walked = reached_done (reached_to (has (goal.at.returns-then-not-in_main c).In-Entry-2) (entry_outside _ _ _ _ _ _ c.if-address-eq0.false out)); found_in = tt }
+    let out = sym c.in_main.ensures ∙ c.if-not-in_main.true in
+    record { walked = reached_done (reached_to (has (goal.at.returns-then-not-in_main c).In-Entry) (entry_outside _ _ _ _ _ _ c.if-address-eq0.false out)); found_in = tt }
 
 pub insert-requires-2 : goal.insert-requires-2
 insert-requires-2 c =
@@ -115,10 +115,10 @@ belongs-requires c =
 
 pub returns-then-not-belongs : goal.returns-then-not-belongs
 returns-then-not-belongs c =
-    record { walked = reached_done (reached_to (block_read (goal.at.returns-then-not-belongs c).After-block_at-block) (block_foreign _ _ _ _ _ (sym c.belongs.ensures ∙ not-true _ c.if-not-belongs.true))); found_in = tt }
+    record { walked = reached_done (reached_to (block_read (goal.at.returns-then-not-belongs c).After-block_at-block) (block_foreign _ _ _ _ _ (sym c.belongs.ensures ∙ c.if-not-belongs.true))); found_in = tt }
 
 pub returns : goal.returns
 returns c =
-    let own = block_own _ _ _ _ _ (sym c.belongs.ensures ∙ not-false _ c.if-not-belongs.false) in
+    let own = block_own _ _ _ _ _ (sym c.belongs.ensures ∙ c.if-not-belongs.false) in
     let same = ap (λ (l : List ℕ). done (ok l)) c.block_at-block.ensures in
     record { walked = reached_done (reached_to (block_read (goal.at.returns c).After-block_at-block) (own ∙ same)); found_in = in_image (goal.at.returns c).Else-not-in_main }

@@ -23,7 +23,7 @@ counted k =
     k.loop-count.invariant.2 ∙ ap (count_on k.loop-count.count) (parts_from k.args.path.now k.loop-count.start _ k.loop-count.invariant.0 k.part_end-end.ensures)
 
 is_name_lem : (k : Else-not-is_name) → is_name ((take (k.part_end-end.result - k.loop-count.start) (drop k.loop-count.start (k.args.path.now)))) ≡ true
-is_name_lem k = sym k.is_name.ensures ∙ not-false _ k.if-not-is_name.false
+is_name_lem k = sym k.is_name.ensures ∙ k.if-not-is_name.false
 
 -- and it is a name
 counted_on : (k : Else-not-is_name) → name_count (k.args.path.now) ≡ count_on (k.loop-count.count + 1) (parts_behind (k.args.path.now) k.part_end-end.result)
@@ -48,7 +48,7 @@ slice_bounds-is_name-end c = let known = inside c in omega arith
 
 pub returns-then-not-is_name : goal.returns-then-not-is_name
 returns-then-not-is_name c =
-    let none = sym c.is_name.ensures ∙ not-true _ c.if-not-is_name.true in
+    let none = sym c.is_name.ensures ∙ c.if-not-is_name.true in
     sym (counted (goal.at.returns-then-not-is_name c).After-part_end-end ∙ count_none c.loop-count.count ((take (c.part_end-end.result - c.loop-count.start) (drop c.loop-count.start c.args.path.now))) (parts_behind c.args.path.now c.part_end-end.result) none)
 
 pub returns-then-end-path : goal.returns-then-end-path

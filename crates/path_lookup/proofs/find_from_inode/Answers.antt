@@ -24,7 +24,7 @@ read_of : (k : After-inode_of-i) → let a = k.args in k.inode_of-i.result ≡ i
 read_of k = rw k.block_at.ensures at k.inode_of-i.ensures
 
 is_directory_lem : (k : Else-not-is_directory) → is_directory k.inode_of-i.result ≡ true
-is_directory_lem k = sym k.is_directory.ensures ∙ not-false _ k.if-not-is_directory.false
+is_directory_lem k = sym k.is_directory.ensures ∙ k.if-not-is_directory.false
 
 -- the search is left of the walk, and nothing is listed yet
 to_search : (k : After-hash-hash) → let a = k.args in
@@ -37,7 +37,7 @@ to_search : (k : After-hash-hash) → let a = k.args in
     (wanted k.hash-hash.result a.name.now) k.levels_in-levels.result) t
 to_search k =
     reached_to (reached_start _ _ _)
-    (directory_search _ _ _ _ ((let it : let a = k.args in k.inode_of-i.result ≡ inode_of ((card_of a.image.now).block a.at) = rw k.block_at.ensures at k.inode_of-i.ensures in it)) _ _ _ ((let it : is_directory k.inode_of-i.result ≡ true = sym k.is_directory.ensures ∙ not-false _ k.if-not-is_directory.false in it)) k.if-i-eq0.false k.addresses_in.ensures.0 k.hash-hash.ensures
+    (directory_search _ _ _ _ ((let it : let a = k.args in k.inode_of-i.result ≡ inode_of ((card_of a.image.now).block a.at) = rw k.block_at.ensures at k.inode_of-i.ensures in it)) _ _ _ ((let it : is_directory k.inode_of-i.result ≡ true = sym k.is_directory.ensures ∙ k.if-not-is_directory.false in it)) k.if-i-eq0.false k.addresses_in.ensures.0 k.hash-hash.ensures
     k.has_inline_dentry-inline.ensures _ _ k.dir_level_in-dir_level.ensures k.levels_in-levels.ensures)
 
 -- an inline directory is one level
@@ -53,7 +53,7 @@ inode_of-i-requires c =
 
 pub returns-then-not-is_directory : goal.returns-then-not-is_directory
 returns-then-not-is_directory c =
-    let other = sym c.is_directory.ensures ∙ not-true _ c.if-not-is_directory.true in
+    let other = sym c.is_directory.ensures ∙ c.if-not-is_directory.true in
     reached_done (reached_to (reached_start _ _ _) (directory_other _ _ _ _ (read_of (goal.at.returns-then-not-is_directory c).After-inode_of-i) other))
 
 pub returns-then-i-eq0 : goal.returns-then-i-eq0

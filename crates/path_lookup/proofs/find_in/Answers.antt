@@ -9,12 +9,12 @@ use Rattle.path_lookup.specs.Lookup.{at_directory, directory_walk}
 use Rattle.walk.proofs.Both.{both_stop, second_fits, both_walked}
 use borrow.Author.Rules.{rules}
 use Rattle.path_lookup.proofs.find_in.Goals as goal
-use Rattle.path_lookup.proofs.find_in.Goals.{In-At-2}
+use Rattle.path_lookup.proofs.find_in.Goals.{In-At}
 
-value : (k : In-At-2) → found_of ((card_of k.args.image.now)) k.node_step-step.result.found ≡ ok (((card_of k.args.image.now)).block k.in-At.at)
+value : (k : In-At) → found_of ((card_of k.args.image.now)) k.node_step-step.result.found ≡ ok (((card_of k.args.image.now)).block k.in-At.at)
 value k = ap (found_of ((card_of k.args.image.now))) k.in-At.is
 
-on_card_lem : (k : In-At-2) → k.in-At.at < ((card_of k.args.image.now)).blocks
+on_card_lem : (k : In-At) → k.in-At.at < ((card_of k.args.image.now)).blocks
 on_card_lem k = subst (FoundIn ((card_of k.args.image.now))) k.in-At.is k.node_step-step.ensures.found_in
 
 -- ---- the needs
@@ -26,7 +26,7 @@ node_step-step-requires c =
 pub find_from_inode-requires : goal.find_from_inode-requires
 unfolding directory_walk
 find_from_inode-requires c =
-    record { fits = second_fits (at_directory _ _ _) c.node_step-step.ensures.walked (value (goal.at.find_from_inode-requires c).In-At-2) c.requires.fits; volume_in = c.requires.volume_in; at_bound = on_card_lem (goal.at.find_from_inode-requires c).In-At-2 }
+    record { fits = second_fits (at_directory _ _ _) c.node_step-step.ensures.walked (value (goal.at.find_from_inode-requires c).In-At) c.requires.fits; volume_in = c.requires.volume_in; at_bound = on_card_lem (goal.at.find_from_inode-requires c).In-At }
 
 pub returns-in-Stop : goal.returns-in-Stop
 unfolding directory_walk
@@ -37,4 +37,4 @@ returns-in-Stop c =
 pub returns-in-At : goal.returns-in-At
 unfolding directory_walk
 returns-in-At c =
-    both_walked (at_directory _ _ _) c.node_step-step.ensures.walked (value (goal.at.returns-in-At c).In-At-2) c.find_from_inode.ensures
+    both_walked (at_directory _ _ _) c.node_step-step.ensures.walked (value (goal.at.returns-in-At c).In-At) c.find_from_inode.ensures

@@ -5,53 +5,53 @@ use native.Mathlib.Omega.{arith}
 use Rattle.place.specs.Place.{NodesIn}
 use borrow.Author.Rules.{rules}
 use Rattle.place.proofs.way_to.Goals as goal
-use Rattle.place.proofs.way_to.Goals.{In-Direct-2, In-Double-2, In-Indirect-2}
+use Rattle.place.proofs.way_to.Goals.{In-Direct, In-Double, In-Indirect}
 
 -- ---- the nodes that there are, by the kind of the place
-in_direct_lem : (k : In-Direct-2) → k.in-Direct.n < 2
+in_direct_lem : (k : In-Direct) → k.in-Direct.n < 2
 in_direct_lem k = subst NodesIn k.in-Direct.is k.requires
 
-in_indirect_lem : (k : In-Indirect-2) → let g = k.in-Indirect.ARM-p3.given.0 in (g.0 < 2) × (g.1.0 < 1018)
+in_indirect_lem : (k : In-Indirect) → (k.in-Indirect.n < 2) × (k.in-Indirect.k < 1018)
 in_indirect_lem k = subst NodesIn k.in-Indirect.is k.requires
 
-in_double_lem : (k : In-Double-2) → let g = k.in-Double.ARM-p4.given.0 in (g.0 < 1018) × (g.1.0 < 1018)
+in_double_lem : (k : In-Double) → (k.in-Double.n < 1018) × (k.in-Double.k < 1018)
 in_double_lem k = subst NodesIn k.in-Double.is k.requires
 
 pub overflow_add-n : goal.overflow_add-n
-overflow_add-n c = omega (arith, in_direct_lem (goal.at.overflow_add-n c).In-Direct-2)
+overflow_add-n c = omega (arith, in_direct_lem (goal.at.overflow_add-n c).In-Direct)
 
 pub overflow_add-n-in-Indirect : goal.overflow_add-n-in-Indirect
-overflow_add-n-in-Indirect c = omega (arith, in_indirect_lem (goal.at.overflow_add-n-in-Indirect c).In-Indirect-2)
+overflow_add-n-in-Indirect c = omega (arith, in_indirect_lem c)
 
 pub overflow_mul-n : goal.overflow_mul-n
-overflow_mul-n c = omega (arith, in_indirect_lem (goal.at.overflow_mul-n c).In-Indirect-2)
+overflow_mul-n c = omega (arith, in_indirect_lem (goal.at.overflow_mul-n c).In-Indirect)
 
 pub overflow_add-n-in-Indirect-2 : goal.overflow_add-n-in-Indirect-2
-overflow_add-n-in-Indirect-2 c = omega (arith, in_indirect_lem (goal.at.overflow_add-n-in-Indirect-2 c).In-Indirect-2)
+overflow_add-n-in-Indirect-2 c = omega (arith, in_indirect_lem (goal.at.overflow_add-n-in-Indirect-2 c).In-Indirect)
 
 pub overflow_mul-n-in-Indirect : goal.overflow_mul-n-in-Indirect
-overflow_mul-n-in-Indirect c = omega (arith, in_indirect_lem (goal.at.overflow_mul-n-in-Indirect c).In-Indirect-2)
+overflow_mul-n-in-Indirect c = omega (arith, in_indirect_lem (goal.at.overflow_mul-n-in-Indirect c).In-Indirect)
 
 pub overflow_add-n-in-Indirect-3 : goal.overflow_add-n-in-Indirect-3
-overflow_add-n-in-Indirect-3 c = omega (arith, in_indirect_lem (goal.at.overflow_add-n-in-Indirect-3 c).In-Indirect-2)
+overflow_add-n-in-Indirect-3 c = omega (arith, in_indirect_lem (goal.at.overflow_add-n-in-Indirect-3 c).In-Indirect)
 
 pub overflow_add-n-in-Indirect-4 : goal.overflow_add-n-in-Indirect-4
-overflow_add-n-in-Indirect-4 c = omega (arith, in_indirect_lem (goal.at.overflow_add-n-in-Indirect-4 c).In-Indirect-2)
+overflow_add-n-in-Indirect-4 c = omega (arith, in_indirect_lem (goal.at.overflow_add-n-in-Indirect-4 c).In-Indirect)
 
 pub overflow_mul-n-in-Double : goal.overflow_mul-n-in-Double
-overflow_mul-n-in-Double c = omega (arith, in_double_lem (goal.at.overflow_mul-n-in-Double c).In-Double-2)
+overflow_mul-n-in-Double c = omega (arith, in_double_lem (goal.at.overflow_mul-n-in-Double c).In-Double)
 
 pub overflow_add-n-in-Double : goal.overflow_add-n-in-Double
-overflow_add-n-in-Double c = omega (arith, in_double_lem (goal.at.overflow_add-n-in-Double c).In-Double-2)
+overflow_add-n-in-Double c = omega (arith, in_double_lem (goal.at.overflow_add-n-in-Double c).In-Double)
 
 pub overflow_mul-n-in-Double-2 : goal.overflow_mul-n-in-Double-2
-overflow_mul-n-in-Double-2 c = omega (arith, in_double_lem (goal.at.overflow_mul-n-in-Double-2 c).In-Double-2)
+overflow_mul-n-in-Double-2 c = omega (arith, in_double_lem (goal.at.overflow_mul-n-in-Double-2 c).In-Double)
 
 pub overflow_add-n-in-Double-2 : goal.overflow_add-n-in-Double-2
-overflow_add-n-in-Double-2 c = omega (arith, in_double_lem (goal.at.overflow_add-n-in-Double-2 c).In-Double-2)
+overflow_add-n-in-Double-2 c = omega (arith, in_double_lem (goal.at.overflow_add-n-in-Double-2 c).In-Double)
 
 pub overflow_add-n-in-Double-3 : goal.overflow_add-n-in-Double-3
-overflow_add-n-in-Double-3 c = omega (arith, in_double_lem (goal.at.overflow_add-n-in-Double-3 c).In-Double-2)
+overflow_add-n-in-Double-3 c = omega (arith, in_double_lem (goal.at.overflow_add-n-in-Double-3 c).In-Double)
 
 pub returns-in-Inode : goal.returns-in-Inode
 returns-in-Inode c =

@@ -23,7 +23,7 @@ read_of : (k : After-inode_of-i) → let a = k.args in k.inode_of-i.result ≡ i
 read_of k = rw k.block_at.ensures at k.inode_of-i.ensures
 
 regular : (k : Else-not-is_regular) → is_regular k.inode_of-i.result ≡ true
-regular k = sym k.is_regular.ensures ∙ not-false _ k.if-not-is_regular.false
+regular k = sym k.is_regular.ensures ∙ k.if-not-is_regular.false
 
 inside : (k : Else-is_past) → is_past k.inode_of-i.result k.args.index ≡ false
 inside k = sym k.is_past.ensures ∙ k.if-is_past.false
@@ -36,7 +36,7 @@ to_block_lem : (k : After-addresses_in) → let a = k.args in
 to_block_lem k =
     let apart = sym k.has_inline_data.ensures ∙ k.if-has_inline_data.false in
     reached_to (reached_start _ _ _)
-    (file_block _ _ _ _ ((let it : let a = k.args in k.inode_of-i.result ≡ inode_of ((card_of a.image.now).block a.at) = rw k.block_at.ensures at k.inode_of-i.ensures in it)) _ ((let it : is_regular k.inode_of-i.result ≡ true = sym k.is_regular.ensures ∙ not-false _ k.if-not-is_regular.false in it)) ((let it : is_past k.inode_of-i.result k.args.index ≡ false = sym k.is_past.ensures ∙ k.if-is_past.false in it)) k.count_in-bytes.ensures.0 _ apart k.addresses_in.ensures.0)
+    (file_block _ _ _ _ ((let it : let a = k.args in k.inode_of-i.result ≡ inode_of ((card_of a.image.now).block a.at) = rw k.block_at.ensures at k.inode_of-i.ensures in it)) _ ((let it : is_regular k.inode_of-i.result ≡ true = sym k.is_regular.ensures ∙ k.if-not-is_regular.false in it)) ((let it : is_past k.inode_of-i.result k.args.index ≡ false = sym k.is_past.ensures ∙ k.if-is_past.false in it)) k.count_in-bytes.ensures.0 _ apart k.addresses_in.ensures.0)
 
 pub inode_of-i-requires : goal.inode_of-i-requires
 inode_of-i-requires c =
@@ -44,7 +44,7 @@ inode_of-i-requires c =
 
 pub returns-then-not-is_regular : goal.returns-then-not-is_regular
 returns-then-not-is_regular c =
-    let other = sym c.is_regular.ensures ∙ not-true _ c.if-not-is_regular.true in
+    let other = sym c.is_regular.ensures ∙ c.if-not-is_regular.true in
     record { fact = reached_done (reached_to (reached_start _ _ _) (file_other _ _ _ _ (read_of (goal.at.returns-then-not-is_regular c).After-inode_of-i) other)); fact_2 = (tt, omega arith) }
 
 pub returns-then-is_past : goal.returns-then-is_past

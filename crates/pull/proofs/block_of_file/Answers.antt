@@ -10,12 +10,12 @@ use Rattle.pull.specs.Walk.{at_file, file_walk}
 use Rattle.walk.proofs.Both.{both_stop, second_fits, both_walked}
 use borrow.Author.Rules.{rules}
 use Rattle.pull.proofs.block_of_file.Goals as goal
-use Rattle.pull.proofs.block_of_file.Goals.{In-At-2}
+use Rattle.pull.proofs.block_of_file.Goals.{In-At}
 
-value : (k : In-At-2) → found_of ((card_of k.args.image.now)) k.node_step-step.result.found ≡ ok (((card_of k.args.image.now)).block k.in-At.at)
+value : (k : In-At) → found_of ((card_of k.args.image.now)) k.node_step-step.result.found ≡ ok (((card_of k.args.image.now)).block k.in-At.at)
 value k = ap (found_of ((card_of k.args.image.now))) k.in-At.is
 
-on_card_lem : (k : In-At-2) → k.in-At.at < ((card_of k.args.image.now)).blocks
+on_card_lem : (k : In-At) → k.in-At.at < ((card_of k.args.image.now)).blocks
 on_card_lem k = subst (FoundIn ((card_of k.args.image.now))) k.in-At.is k.node_step-step.ensures.found_in
 
 -- ---- the needs
@@ -27,7 +27,7 @@ node_step-step-requires c =
 pub block_from_inode-requires : goal.block_from_inode-requires
 unfolding file_walk
 block_from_inode-requires c =
-    record { fits = second_fits (at_file _ _ _) c.node_step-step.ensures.walked (value (goal.at.block_from_inode-requires c).In-At-2) c.requires.fits; volume_in = c.requires.volume_in; at_bound = on_card_lem (goal.at.block_from_inode-requires c).In-At-2 }
+    record { fits = second_fits (at_file _ _ _) c.node_step-step.ensures.walked (value (goal.at.block_from_inode-requires c).In-At) c.requires.fits; volume_in = c.requires.volume_in; at_bound = on_card_lem (goal.at.block_from_inode-requires c).In-At }
 
 pub returns-in-Stop : goal.returns-in-Stop
 unfolding file_walk
@@ -38,4 +38,4 @@ returns-in-Stop c =
 pub returns-in-At : goal.returns-in-At
 unfolding file_walk
 returns-in-At c =
-    record { fact = both_walked (at_file _ _ _) c.node_step-step.ensures.walked (value (goal.at.returns-in-At c).In-At-2) c.block_from_inode.ensures.fact; fact_2 = c.block_from_inode.ensures.fact_2 }
+    record { fact = both_walked (at_file _ _ _) c.node_step-step.ensures.walked (value (goal.at.returns-in-At c).In-At) c.block_from_inode.ensures.fact; fact_2 = c.block_from_inode.ensures.fact_2 }

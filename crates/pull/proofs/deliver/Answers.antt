@@ -5,20 +5,20 @@ use Rattle.field.proofs.Blocks.{length_of_block}
 use Rattle.node.specs.Found.{DataIn}
 use borrow.Author.Rules.{rules}
 use Rattle.pull.proofs.deliver.Goals as goal
-use Rattle.pull.proofs.deliver.Goals.{In-At-2}
+use Rattle.pull.proofs.deliver.Goals.{In-At}
 
 -- the block that is delivered lies on the card
-on_card_lem : (k : In-At-2) → k.NOFIELD-«data».given.0.0 < (card_of k.args.image.now).blocks
+on_card_lem : (k : In-At) → k.NOFIELD-«data».given.0.0 < (card_of k.args.image.now).blocks
 on_card_lem k =
     subst (DataIn (card_of k.args.image.now)) k.NOFIELD-«data».given.1 k.requires.data_in.0
 
 pub block_at-requires : goal.block_at-requires
 block_at-requires c =
-    on_card_lem (goal.at.block_at-requires c).In-At-2
+    on_card_lem c
 
 pub put_block-requires : goal.put_block-requires
 put_block-requires c =
-    (length_of_block _ _ (on_card_lem (goal.at.put_block-requires c).In-At-2) c.block_at.ensures, c.requires.data_in.1, c.requires.buffer_len)
+    (length_of_block _ _ (on_card_lem (goal.at.put_block-requires c).In-At) c.block_at.ensures, c.requires.data_in.1, c.requires.buffer_len)
 
 pub returns-in-Hole : goal.returns-in-Hole
 returns-in-Hole c =

@@ -25,7 +25,7 @@ tested k =
 in_shape_lem : (k : After-open) → call_in_shape k.args.image.now k.args.path.now ((lending k.args.block.now k.args.nodes.now k.args.blocks.now)) ≡ true
 in_shape_lem k = (let it : call_in_shape k.args.image.now k.args.path.now ((lending k.args.block.now k.args.nodes.now k.args.blocks.now))
     ≡ (k.in_shape.result && not (eqb k.name_count-k.result 0) && k.lent_in_shape.result) = counted_shape k.args.image.now k.args.path.now k.args.index ((lending k.args.block.now k.args.nodes.now k.args.blocks.now)) k.name_count-k.ensures
-    k.in_shape.ensures k.lent_in_shape.ensures in it) ∙ not-false _ k.if-not-in_shape-k.false
+    k.in_shape.ensures k.lent_in_shape.ensures in it) ∙ k.if-not-in_shape-k.false
 
 pub lent_in_shape-requires : goal.lent_in_shape-requires
 lent_in_shape-requires c =
@@ -33,7 +33,7 @@ lent_in_shape-requires c =
 
 pub returns-then-not-in_shape-k : goal.returns-then-not-in_shape-k
 returns-then-not-in_shape-k c =
-    let out = tested (goal.at.returns-then-not-in_shape-k c).After-lent_in_shape ∙ not-true _ c.if-not-in_shape-k.true in
+    let out = tested (goal.at.returns-then-not-in_shape-k c).After-lent_in_shape ∙ c.if-not-in_shape-k.true in
     ap (λ (p : Pulled). result_in p ((lending c.args.block.now c.args.nodes.now c.args.blocks.now))) c.refused_pull.ensures
     ∙ sym (call_refused c.args.image.now c.args.path.now c.args.index ((lending c.args.block.now c.args.nodes.now c.args.blocks.now)) out)
 

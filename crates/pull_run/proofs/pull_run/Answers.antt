@@ -26,7 +26,7 @@ tested k =
 in_shape_lem : (k : After-open) → run_call_in_shape k.args.image.now k.args.path.now k.args.wanted ((lending k.args.buffer.now k.args.nodes.now k.args.blocks.now)) ≡ true
 in_shape_lem k = (let it : run_call_in_shape k.args.image.now k.args.path.now k.args.wanted ((lending k.args.buffer.now k.args.nodes.now k.args.blocks.now))
     ≡ (k.in_shape.result && not (eqb k.name_count-k.result 0) && k.run_in_shape.result) = counted_run_shape k.args.image.now k.args.path.now k.args.index k.args.wanted ((lending k.args.buffer.now k.args.nodes.now k.args.blocks.now)) k.name_count-k.ensures
-    k.in_shape.ensures k.run_in_shape.ensures in it) ∙ not-false _ k.if-not-in_shape-k.false
+    k.in_shape.ensures k.run_in_shape.ensures in it) ∙ k.if-not-in_shape-k.false
 
 pub run_in_shape-requires : goal.run_in_shape-requires
 run_in_shape-requires c =
@@ -34,7 +34,7 @@ run_in_shape-requires c =
 
 pub returns-then-not-in_shape-k : goal.returns-then-not-in_shape-k
 returns-then-not-in_shape-k c =
-    let out = tested (goal.at.returns-then-not-in_shape-k c).After-run_in_shape ∙ not-true _ c.if-not-in_shape-k.true in
+    let out = tested (goal.at.returns-then-not-in_shape-k c).After-run_in_shape ∙ c.if-not-in_shape-k.true in
     ap (λ (r : Run). run_result r ((lending c.args.buffer.now c.args.nodes.now c.args.blocks.now))) c.refused_run.ensures
     ∙ sym (run_refused c.args.image.now c.args.path.now c.args.index c.args.wanted ((lending c.args.buffer.now c.args.nodes.now c.args.blocks.now)) out)
 

@@ -12,14 +12,14 @@ returns-then-bytes-ne4096 c = inr (c.refusal.ensures, inl c.if-bytes-ne4096.true
 
 pub returns-then-not-is_sound : goal.returns-then-not-is_sound
 returns-then-not-is_sound c =
-    inr (c.refusal-then-not-is_sound.ensures, inr (sym (c.is_sound.ensures c.args.path.now) ∙ not-true _ c.if-not-is_sound.true))
+    inr (c.refusal-then-not-is_sound.ensures, inr (sym (c.is_sound.ensures c.args.path.now) ∙ c.if-not-is_sound.true))
 
 pub decide-requires : goal.decide-requires
 decide-requires c =
-    let sound = sym (c.is_sound.ensures c.args.path.now) ∙ not-false _ c.if-not-is_sound.false in
+    let sound = sym (c.is_sound.ensures c.args.path.now) ∙ c.if-not-is_sound.false in
     (sound_fits c.args.at ((memory c.args.path.now c.args.first.now c.args.held.now c.args.journal.now)) c.args.nodes.now c.args.blocks.now sound, c.if-bytes-ne4096.false)
 
 pub returns : goal.returns
 returns c =
-    let sound = sym (c.is_sound.ensures c.args.path.now) ∙ not-false _ c.if-not-is_sound.false in
+    let sound = sym (c.is_sound.ensures c.args.path.now) ∙ c.if-not-is_sound.false in
     inl (sound, c.if-bytes-ne4096.false, c.decide.ensures.decided)

@@ -13,7 +13,7 @@ use Rattle.reader.proofs.list_block.Goals as goal
 
 pub returns-then-not-reads : goal.returns-then-not-reads
 returns-then-not-reads c = ap ((let l = numbers c.args.list.now 0 c.args.count in
-    choose t (insert c.args.block l) l)) (sym (not-true c.args.reads c.if-not-reads.true))
+    choose t (insert c.args.block l) l)) (sym c.if-not-reads.true)
 
 pub insert-requires : goal.insert-requires
 insert-requires c =
@@ -27,4 +27,4 @@ overflow_cast-result c =
 pub returns : goal.returns
 returns c =
     c.insert.ensures.list ∙ ap ((let l = numbers c.args.list.now 0 c.args.count in
-    choose t (insert c.args.block l) l)) (sym (not-false c.args.reads c.if-not-reads.false))
+    choose t (insert c.args.block l) l)) (sym c.if-not-reads.false)

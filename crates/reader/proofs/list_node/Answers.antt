@@ -13,7 +13,7 @@ use Rattle.reader.proofs.list_node.Goals as goal
 
 pub returns-then-not-looked : goal.returns-then-not-looked
 returns-then-not-looked c = ap ((let l = numbers c.args.list.now 0 c.args.count in
-    choose t (insert c.args.number l) l)) (sym (not-true c.args.looked c.if-not-looked.true))
+    choose t (insert c.args.number l) l)) (sym c.if-not-looked.true)
 
 pub insert-requires : goal.insert-requires
 insert-requires c =
@@ -27,4 +27,4 @@ overflow_cast-result c =
 pub returns : goal.returns
 returns c =
     c.insert.ensures.list ∙ ap ((let l = numbers c.args.list.now 0 c.args.count in
-    choose t (insert c.args.number l) l)) (sym (not-false c.args.looked c.if-not-looked.false))
+    choose t (insert c.args.number l) l)) (sym c.if-not-looked.false)

@@ -17,18 +17,18 @@ use borrow.Author.Rules.{rules}
 use Rattle.reader.proofs.start.Goals as goal
 use Rattle.reader.proofs.start.Goals.{After-keep_path, After-name_count}
 
-tested : (k : After-name_count) → (leb 2 k.args.card-blocks && leb k.args.card-blocks 4194304 && not (eqb k.name_count.result 0))
-    ≡ start_in_shape k.args.card-blocks k.args.path.now
+tested : (k : After-name_count) → (leb 2 k.args.card_blocks && leb k.args.card_blocks 4194304 && not (eqb k.name_count.result 0))
+    ≡ start_in_shape k.args.card_blocks k.args.path.now
 tested k =
-    shape_tested k.args.card-blocks k.args.path.now k.name_count.ensures
+    shape_tested k.args.card_blocks k.args.path.now k.name_count.ensures
 
 pub returns-then-not-in_shape : goal.returns-then-not-in_shape
 returns-then-not-in_shape c =
-    let shape = sym (tested (goal.at.returns-then-not-in_shape c).After-name_count) ∙ not-true _ c.if-not-in_shape.true in
+    let shape = sym (tested (goal.at.returns-then-not-in_shape c).After-name_count) ∙ c.if-not-in_shape.true in
     let b = c.blank-t.result in
     let refusal = with_numbers b (refuses_at b.at 4) in
-    let left : resume refusal ≡ read_ask c.args.card-blocks c.args.path.now c.args.index =
-    refusal_left b.at (memory_in b) _ 4 ∙ sym (refused_start c.args.card-blocks c.args.path.now c.args.index shape)
+    let left : resume refusal ≡ read_ask c.args.card_blocks c.args.path.now c.args.index =
+    refusal_left b.at (memory_in b) _ 4 ∙ sym (refused_start c.args.card_blocks c.args.path.now c.args.index shape)
     in
     let ended : EndIn (refuses_at b.at 4) = record { bytes = omega arith; counts = λ z. (refl, refl) } in
     let kept : Kept refusal = record {
@@ -38,18 +38,18 @@ returns-then-not-in_shape c =
       nodes_rise = none_rise b.nodes refl;
       blocks_rise = none_rise b.blocks refl;
     } in
-    let started : Started c.args.card-blocks c.args.path.now c.args.index refusal =
+    let started : Started c.args.card_blocks c.args.path.now c.args.index refusal =
     record { left = left; kept = kept; given = λ is. absurd (clash is shape) }
     in
     rw c.refuse.ensures started
 
 pub keep_path-requires : goal.keep_path-requires
 keep_path-requires c =
-    path_room c.args.card-blocks c.args.path.now (sym (tested (goal.at.keep_path-requires c).After-name_count) ∙ not-false _ c.if-not-in_shape.false)
+    path_room c.args.card_blocks c.args.path.now (sym (tested (goal.at.keep_path-requires c).After-name_count) ∙ c.if-not-in_shape.false)
 
 pub overflow_cast-at : goal.overflow_cast-at
 overflow_cast-at c =
-    let room = path_room c.args.card-blocks c.args.path.now (sym (tested (goal.at.overflow_cast-at c).After-name_count) ∙ not-false _ c.if-not-in_shape.false) in
+    let room = path_room c.args.card_blocks c.args.path.now (sym (tested (goal.at.overflow_cast-at c).After-name_count) ∙ c.if-not-in_shape.false) in
     omega (arith, room)
 
 pub returns : goal.returns
@@ -57,19 +57,19 @@ returns c =
     let path = c.args.path.now in
     let b = c.blank-t.result in
     let given = c.blank-t.ensures in
-    let shape = sym (tested (goal.at.returns c).After-name_count) ∙ not-false _ c.if-not-in_shape.false in
+    let shape = sym (tested (goal.at.returns c).After-name_count) ∙ c.if-not-in_shape.false in
     let starts = starts_with (length path) given.0 in
     let m : Memory = memory c.keep_path.new.0 b.first b.held b.journal in
     let sized : Sized m =
     record { path = c.keep_path.ensures.1; first = given.2; held = given.3; journal = given.4 }
     in
     let front = c.keep_path.ensures.0 in
-    let fit = start_fits starts m front sized (path_room c.args.card-blocks path shape) in
+    let fit = start_fits starts m front sized (path_room c.args.card_blocks path shape) in
     record {
       left = start_resumes starts m front b.nodes b.blocks shape;
       (goal.at.returns c).After-keep_path = record {
         fit = fit;
-        path = path_room c.args.card-blocks path shape;
+        path = path_room c.args.card_blocks path shape;
         form = inr starts.asked;
         nodes_rise = none_rise b.nodes starts.no_nodes;
         blocks_rise = none_rise b.blocks starts.no_blocks;

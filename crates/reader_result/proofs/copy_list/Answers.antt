@@ -24,5 +24,5 @@ put_bytes-requires c =
 pub returns : goal.returns
 returns c =
     let s = start_of (goal.at.returns c).After-put_bytes-arg-1 in
-    let bytes = c.NOFIELD-shared-slice-known.given in
+    let bytes = c.shared_slice_known-1.given in
     c.put_bytes.ensures ∙ copied s.args.from.now s.args.count s.pre.0 (λ k. (bytes k).fits) s.args.into.now

@@ -6,4 +6,4 @@ use borrow.Author.Rules.{rules}
 use Rattle.reader_result.proofs.names_in.Goals as goal
 
 pub slice_bounds-name_count-end : goal.slice_bounds-name_count-end
-slice_bounds-name_count-end c = sym (length-take-le _ c.BEFORE.args.path.now (omega arith))
+slice_bounds-name_count-end c = sym (length-take-le _ c.args.path.now (omega arith))

@@ -14,7 +14,7 @@ use Rattle.reader_state.proofs.journal_next.Goals as goal
 use Rattle.reader_state.proofs.journal_next.Goals.{Else-not-journal_readable}
 
 readable : (k : Else-not-journal_readable) → let a = k.args in journal_readable (drop a.at.volume.journal_at a.bytes.now) ≡ true
-readable k = sym k.journal_readable.ensures ∙ not-false _ k.if-not-journal_readable.false
+readable k = sym k.journal_readable.ensures ∙ k.if-not-journal_readable.false
 
 -- its 512 bytes
 part : (k : Else-not-journal_readable) → let at = k.args.at.volume.journal_at in at + 512 - at ≡ 512
@@ -27,7 +27,7 @@ journal_readable-requires c =
 
 pub returns-then-not-journal_readable : goal.returns-then-not-journal_readable
 returns-then-not-journal_readable c =
-    let closed = sym c.journal_readable.ensures ∙ not-true _ c.if-not-journal_readable.true in
+    let closed = sym c.journal_readable.ensures ∙ c.if-not-journal_readable.true in
     rw c.refuses_at.ensures (refuse_decided c.args.at ((memory c.args.path.now c.args.first.now c.args.held.now c.args.journal.now)) c.args.bytes.now c.requires.1 c.requires.0 closed)
 
 pub slice_bounds-enter-end : goal.slice_bounds-enter-end

@@ -40,10 +40,10 @@ pub returns-in-OneLast : goal.returns-in-OneLast
 returns-in-OneLast c = rw c.in-OneLast.is c.opens_in-in-OneLast.ensures
 
 pub returns-in-TwoFirst : goal.returns-in-TwoFirst
-returns-in-TwoFirst c = let e = c.in-TwoFirst.ARM-stage.given in rw e.1 (rw (← four e.0.0) c.opens_in-in-TwoFirst.ensures)
+returns-in-TwoFirst c = rw c.in-TwoFirst.is (rw (← four c.in-TwoFirst.passed) c.opens_in-in-TwoFirst.ensures)
 
 pub returns-in-TwoLast : goal.returns-in-TwoLast
-returns-in-TwoLast c = let e = c.in-TwoLast.ARM-stage2.given in rw e.1 (rw (← six e.0.0) c.opens_in-in-TwoLast.ensures)
+returns-in-TwoLast c = rw c.in-TwoLast.is (rw (← six c.in-TwoLast.passed) c.opens_in-in-TwoLast.ensures)
 
 pub returns-in-Journal : goal.returns-in-Journal
 returns-in-Journal c = rw c.in-Journal.is c.opens_in-in-Journal.ensures

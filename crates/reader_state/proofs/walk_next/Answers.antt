@@ -8,7 +8,7 @@ use Rattle.reader_state.proofs.Fitting.{path_length_lem}
 use Rattle.reader_state.proofs.Stages.{walk_kept, node_known, data_known, table_decided, node_decided, data_decided}
 use borrow.Author.Rules.{rules}
 use Rattle.reader_state.proofs.walk_next.Goals as goal
-use Rattle.reader_state.proofs.walk_next.Goals.{Else-stage-eq10, Start}
+use Rattle.reader_state.proofs.walk_next.Goals.{Else-stage-eq10, Else-stage-eq9, Start}
 
 later : (k : Else-stage-eq10) → 10 < k.args.at.stage
 later k = omega (arith, k.requires.0, k.if-stage-eq9.false, k.if-stage-eq10.false)
@@ -29,44 +29,29 @@ returns-then-stage-eq9 c =
     (c.table_came-m.ensures.by_index m.first m.journal (path_in at m) at.index m.held) c.table_came-m.ensures.target_value)
 
 pub slice_bounds-node_came-end : goal.slice_bounds-node_came-end
-slice_bounds-node_came-end c = ? sym (path_here (node_of c.before))
+slice_bounds-node_came-end c = sym (path_here (goal.at.slice_bounds-node_came-end c).Start)
 
 pub node_came-m-requires : goal.node_came-m-requires
-node_came-m-requires c = let whole = ?
-    let k = c.before in
-    let s = node_of k in
-    let fit = s.pre.1 in
-    let known = node_known s.args.at (memory_of s) fit s.pre.0 (omega (arith, k.if2.true)) in
-    (walk_kept s.args.at (memory_of s) fit s.pre.0, ((fit.sized.held, s.pre.2, path_few s, known.0), known.1)) in record { kept_in = whole.0; inode_len = whole.1.0; spot_in = whole.1.1 }
+node_came-m-requires c =
+    let fit = c.requires.1 in
+    let known = node_known c.args.at ((memory c.args.path.now c.args.first.now c.args.held.now c.args.journal.now)) fit c.requires.0 (omega (arith, c.if-stage-eq10.true)) in
+    record { kept_in = walk_kept c.args.at ((memory c.args.path.now c.args.first.now c.args.held.now c.args.journal.now)) fit c.requires.0; inode_len = (fit.sized.held, c.requires.2, path_few (goal.at.node_came-m-requires c).Start, known.0); spot_in = known.1 }
 
 pub returns-then-stage-eq10 : goal.returns-then-stage-eq10
-returns-then-stage-eq10 c = ?
-    let keeps = c.before in
-    let came = keeps.before.before in
-    let k = came.before.before in
-    let s = node_of k in
-    rw (c.walk-on2.ensures, keeps.keep-if.ensures)
-    (node_decided s.args.at (memory_of s) s.pre.1 s.pre.0 s.args.bytes.now s.pre.2 k.if2.true came.node-came.result
-    came.node-came.ensures.0 came.node-came.ensures.1)
+returns-then-stage-eq10 c =
+    rw (c.walk_on-then-stage-eq10.ensures, c.keep_if.ensures)
+    (node_decided c.args.at ((memory c.args.path.now c.args.first.now c.args.held.now c.args.journal.now)) c.requires.1 c.requires.0 c.args.bytes.now c.requires.2 c.if-stage-eq10.true c.node_came-m.result
+    c.node_came-m.ensures.result_value c.node_came-m.ensures.move_in)
 
 pub slice_bounds-data_came-end : goal.slice_bounds-data_came-end
-slice_bounds-data_came-end c = ? sym (path_here (data_of c.before))
+slice_bounds-data_came-end c = sym (path_here (goal.at.slice_bounds-data_came-end c).Start)
 
 pub data_came-m-requires : goal.data_came-m-requires
-data_came-m-requires c = let whole = ?
-    let k = c.before in
-    let s = data_of k in
-    let fit = s.pre.1 in (
-      walk_kept s.args.at (memory_of s) fit s.pre.0,
-      ((fit.sized.held, s.pre.2, path_few s), data_known s.args.at (memory_of s) fit s.pre.0 (later k)),
-    ) in record { kept_in = whole.0; inode_len = whole.1.0; spot_in = whole.1.1 }
+data_came-m-requires c =
+    let fit = c.requires.1 in record { kept_in = walk_kept c.args.at ((memory c.args.path.now c.args.first.now c.args.held.now c.args.journal.now)) fit c.requires.0; inode_len = ((fit.sized.held, c.requires.2, path_few (goal.at.data_came-m-requires c).Start), data_known c.args.at ((memory c.args.path.now c.args.first.now c.args.held.now c.args.journal.now)) fit c.requires.0 (later (goal.at.data_came-m-requires c).Else-stage-eq9)); spot_in =  }
 
 pub returns : goal.returns
-returns c = ?
-    let keeps = c.before in
-    let came = keeps.before.before in
-    let k = came.before.before in
-    let s = data_of k in
-    rw (c.walk-on3.ensures, keeps.keep-if2.ensures)
-    (data_decided s.args.at (memory_of s) s.pre.1 s.pre.0 s.args.bytes.now s.pre.2 (later k) came.data_came.result
-    came.data_came.ensures.0 came.data_came.ensures.1)
+returns c =
+    rw (c.walk_on-2.ensures, c.keep_if-2.ensures)
+    (data_decided c.args.at ((memory c.args.path.now c.args.first.now c.args.held.now c.args.journal.now)) c.requires.1 c.requires.0 c.args.bytes.now c.requires.2 (later (goal.at.returns c).Else-stage-eq9) c.data_came-m.result
+    c.data_came-m.ensures.result_value c.data_came-m.ensures.move_in)

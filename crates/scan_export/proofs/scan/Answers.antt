@@ -25,7 +25,7 @@ tested k = rw (← k.is_name.ensures)
 
 is_scan_lem : (k : After-scan_slots-step) → let a = k.args in is_scan a.block.now a.name.now ≡ true
 is_scan_lem k = (let it : let a = k.args in
-    is_scan a.block.now a.name.now ≡ (eqb (length a.block.now) 4096 && k.is_name.result) = rw (← k.is_name.ensures) in it) ∙ not-false _ k.if-not-block-is_name.false
+    is_scan a.block.now a.name.now ≡ (eqb (length a.block.now) 4096 && k.is_name.result) = rw (← k.is_name.ensures) in it) ∙ k.if-not-block-is_name.false
 
 -- the scan was for the name and its hash, by the layout
 of_call : (k : After-scan_slots-step) → (P : Layout → List ℕ → Wanted → Type 0) → let a = k.args in
@@ -70,13 +70,13 @@ crosses k told =
     sym (in_shape_lem _ _ _ (is_scan_lem k) ∙ ap₂ crossing is.0 (sym is.1))
 
 pub returns-then-not-block-is_name : goal.returns-then-not-block-is_name
-returns-then-not-block-is_name c = record { value = sym (out_of_shape_lem _ _ _ (tested (goal.at.returns-then-not-block-is_name c).After-is_name ∙ not-true _ c.if-not-block-is_name.true)); turns_bound = omega arith }
+returns-then-not-block-is_name c = record { value = sym (out_of_shape_lem _ _ _ (tested (goal.at.returns-then-not-block-is_name c).After-is_name ∙ c.if-not-block-is_name.true)); turns_bound = omega arith }
 
 pub part_of-part-requires : goal.part_of-part-requires
 part_of-part-requires c =
     let a = c.args in
     let whole : length a.block.now ≡ 4096 =
-    needed_eq {all = eqb (length a.block.now) 4096 && c.is_name.result} (λ e. rw e) (not-false _ c.if-not-block-is_name.false) in
+    needed_eq {all = eqb (length a.block.now) 4096 && c.is_name.result} (λ e. rw e) c.if-not-block-is_name.false in
     (whole, c.layout_of-layout.ensures.1, c.layout_of-layout.ensures.2)
 
 pub returns-in-On : goal.returns-in-On

@@ -6,20 +6,20 @@ use Rattle.sit.proofs.Openings.{opened_sit}
 use Rattle.segment_report.proofs.Ends.{refused_by_opening, too_short, made}
 use borrow.Author.Rules.{rules}
 use Rattle.segment_report.proofs.report.Goals as goal
-use Rattle.segment_report.proofs.report.Goals.{In-Opened-2}
+use Rattle.segment_report.proofs.report.Goals.{In-Opened}
 
 -- the image opened
-opens : (k : In-Opened-2) → opened_with_sit k.args.image.now ≡ Opened k.in-Opened.v
+opens : (k : In-Opened) → opened_with_sit k.args.image.now ≡ Opened k.in-Opened.v
 opens k = sym k.NOFIELD-«open».ensures ∙ k.in-Opened.is
 
 pub returns-then-list-v : goal.returns-then-list-v
 returns-then-list-v c =
-    rw c.refused-then-list-v.ensures (sym (too_short _ _ _ (opens (goal.at.returns-then-list-v c).In-Opened-2) c.if-list-v.true))
+    rw c.refused-then-list-v.ensures (sym (too_short _ _ _ (opens (goal.at.returns-then-list-v c).In-Opened) c.if-list-v.true))
 
 pub report_opened-requires : goal.report_opened-requires
 report_opened-requires c =
     let room = c.if-list-v.false in
-    record { sit_in = opened_sit _ _ (opens (goal.at.report_opened-requires c).In-Opened-2); main_segments_in_bounds = omega arith }
+    record { sit_in = opened_sit _ _ (opens (goal.at.report_opened-requires c).In-Opened); main_segments_in_bounds = omega arith }
 
 pub returns-in-Refused : goal.returns-in-Refused
 returns-in-Refused c =
@@ -27,4 +27,4 @@ returns-in-Refused c =
 
 pub returns-else-list-v : goal.returns-else-list-v
 returns-else-list-v c =
-    c.report_opened.ensures ∙ sym (made _ _ _ (opens (goal.at.returns-else-list-v c).In-Opened-2) c.if-list-v.false)
+    c.report_opened.ensures ∙ sym (made _ _ _ (opens (goal.at.returns-else-list-v c).In-Opened) c.if-list-v.false)

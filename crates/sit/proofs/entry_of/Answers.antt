@@ -9,14 +9,14 @@ use Rattle.sit.specs.Table.{sit_journal_of, sit_entry}
 use Rattle.sit.proofs.Inside.{journal_holds, journaled_inside}
 use borrow.Author.Rules.{rules}
 use Rattle.sit.proofs.entry_of.Goals as goal
-use Rattle.sit.proofs.entry_of.Goals.{After-find_entry, In-At-2}
+use Rattle.sit.proofs.entry_of.Goals.{After-find_entry, In-At}
 
 -- the search is of the card's SIT journal
 sought : (k : After-find_entry) → k.find_entry.result ≡ journal_find 78 ((sit_journal_of (card_of k.args.image.now) k.args.v)) k.args.segment
 sought k = rw k.journal_of-journal.ensures at k.find_entry.ensures
 
 -- the entry that was found lies inside
-inside : (k : In-At-2) → k.in-At.at + 78 ≤ length k.journal_of-journal.result.now
+inside : (k : In-At) → k.in-At.at + 78 ≤ length k.journal_of-journal.result.now
 inside k =
     rw k.journal_of-journal.ensures
     (journaled_inside k.args.image.now k.args.v k.requires.sit_in k.args.segment k.in-At.at (sym ((let it : k.find_entry.result ≡ journal_find 78 ((sit_journal_of (card_of k.args.image.now) k.args.v)) k.args.segment = rw k.journal_of-journal.ensures at k.find_entry.ensures in it)) ∙ k.in-At.is))
@@ -26,13 +26,13 @@ find_entry-requires c =
     rw c.journal_of-journal.ensures (omega arith, journal_holds c.args.image.now c.args.v c.requires.sit_in)
 
 pub overflow_add-result : goal.overflow_add-result
-overflow_add-result c = omega (arith, inside (goal.at.overflow_add-result c).In-At-2)
+overflow_add-result c = omega (arith, inside c)
 
 pub overflow_add-result-in-At : goal.overflow_add-result-in-At
-overflow_add-result-in-At c = omega (arith, inside (goal.at.overflow_add-result-in-At c).In-At-2)
+overflow_add-result-in-At c = omega (arith, inside c)
 
 pub slice_bounds-result-end : goal.slice_bounds-result-end
-slice_bounds-result-end c = omega (arith, inside (goal.at.slice_bounds-result-end c).In-At-2)
+slice_bounds-result-end c = omega (arith, inside c)
 
 pub returns-in-At : goal.returns-in-At
 unfolding sit_entry

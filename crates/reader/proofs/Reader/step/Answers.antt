@@ -15,45 +15,34 @@ pub returns-then-at-eq0 : goal.returns-then-at-eq0
 returns-then-at-eq0 c = repeats_stepped c.args.self _ c.if-at-eq0.true
 
 pub keep_block-requires : goal.keep_block-requires
-keep_block-requires c = ?
-    let k = decided_of c in
-    λ keeps. first_whole (reader_of k) (bytes_of k) k.decide.result k.decide.ensures (sym c.takes_first.ensures ∙ keeps)
+keep_block-requires c =
+    λ keeps. first_whole c.args.self c.args.bytes.now c.decide-d.result c.decide-d.ensures (sym c.takes_first.ensures ∙ keeps)
 
 pub keep_block-requires-2 : goal.keep_block-requires-2
-keep_block-requires-2 c = ?
-    let k = decided_of (first_of c) in
-    λ keeps. held_whole (reader_of k) (bytes_of k) k.decide.result k.decide.ensures (sym c.takes-held.ensures ∙ keeps)
+keep_block-requires-2 c =
+    λ keeps. held_whole c.args.self c.args.bytes.now c.decide-d.result c.decide-d.ensures (sym c.takes_held.ensures ∙ keeps)
 
 pub keep_journal-requires : goal.keep_journal-requires
-keep_journal-requires c = ?
-    let k = decided_of (first_of c.before.before.before) in
-    λ keeps. journal_whole (reader_of k) (bytes_of k) k.decide.result k.decide.ensures keeps
+keep_journal-requires c =
+    λ keeps. journal_whole c.args.self c.args.bytes.now c.decide-d.result c.decide-d.ensures keeps
 
 pub list_node-requires : goal.list_node-requires
-list_node-requires c = ?
-    let k = decided_of (first_of (held_of c)) in
-    nodes_ready (reader_of k) (bytes_of k) k.decide.result k.decide.ensures
+list_node-requires c =
+    nodes_ready c.args.self c.args.bytes.now c.decide-d.result c.decide-d.ensures
 
 pub list_block-requires : goal.list_block-requires
-list_block-requires c = ?
-    let k = decided_of (first_of (held_of (node_of c))) in
-    blocks_ready (reader_of k) (bytes_of k) k.decide.result k.decide.ensures
+list_block-requires c =
+    blocks_ready c.args.self c.args.bytes.now c.decide-d.result c.decide-d.ensures
 
 pub returns : goal.returns
-returns c = ?
-    let node = node_of c.before in
-    let held = held_of node in
-    let first = first_of held in
-    let k = decided_of first in
-    let r = reader_of k in
-    let bytes = bytes_of k in
-    let d = k.decide.result in
-    let second = first.before.before in
-    let put = node.before.before.before.before in
-    let f = held.before.before.keep-block.ensures ∙ ap (λ (t : Bool). choose t bytes second.keep-second.last.0) first.takes_first.ensures
+returns c =
+    let r = c.args.self in
+    let bytes = c.args.bytes.now in
+    let d = c.decide-d.result in
+    let f = c.keep_block.ensures ∙ ap (λ (t : Bool). choose t bytes c.keep_second.last.0) c.takes_first.ensures
     ∙ ap (choose (takes_first d.keep) bytes)
-    (second.keep-second.ensures ∙ ap (λ (t : Bool). choose t r.held r.first) second.before.takes-second.ensures)
+    (c.keep_second.ensures ∙ ap (λ (t : Bool). choose t r.held r.first) c.takes_second.ensures)
     in
-    let h = put.keep-block2.ensures ∙ ap (λ (t : Bool). choose t bytes r.held) held.takes-held.ensures in
-    step_stepped r bytes d k.decide.ensures _ _ _ _ _ _ _ f h node.before.keep-journal.ensures c.before.before.list-node.ensures
-    c.list-block.ensures (asked_of k).if1.left
+    let h = c.keep_block-2.ensures ∙ ap (λ (t : Bool). choose t bytes r.held) c.takes_held.ensures in
+    step_stepped r bytes d c.decide-d.ensures _ _ _ _ _ _ _ f h c.keep_journal.ensures c.list_node.ensures
+    c.list_block.ensures c.if-at-eq0.false
