@@ -39,9 +39,9 @@ module _ {P : ℕ → Type 0} {Q : Ending → Type 0} where
   pub few_steps : {n : ℕ} {a : Asking Ending} (ls : List (List ℕ)) → Q (refused 4) → Few P Q (length ls + n) a → Few P Q n (steps ls a)
   unfolding steps
   few_steps {n = n} [] four h = let e : 0 + n ≡ n = omega arith in rw e at h
-  few_steps {n = n} (l ∷ ls) four h =
+  few_steps {n = n} {a = a} (l ∷ ls) four h =
       let e : length (l ∷ ls) + n ≡ suc (length ls + n) = omega arith in
-      few_steps ls four (few_fed l four (rw e at h))
+      few_steps {a = fed_with l a} ls four (few_fed l four (rw e at h))
 
   at_once : {n : ℕ} {a : Asking Ending} → Few P Q n a → n ≡ 0 → (x : Ending) × (a ≡ answer x) × Q x
   at_once (ends {a = x} q) e = (x, refl, q)

@@ -48,12 +48,13 @@ pub lists_few : {P : ℕ → Type 0} {Q : Ending → Type 0} {n : ℕ} (t : Kept
     → (length s.nodes ≤ N) × (length s.blocks ≤ M)
 unfolding asking
 lists_few t N M s (done a) h most = most (ran a s) (few_answered h)
-lists_few t N M s (look n k) h most =
+lists_few {n = m} t N M s (look n k) h most =
     let on = few_looked t n (λ e. asking t came (saw_node n s) (k e)) h in
-    let later = lists_few t N M (saw_node n s) (k on.0) on.2 most in
+    let later = lists_few {n = on.1} t N M (saw_node n s) (k on.0) on.2 most in
     let more = insert_more n s.nodes in
     (omega arith, omega arith)
-lists_few t N M s (read b k) h most =
-    let later = lists_few t N M (saw_block b s) (k []) (few_asked h []).1 most in
+lists_few {n = m} t N M s (read b k) h most =
+    let on = few_asked h [] in
+    let later = lists_few {n = on.0} t N M (saw_block b s) (k []) on.1 most in
     let more = insert_more b s.blocks in
     (omega arith, omega arith)

@@ -20,12 +20,12 @@ module _ (front old : List ℕ) (k : ℕ) (written : length front ≡ k) (fits :
       omega arith
 
   -- what is lent to be cleared, and what it leaves
-  pub filled : {now cleared : List ℕ} → now ≡ take (length front) front ++ drop (length front) old
+  pub filled : {now cleared : List ℕ} → now ≡ front ++ drop (length front) old
       → cleared ≡ replicate (length (take (length now - k) (drop k now))) 0
       → put_mid k (length now - k) now cleared ≡ front ++ replicate (length old - k) 0
   unfolding whole
   filled {now} {cleared} p q =
-      let is : now ≡ whole = p ∙ rw (written, take_all k front (omega arith)) in
+      let is : now ≡ whole = p ∙ rw written in
       let size : length now ≡ length old = ap length is ∙ whole_length in
       let rest : drop k now ≡ drop k old = ap (drop k) is ∙ drop_at front (drop k old) k written in
       let left = length-drop k old in

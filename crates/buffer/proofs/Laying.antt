@@ -50,13 +50,13 @@ laid_number d at x h =
 
 -- a part of the bytes, lent as a slice and filled
 pub laid_part : (at : ℕ) (p d : List ℕ) {left : List ℕ} → at + length p ≤ length d
-    → left ≡ take (length p) p ++ drop (length p) (take (at + length p - at) (drop at d)) → put_mid at (at + length p - at) d left ≡ laid_at at p d
+    → left ≡ p ++ drop (length p) (take (at + length p - at) (drop at d)) → put_mid at (at + length p - at) d left ≡ laid_at at p d
 unfolding laid_at
 laid_part at p d {left} h e =
     let n : at + length p - at ≡ length p = omega arith in
     let size : length (take (length p) (drop at d)) ≡ length p = length-take-le (length p) (drop at d) (rw (length-drop at d) (omega arith)) in
     let none : drop (length p) (take (length p) (drop at d)) ≡ [] = drop_of_length-le _ {i = length p} (omega arith) in
-    let is : left ≡ p = e ∙ rw (n, none, take-length p) (append-nil p) in
+    let is : left ≡ p = e ∙ rw (n, none) (append-nil p) in
     rw (n, is, drop-drop (length p) at d) (sym (append_assoc (take at d) p (drop (at + length p) d)))
 
 -- ---- piece by piece

@@ -143,7 +143,7 @@ pub fn is_newer(first: Checkpoint, second: Checkpoint) -> bool
 {
     let from = first.checkpoint_ver;
     let to = second.checkpoint_ver;
-    let difference = to.wrapping_sub(from);
+    let difference = std::num::wrapping_sub_u64(to, from);
     (0 < difference) & (difference < 0x8000000000000000)
 }
 

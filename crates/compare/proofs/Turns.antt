@@ -1,7 +1,7 @@
 -- The loops turn by turn: a search of listed numbers, the test that they rise, and the comparison of two blocks.
 -- The listed numbers stand w bytes apart. Turn i of n stands at an offset: `column w l at (n - i)` are left, and the next turn stands at `on`.
 use mathlib.Core.Path.{◌≡◌, refl, sym, ◌∙◌}
-use mathlib.Core.Bool.{Bool, true, false, not, ◌&&◌, and_assoc, and-true}
+use mathlib.Core.Bool.{Bool, true, false, ◌&&◌, and_assoc, and-true}
 use mathlib.Core.List.{List}
 use Prim.Native.Nat.{ℕ, ◌+◌, ◌-◌, ◌≤◌, ◌<◌}
 use native.Mathlib.Numerals.{add-one}
@@ -9,7 +9,7 @@ use native.Mathlib.Omega.{arith}
 use lib.Dec.{eqb}
 use lib.ListN.{length, get_or, drop, drop_of_length-le}
 use lib.Seq.{drop-cons}
-use borrow.Author.Tests.{lt-ltb, le-ltb, not-true, not-false}
+use borrow.Author.Tests.{lt-ltb, le-ltb}
 use Rattle.field.specs.Number.{le32}
 use Rattle.list.specs.Lists.{AllOf, numbers, column}
 use Rattle.list.proofs.Columns.{numbers_column, column_starts, column_next, column_over}
@@ -40,11 +40,11 @@ module _ {A : Type 0} (test : ℕ → Bool) (found : ℕ → A) (other : A) (w :
 
   -- x stands here, and r is whether it passes
   module _ (at i n : ℕ) (h : i < n) {x : ℕ} (e : x ≡ le32 l at) {r : Bool} (t : r ≡ test x) where
-    pub search_on : not r ≡ false → (on : ℕ) → on ≡ at + w → Left at i n ≡ Left on (i + 1) n
-    search_on p on s = rw (column_next w l at on s i n h, ← e) (passed test found other _ (sym t ∙ not-false r p))
+    pub search_on : r ≡ true → (on : ℕ) → on ≡ at + w → Left at i n ≡ Left on (i + 1) n
+    search_on p on s = rw (column_next w l at on s i n h, ← e) (passed test found other _ (sym t ∙ p))
 
-    pub search_stops : not r ≡ true → Left at i n ≡ found x
-    search_stops p = rw (column_next w l at (at + w) refl i n h, ← e) (failed test found other _ (sym t ∙ not-true r p))
+    pub search_stops : r ≡ false → Left at i n ≡ found x
+    search_stops p = rw (column_next w l at (at + w) refl i n h, ← e) (failed test found other _ (sym t ∙ p))
 
 -- ---- rising
 module _ (w : ℕ) (l : List ℕ) (at : ℕ) where

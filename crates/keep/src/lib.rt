@@ -150,8 +150,8 @@ fn put_file(
     blocks: &[u8],
     room: &mut [u8],
 )
-    requires keepable { Keepable (card_of image.now) v path.now (result pulled (lending block.now nodes.now blocks.now)) }
-    requires blocks_in_bounds { end_found path.now (result pulled (lending block.now nodes.now blocks.now)) ≤ length room.old }
+    requires keepable { Keepable (card_of image.now) v path.now (result_in pulled (lending block.now nodes.now blocks.now)) }
+    requires blocks_in_bounds { end_found path.now (result_in pulled (lending block.now nodes.now blocks.now)) ≤ length room.old }
     ensures { room.new
         ≡ laid_at 0 (layout (keep_found (card_of image.now) v path.now index
         (result_in pulled (lending block.now nodes.now blocks.now)))) room.old }
@@ -175,7 +175,7 @@ fn write_file(
     blocks: &[u8],
     room: &mut [u8],
 ) -> Written
-    requires { Keepable (card_of image.now) v path.now (result pulled (lending block.now nodes.now blocks.now)) }
+    requires { Keepable (card_of image.now) v path.now (result_in pulled (lending block.now nodes.now blocks.now)) }
     ensures { writing result room.new
         ≡ file_written (layout (keep_found (card_of image.now) v path.now index
         (result_in pulled (lending block.now nodes.now blocks.now)))) room.old }

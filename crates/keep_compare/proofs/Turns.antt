@@ -2,7 +2,7 @@
 -- is the next. What is kept of its number is what stands there, since the numbers rise.
 use Prim.Native.Nat.{ℕ, ◌+◌, ◌-◌, ◌*◌, ◌≤◌, ◌<◌}
 use mathlib.Core.Path.{◌≡◌, sym, ap, subst, ◌∙◌}
-use mathlib.Core.Bool.{Bool, true, false, not}
+use mathlib.Core.Bool.{Bool, true, false}
 use mathlib.Core.List.{List, []}
 use Rattle.field.specs.Number.{le32}
 use Rattle.list.specs.Lists.{AllOf, Rising, column}
@@ -48,10 +48,10 @@ module _ {A : Type 0} (other : A) (same : A → ℕ → Bool) (found : ℕ → D
     tested : r ≡ test x
     tested = t ∙ ap (λ (a : A). same a x) (sym (ap (kept_of other (kept_at w value file start n)) e ∙ found_at other w value file start n i rises h))
 
-    turns_on : not r ≡ false → Left i ≡ Left (i + 1)
+    turns_on : r ≡ true → Left i ≡ Left (i + 1)
     turns_on p = search_on test found Same w file _ i n h e tested p _ (offset_next w i start)
 
-    turns_stop : not r ≡ true → Left i ≡ found x
+    turns_stop : r ≡ false → Left i ≡ found x
     turns_stop p = search_stops test found Same w file _ i n h e tested p
 
 -- ---- the nodes, by the new image's table answers
@@ -71,10 +71,10 @@ module _ (file : List ℕ) (start n : ℕ) (table : ℕ → TableAnswer) where
 
   module _ (rises : Rising (numbers_of (kept_nodes_at file start n))) (i : ℕ) (h : i < n) {x : ℕ} (e : x ≡ le32 file (start + 16 * i)) {r : Bool}
       (t : r ≡ same_answer (answer_at file (start + 16 * i + 4)) (table x)) where
-    pub nodes_on : not r ≡ false → NodesLeft i ≡ NodesLeft (i + 1)
+    pub nodes_on : r ≡ true → NodesLeft i ≡ NodesLeft (i + 1)
     nodes_on = turns_on OutOfRange same_table NodeDiffers 16 answer_at file start n rises i h e t
 
-    pub nodes_stop : not r ≡ true → NodesLeft i ≡ NodeDiffers x
+    pub nodes_stop : r ≡ false → NodesLeft i ≡ NodeDiffers x
     nodes_stop = turns_stop OutOfRange same_table NodeDiffers 16 answer_at file start n rises i h e t
 
 -- ---- the blocks, by the new image's bytes
@@ -94,8 +94,8 @@ module _ (file : List ℕ) (start n : ℕ) (block : ℕ → List ℕ) where
 
   module _ (rises : Rising (numbers_of (kept_blocks_at file start n))) (i : ℕ) (h : i < n) {x : ℕ} (e : x ≡ le32 file (start + 4100 * i)) {r : Bool}
       (t : r ≡ same_bytes (bytes_at file (start + 4100 * i + 4)) (block x)) where
-    pub blocks_on : not r ≡ false → BlocksLeft i ≡ BlocksLeft (i + 1)
+    pub blocks_on : r ≡ true → BlocksLeft i ≡ BlocksLeft (i + 1)
     blocks_on = turns_on [] same_block BlockDiffers 4100 bytes_at file start n rises i h e t
 
-    pub blocks_stop : not r ≡ true → BlocksLeft i ≡ BlockDiffers x
+    pub blocks_stop : r ≡ false → BlocksLeft i ≡ BlockDiffers x
     blocks_stop = turns_stop [] same_block BlockDiffers 4100 bytes_at file start n rises i h e t

@@ -1,4 +1,4 @@
-mod Answers
+mod TableAnswers
 pub mod ByNumbers
 pub mod Places
 pub mod Found

@@ -33,7 +33,7 @@ pub enum Hashed {
 fn add(x: u32, y: u32) -> u32
     ensures { result ≡ add32 x y }
 {
-    x.wrapping_add(y)
+    std::num::wrapping_add_u32(x, y)
 }
 
 fn half_round(x: u32, sum: u32, k: u32, l: u32) -> u32

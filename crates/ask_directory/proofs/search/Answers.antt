@@ -32,7 +32,7 @@ first_block-start-requires c =
 pub loop-k-init : goal.loop-k-init
 loop-k-init c =
     let shape = c.requires.inode_len in
-    (c.NOFIELD-First-Block.ensures, search_start _ _ _ _ _ _ shape.2 shape.3)
+    (c.first_block-start.ensures, search_start _ _ _ _ _ _ shape.2 shape.3)
 
 pub level_from-here-requires : goal.level_from-here-requires
 level_from-here-requires c = (c.loop-k.invariant.0, has_table (goal.at.level_from-here-requires c).After-inode_of-i, c.loop-k.invariant.1.deep)

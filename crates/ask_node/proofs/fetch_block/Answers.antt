@@ -9,7 +9,7 @@ use Rattle.ask_node.specs.Fetch.{no_node}
 use Rattle.ask_node.proofs.Steps.{way_in, inode_slot, number_slot, block_none, block_data, block_node}
 use borrow.Author.Rules.{rules}
 use Rattle.ask_node.proofs.fetch_block.Goals as goal
-use Rattle.ask_node.proofs.fetch_block.Goals.{After-struct_known-1, After-way_to-way, Else-way-eq1}
+use Rattle.ask_node.proofs.fetch_block.Goals.{After-way_to-way, Else-way-eq1}
 
 small : (k : After-way_to-way) → slot_at k.way_to-way.result 0 < 928
 small k = inode_slot _ _ k.way_to-way.ensures
@@ -19,17 +19,17 @@ smaller k = number_slot _ _ k.way_to-way.ensures k.if-way-eq0.false k.if-way-eq1
 
 pub returns-then-way-eq0 : goal.returns-then-way-eq0
 returns-then-way-eq0 c =
-    let hop = ap (λ (f : Fetch). f.hop) c.NOFIELD-no_Node.ensures in
-    record { value = c.NOFIELD-no_Node.ensures ∙ sym (block_none _ _ c.way_to-way.ensures _ c.if-way-eq0.true); hop_in = omega arith }
+    let hop = ap (λ (f : Fetch). f.hop) c.no_node.ensures in
+    record { value = c.no_node.ensures ∙ sym (block_none _ _ c.way_to-way.ensures _ c.if-way-eq0.true); hop_in = omega arith }
 
 pub overflow_mul-slot : goal.overflow_mul-slot
-overflow_mul-slot c = omega (arith, small (goal.at.overflow_mul-slot c).After-struct_known-1)
+overflow_mul-slot c = omega (arith, small (goal.at.overflow_mul-slot c).After-way_to-way)
 
 pub overflow_add-slot : goal.overflow_add-slot
-overflow_add-slot c = omega (arith, small (goal.at.overflow_add-slot c).After-struct_known-1)
+overflow_add-slot c = omega (arith, small (goal.at.overflow_add-slot c).After-way_to-way)
 
 pub get32-requires : goal.get32-requires
-get32-requires c = omega (arith, small (goal.at.get32-requires c).After-struct_known-1, c.requires.inode_len)
+get32-requires c = omega (arith, small (goal.at.get32-requires c).After-way_to-way, c.requires.inode_len)
 
 pub returns-then-way-eq1 : goal.returns-then-way-eq1
 returns-then-way-eq1 c =

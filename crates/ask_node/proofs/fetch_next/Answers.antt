@@ -6,7 +6,7 @@ use Rattle.asking.specs.Table.{Kept, keeping}
 use Rattle.ask_node.proofs.Steps.{way_in, node_slot, next_node}
 use borrow.Author.Rules.{rules}
 use Rattle.ask_node.proofs.fetch_next.Goals as goal
-use Rattle.ask_node.proofs.fetch_next.Goals.{After-steps-1, After-way_to-way}
+use Rattle.ask_node.proofs.fetch_next.Goals.{After-way_to-way}
 
 small : (k : After-way_to-way) → slot_at k.way_to-way.result k.args.hop < 1018
 small k =
@@ -14,10 +14,10 @@ small k =
     node_slot _ _ k.way_to-way.ensures _ shape.2 shape.3
 
 pub overflow_mul-slot : goal.overflow_mul-slot
-overflow_mul-slot c = omega (arith, small (goal.at.overflow_mul-slot c).After-steps-1)
+overflow_mul-slot c = omega (arith, small (goal.at.overflow_mul-slot c).After-way_to-way)
 
 pub get32-number-requires : goal.get32-number-requires
-get32-number-requires c = omega (arith, small (goal.at.get32-number-requires c).After-steps-1, c.requires.inode_len)
+get32-number-requires c = omega (arith, small (goal.at.get32-number-requires c).After-way_to-way, c.requires.inode_len)
 
 pub follow-requires : goal.follow-requires
 follow-requires c =

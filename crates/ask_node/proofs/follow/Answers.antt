@@ -9,8 +9,8 @@ use Rattle.ask_node.proofs.follow.Goals as goal
 
 pub returns-then-way-hop : goal.returns-then-way-hop
 returns-then-way-hop c =
-    let same = c.NOFIELD-no_Node.ensures ∙ ap no_node c.from_address.ensures in
-    let hop = ap (λ (f : Fetch). f.hop) c.NOFIELD-no_Node.ensures in
+    let same = c.no_node.ensures ∙ ap no_node c.from_address.ensures in
+    let hop = ap (λ (f : Fetch). f.hop) c.no_node.ensures in
     record { value = same ∙ sym (follow_data _ c.requires.way_in _ _ c.if-way-hop.true); hop_in = omega arith }
 
 pub returns-then-number-eq0 : goal.returns-then-number-eq0

@@ -21,7 +21,7 @@ returns-then-not-passed c =
     let o = c.refuse.result in
     let refused = c.refuse.ensures.0 in record { result_value = (λ k blocks second bytes.
           goes_refused k blocks first second bytes o 7 refused
-          ∙ sym (none_passes k a.areas first first a.passed c.if-not-passed.true)); by_index = (λ second bytes. knows_refused first second bytes o refused, ) }
+          ∙ sym (none_passes k a.areas first first a.passed c.if-not-passed.true)); by_index = (λ second bytes. knows_refused first second bytes o refused) }
 
 pub choose_pack-requires : goal.choose_pack-requires
 choose_pack-requires c =
@@ -31,4 +31,4 @@ pub returns : goal.returns
 returns c =
     let a = c.args in
     let first = a.first.now in record { result_value = (λ k blocks second bytes.
-          c.choose_pack.ensures.result_value k blocks first second bytes refl ∙ sym (first_alone k a.areas first first a.passed (passed_by (goal.at.returns c).Else-not-passed))); by_index = (λ second bytes. c.choose_pack.ensures.by_index first second bytes, ) }
+          c.choose_pack.ensures.result_value k blocks first second bytes refl ∙ sym (first_alone k a.areas first first a.passed (passed_by (goal.at.returns c).Else-not-passed))); by_index = (λ second bytes. c.choose_pack.ensures.by_index first second bytes) }

@@ -29,7 +29,7 @@ returns-then-not-header_readable c =
     let o = c.refuse.result in
     let refused = c.refuse.ensures.0 in
     let fails-here = rw c.checkpoint_of-cp.ensures at (fails c.header_readable.ensures c.if-not-header_readable.true) in record { result_value = (λ k blocks one second bytes kept.
-          goes_refused k blocks one second bytes o 8 refused ∙ sym (header_refuses k a.areas a.start a.first.now fails-here)); by_index = (λ one second bytes. knows_refused one second bytes o refused, ) }
+          goes_refused k blocks one second bytes o 8 refused ∙ sym (header_refuses k a.areas a.start a.first.now fails-here)); by_index = (λ one second bytes. knows_refused one second bytes o refused) }
 
 pub volume_of-volume-requires : goal.volume_of-volume-requires
 volume_of-volume-requires c =
@@ -40,4 +40,4 @@ returns c =
     let a = c.args in
     let cp = c.checkpoint_of-cp.result in
     let v = c.volume_of-volume.result in record { result_value = (λ k blocks one second bytes kept.
-          to_journal k blocks one second bytes v a.areas a.start a.keep kept c.checkpoint_of-cp.ensures c.volume_of-volume.ensures (readable (goal.at.returns c).Else-not-header_readable)); by_index = (λ one second bytes. knows_journal a.areas a.start cp c.volume_of-volume.ensures c.requires.areas_fit.0 (readable_maps _ _ (readable (goal.at.returns c).Else-not-header_readable)), ) }
+          to_journal k blocks one second bytes v a.areas a.start a.keep kept c.checkpoint_of-cp.ensures c.volume_of-volume.ensures (readable (goal.at.returns c).Else-not-header_readable)); by_index = (λ one second bytes. knows_journal a.areas a.start cp c.volume_of-volume.ensures c.requires.areas_fit.0 (readable_maps _ _ (readable (goal.at.returns c).Else-not-header_readable))) }

@@ -35,17 +35,17 @@ returns-then-second_copy c =
     let o = c.refuse.result in
     let refused = c.refuse.ensures.0 in record { result_value = (λ k first second.
           goes_refused k a.blocks first second bytes o 5 refused
-          ∙ sym (second_fails k a.blocks bytes a.second-copy c.if-second_copy.true (failed_by (goal.at.returns-then-second_copy c).In-Failed))); by_index = (λ first second. knows_refused first second bytes o refused, ) }
+          ∙ sym (second_fails k a.blocks bytes a.second_copy c.if-second_copy.true (failed_by (goal.at.returns-then-second_copy c).In-Failed))); by_index = (λ first second. knows_refused first second bytes o refused) }
 
 pub returns-in-Passed : goal.returns-in-Passed
 returns-in-Passed c =
     let a = c.args in
     let bytes = c.args.bytes.now in
     let same = passed_by (goal.at.returns-in-Passed c).In-Passed in record { result_value = (λ k first second.
-          c.NOFIELD-copy-Passed.ensures.0 k first second bytes
-          ∙ ap (λ s. areas_ask k (accepted s)) same.1 ∙ sym (copy_passes_lem k a.blocks bytes a.second-copy same.0)); by_index = (λ first second. c.NOFIELD-copy-Passed.ensures.1 first second bytes, ) }
+          c.copy_passed.ensures.result_value k first second bytes
+          ∙ ap (λ s. areas_ask k (accepted s)) same.1 ∙ sym (copy_passes_lem k a.blocks bytes a.second_copy same.0)); by_index = (λ first second. c.copy_passed.ensures.by_index first second bytes) }
 
 pub returns-else-second_copy : goal.returns-else-second_copy
 returns-else-second_copy c =
     let a = c.args in record { result_value = (λ k first second.
-          to_second_copy k a.blocks first second c.args.bytes.now c.no_volume.result a.second-copy c.if-second_copy.false (failed_by (goal.at.returns-else-second_copy c).In-Failed)); by_index = (λ first second. tt, ) }
+          to_second_copy k a.blocks first second c.args.bytes.now c.no_volume.result a.second_copy c.if-second_copy.false (failed_by (goal.at.returns-else-second_copy c).In-Failed)); by_index = (λ first second. tt) }

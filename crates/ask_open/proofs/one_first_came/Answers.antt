@@ -31,8 +31,8 @@ overflow_add-result c =
 
 pub returns-then-first_passes : goal.returns-then-first_passes
 returns-then-first_passes c =
-    record { result_value = (λ k blocks first second. one_to_last k blocks first second c.args.bytes.now c.args.v c.checkpoint_of-cp.ensures (passes (goal.at.returns-then-first_passes c).Then-first_passes)); by_index = (λ first second. (c.requires.0, fits (goal.at.returns-then-first_passes c).Then-first_passes), ) }
+    record { result_value = (λ k blocks first second. one_to_last k blocks first second c.args.bytes.now c.args.v c.checkpoint_of-cp.ensures (passes (goal.at.returns-then-first_passes c).Then-first_passes)); by_index = (λ first second. (c.requires.0, fits (goal.at.returns-then-first_passes c).Then-first_passes)) }
 
 pub returns : goal.returns
 returns c =
-    let fails = sym c.first_passes.ensures ∙ c.if-first_passes.false in record { result_value = (λ k blocks first second. one_to_second k blocks first second c.args.bytes.now c.args.v c.second_pack.ensures fails); by_index = (λ first second. (c.requires.0, tt), ) }
+    let fails = sym c.first_passes.ensures ∙ c.if-first_passes.false in record { result_value = (λ k blocks first second. one_to_second k blocks first second c.args.bytes.now c.args.v c.second_pack.ensures fails); by_index = (λ first second. (c.requires.0, tt)) }

@@ -30,14 +30,14 @@ returns-then-not-last_passes c =
     let a = c.args in
     let fails-here = fails (last_by (goal.at.returns-then-not-last_passes c).After-last_passes) c.if-not-last_passes.true in record { result_value = (λ k blocks.
           c.choose_first.ensures.result_value k blocks a.second.now a.bytes.now
-          ∙ sym (last_fails k a.v.areas a.first.now a.second.now (tried_by a.passed a.first.now) a.bytes.now fails-here)); opening_in = (c.choose_first.ensures.by_index a.second.now a.bytes.now, ) }
+          ∙ sym (last_fails k a.v.areas a.first.now a.second.now (tried_by a.passed a.first.now) a.bytes.now fails-here)); opening_in = (c.choose_first.ensures.by_index a.second.now a.bytes.now) }
 
 pub returns-then-passed-is_newer : goal.returns-then-passed-is_newer
 returns-then-passed-is_newer c =
     let a = c.args in
     let stays = rw (newer_by (goal.at.returns-then-passed-is_newer c).After-is_newer) at c.if-passed-is_newer.true in record { result_value = (λ k blocks.
           c.choose_first-then-passed-is_newer.ensures.result_value k blocks a.second.now a.bytes.now
-          ∙ sym (first_stays k a.v.areas a.first.now a.second.now a.bytes.now (passes (goal.at.returns-then-passed-is_newer c).After-is_newer) a.passed stays)); opening_in = (c.choose_first-then-passed-is_newer.ensures.by_index a.second.now a.bytes.now, ) }
+          ∙ sym (first_stays k a.v.areas a.first.now a.second.now a.bytes.now (passes (goal.at.returns-then-passed-is_newer c).After-is_newer) a.passed stays)); opening_in = (c.choose_first-then-passed-is_newer.ensures.by_index a.second.now a.bytes.now) }
 
 pub returns : goal.returns
 returns c =
@@ -46,4 +46,4 @@ returns c =
     let second = a.second.now in
     let bytes = a.bytes.now in
     let wins = rw (newer_by (goal.at.returns c).After-is_newer) at c.if-passed-is_newer.false in
-    let start = rw c.second_pack-start.ensures at c.choose_pack.ensures.result_value in record { result_value = (λ k blocks. start k blocks first second bytes refl ∙ sym (second_wins k a.v.areas first second bytes (passes (goal.at.returns c).After-is_newer) a.passed wins)); opening_in = (c.choose_pack.ensures.by_index first second bytes, ) }
+    let start = rw c.second_pack-start.ensures at c.choose_pack.ensures.result_value in record { result_value = (λ k blocks. start k blocks first second bytes refl ∙ sym (second_wins k a.v.areas first second bytes (passes (goal.at.returns c).After-is_newer) a.passed wins)); opening_in = (c.choose_pack.ensures.by_index first second bytes) }

@@ -59,14 +59,14 @@ returns-then-not-is_directory c =
     let other = sym c.is_directory.ensures ∙ c.if-not-is_directory.true in record { by_index = (λ index seen.
           let q = question ((keeping c.args.v c.args.first.now c.args.journal.now)) a.path.now index in
           let e = names_from_lem a.path.now a.name-at c.requires.bytes_len.1 refl in
-          rw c.go_to.ensures (other_came q _ _ _ _ _ e c.inode_of-i.ensures ((record { ino = c.args.ino; name_at = c.args.name_at; level = 0; block = 0 })) other)); by_index_2 = (λ index. rw c.go_to.ensures tt, ) }
+          rw c.go_to.ensures (other_came q _ _ _ _ _ e c.inode_of-i.ensures ((record { ino = c.args.ino; name_at = c.args.name_at; level = 0; block = 0 })) other)); by_index_2 = (λ index. rw c.go_to.ensures tt) }
 
 pub returns-then-i-eq0 : goal.returns-then-i-eq0
 returns-then-i-eq0 c =
     let a = c.args in record { by_index = (λ index seen.
           let q = question ((keeping c.args.v c.args.first.now c.args.journal.now)) a.path.now index in
           let e = names_from_lem a.path.now a.name-at c.requires.bytes_len.1 refl in
-          rw c.go_to-then-i-eq0.ensures (empty_came q _ _ _ _ _ e c.inode_of-i.ensures (is_directory_lem (goal.at.returns-then-i-eq0 c).Else-not-is_directory) ((record { ino = c.args.ino; name_at = c.args.name_at; level = 0; block = 0 })) c.if-i-eq0.true)); by_index_2 = (λ index. rw c.go_to-then-i-eq0.ensures tt, ) }
+          rw c.go_to-then-i-eq0.ensures (empty_came q _ _ _ _ _ e c.inode_of-i.ensures (is_directory_lem (goal.at.returns-then-i-eq0 c).Else-not-is_directory) ((record { ino = c.args.ino; name_at = c.args.name_at; level = 0; block = 0 })) c.if-i-eq0.true)); by_index_2 = (λ index. rw c.go_to-then-i-eq0.ensures tt) }
 
 pub slice_bounds-hash-end : goal.slice_bounds-hash-end
 slice_bounds-hash-end c = let known = inside c in omega arith
@@ -92,21 +92,21 @@ returns-in-Found c =
     let a = c.args in
     let found = c.in-Found.is in record { by_index = (λ index seen.
           let q = question ((keeping c.args.v c.args.first.now c.args.journal.now)) a.path.now index in
-          c.enter.ensures.by_index a.path.now index a.bytes.now seen ∙ sym (slots (goal.at.returns-in-Found c).After-scan-turn index seen ∙ turn_found q seen _ (done (stop 2)) _ _ found)); by_index_2 = (λ index. c.enter.ensures.by_index_2 a.path.now index a.bytes.now, ) }
+          c.enter.ensures.by_index a.path.now index a.bytes.now seen ∙ sym (slots (goal.at.returns-in-Found c).After-scan-turn index seen ∙ turn_found q seen _ (done (stop 2)) _ _ found)); by_index_2 = (λ index. c.enter.ensures.by_index_2 a.path.now index a.bytes.now) }
 
 pub returns-in-Malformed : goal.returns-in-Malformed
 returns-in-Malformed c =
     record { by_index = (λ index seen.
           let q = question ((keeping c.args.v c.args.first.now c.args.journal.now)) c.args.path.now index in
           let malformed = turn_malformed q seen _ (done (stop 2)) _ c.args.bytes.now ((record { ino = c.args.ino; name_at = c.args.name_at; level = 0; block = 0 })) c.in-Malformed.is in
-          rw c.go_to-in-Malformed.ensures (malformed ∙ sym (slots (goal.at.returns-in-Malformed c).After-scan-turn index seen))); by_index_2 = (λ index. rw c.go_to-in-Malformed.ensures tt, ) }
+          rw c.go_to-in-Malformed.ensures (malformed ∙ sym (slots (goal.at.returns-in-Malformed c).After-scan-turn index seen))); by_index_2 = (λ index. rw c.go_to-in-Malformed.ensures tt) }
 
 pub returns-in-On : goal.returns-in-On
 returns-in-On c =
     record { by_index = (λ index seen.
           let q = question ((keeping c.args.v c.args.first.now c.args.journal.now)) c.args.path.now index in
           let absent = turn_on q seen _ (done (stop 2)) _ c.in-On.is in
-          rw c.go_to-in-On.ensures (stopped q seen _ 2 c.args.bytes.now ((record { ino = c.args.ino; name_at = c.args.name_at; level = 0; block = 0 })) ∙ sym (slots (goal.at.returns-in-On c).After-scan-turn index seen ∙ absent))); by_index_2 = (λ index. rw c.go_to-in-On.ensures tt, ) }
+          rw c.go_to-in-On.ensures (stopped q seen _ 2 c.args.bytes.now ((record { ino = c.args.ino; name_at = c.args.name_at; level = 0; block = 0 })) ∙ sym (slots (goal.at.returns-in-On c).After-scan-turn index seen ∙ absent))); by_index_2 = (λ index. rw c.go_to-in-On.ensures tt) }
 
 pub returns-then-i-eq0-2 : goal.returns-then-i-eq0-2
 returns-then-i-eq0-2 c =
@@ -114,7 +114,7 @@ returns-then-i-eq0-2 c =
           let q = question ((keeping c.args.v c.args.first.now c.args.journal.now)) c.args.path.now index in
           rw c.go_to-then-i-eq0-2.ensures
           (no_levels q _ _ _ _ _ (names (goal.at.returns-then-i-eq0-2 c).After-part_end-end) c.inode_of-i.ensures (is_directory_lem (goal.at.returns-then-i-eq0-2 c).Else-not-is_directory) c.if-i-eq0.false (has_blocks (goal.at.returns-then-i-eq0-2 c).Else-has_inline_dentry)
-          ((record { ino = c.args.ino; name_at = c.args.name_at; level = 0; block = 0 })) c.if-i-eq0-2.true)); by_index_2 = (λ index. rw c.go_to-then-i-eq0-2.ensures tt, ) }
+          ((record { ino = c.args.ino; name_at = c.args.name_at; level = 0; block = 0 })) c.if-i-eq0-2.true)); by_index_2 = (λ index. rw c.go_to-then-i-eq0-2.ensures tt) }
 
 pub search-requires : goal.search-requires
 search-requires c =
@@ -127,4 +127,4 @@ returns c =
           let q = question ((keeping c.args.v c.args.first.now c.args.journal.now)) a.path.now index in
           c.search.ensures.by_index a.path.now index _ _ seen c.hash-hash.ensures (names (goal.at.returns c).After-part_end-end)
           ∙ sym (levels_came q _ _ _ _ _ (names (goal.at.returns c).After-part_end-end) c.inode_of-i.ensures (is_directory_lem (goal.at.returns c).Else-not-is_directory) c.if-i-eq0.false (has_blocks (goal.at.returns c).Else-has_inline_dentry)
-          c.if-i-eq0-2.false)); by_index_2 = (λ index. c.search.ensures.by_index_2 a.path.now index c.requires.bytes_len.1, ) }
+          c.if-i-eq0-2.false)); by_index_2 = (λ index. c.search.ensures.by_index_2 a.path.now index c.requires.bytes_len.1) }

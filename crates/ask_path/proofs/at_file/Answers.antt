@@ -30,7 +30,7 @@ returns-then-not-is_regular c =
     let a = c.args in
     let other = sym c.is_regular.ensures ∙ c.if-not-is_regular.true in record { by_index = (λ path seen behind.
           let q = question ((keeping c.args.v c.args.first.now c.args.journal.now)) path a.index in
-          rw c.go_to.ensures (kind_came q ((record { ino = c.args.ino; name_at = c.args.name_at; level = 0; block = 0 })) a.bytes.now seen (no_names path a.name-at behind) c.inode_of-i.ensures other)); by_index_2 = (λ path behind. rw c.go_to.ensures tt, ) }
+          rw c.go_to.ensures (kind_came q ((record { ino = c.args.ino; name_at = c.args.name_at; level = 0; block = 0 })) a.bytes.now seen (no_names path a.name-at behind) c.inode_of-i.ensures other)); by_index_2 = (λ path behind. rw c.go_to.ensures tt) }
 
 pub returns-then-is_past : goal.returns-then-is_past
 returns-then-is_past c =
@@ -38,7 +38,7 @@ returns-then-is_past c =
     let past = sym c.is_past.ensures ∙ c.if-is_past.true in record { by_index = (λ path seen behind.
           let q = question ((keeping c.args.v c.args.first.now c.args.journal.now)) path a.index in
           let no = no_names path a.name-at behind in
-          rw c.go_to-then-is_past.ensures (past_came q ((record { ino = c.args.ino; name_at = c.args.name_at; level = 0; block = 0 })) a.bytes.now seen no c.inode_of-i.ensures (is_regular_lem (goal.at.returns-then-is_past c).Else-not-is_regular) past)); by_index_2 = (λ path behind. rw c.go_to-then-is_past.ensures tt, ) }
+          rw c.go_to-then-is_past.ensures (past_came q ((record { ino = c.args.ino; name_at = c.args.name_at; level = 0; block = 0 })) a.bytes.now seen no c.inode_of-i.ensures (is_regular_lem (goal.at.returns-then-is_past c).Else-not-is_regular) past)); by_index_2 = (λ path behind. rw c.go_to-then-is_past.ensures tt) }
 
 -- contents in the inode end before it does
 room_of : {n k : ℕ} → n ≡ k → inline_start + k ≤ 4052 → n + inline_start ≤ 4096
@@ -55,7 +55,7 @@ returns-then-has_inline_data c =
           let q = question ((keeping c.args.v c.args.first.now c.args.journal.now)) path a.index in
           let no = no_names path a.name-at behind in
           rw c.go_to-then-has_inline_data.ensures
-          (inline_came q ((record { ino = c.args.ino; name_at = c.args.name_at; level = 0; block = 0 })) a.bytes.now seen no c.inode_of-i.ensures (is_regular_lem (goal.at.returns-then-has_inline_data c).Else-not-is_regular) _ (inside (goal.at.returns-then-has_inline_data c).Else-is_past) count inline)); by_index_2 = (λ path behind. rw c.go_to-then-has_inline_data.ensures (room_of count (inline_room _ (is_regular_lem (goal.at.returns-then-has_inline_data c).Else-not-is_regular) inline a.index (inside (goal.at.returns-then-has_inline_data c).Else-is_past))), ) }
+          (inline_came q ((record { ino = c.args.ino; name_at = c.args.name_at; level = 0; block = 0 })) a.bytes.now seen no c.inode_of-i.ensures (is_regular_lem (goal.at.returns-then-has_inline_data c).Else-not-is_regular) _ (inside (goal.at.returns-then-has_inline_data c).Else-is_past) count inline)); by_index_2 = (λ path behind. rw c.go_to-then-has_inline_data.ensures (room_of count (inline_room _ (is_regular_lem (goal.at.returns-then-has_inline_data c).Else-not-is_regular) inline a.index (inside (goal.at.returns-then-has_inline_data c).Else-is_past)))) }
 
 pub returns : goal.returns
 returns c =
@@ -71,4 +71,4 @@ returns c =
           let spot = file_spot path a.index a.bytes.now ((record { ino = c.args.ino; name_at = c.args.name_at; level = 0; block = 0 })) behind c.inode_of-i.ensures (inside (goal.at.returns c).Else-is_past) in
           rw c.fetch_move.ensures
           (fetch_in path a.index a.bytes.now ((record { ino = c.args.ino; name_at = c.args.name_at; level = 0; block = 0 })) spot c.fetch_block-f.result a.index _
-          c.count_in-count.ensures.2 c.fetch_block-f.ensures.hop_in), ) }
+          c.count_in-count.ensures.2 c.fetch_block-f.ensures.hop_in)) }

@@ -71,18 +71,18 @@ returns-in-Found c =
     let a = c.args in
     let found = c.in-Found.is in record { by_index = (λ index seen.
           let q = question ((keeping c.args.v c.args.first.now c.args.journal.now)) a.path.now index in
-          c.enter.ensures.by_index a.path.now index a.inode.now seen ∙ sym (slots (goal.at.returns-in-Found c).After-scan-turn index seen ∙ turn_found q seen _ _ _ _ found)); by_index_2 = (λ index. c.enter.ensures.by_index_2 a.path.now index a.inode.now, ) }
+          c.enter.ensures.by_index a.path.now index a.inode.now seen ∙ sym (slots (goal.at.returns-in-Found c).After-scan-turn index seen ∙ turn_found q seen _ _ _ _ found)); by_index_2 = (λ index. c.enter.ensures.by_index_2 a.path.now index a.inode.now) }
 
 pub returns-in-Malformed : goal.returns-in-Malformed
 returns-in-Malformed c =
     record { by_index = (λ index seen.
           let q = question ((keeping c.args.v c.args.first.now c.args.journal.now)) c.args.path.now index in
           let malformed = turn_malformed q seen _ _ _ c.args.inode.now c.args.spot c.in-Malformed.is in
-          rw c.go_to.ensures (malformed ∙ sym (slots (goal.at.returns-in-Malformed c).After-scan-turn index seen))); by_index_2 = (λ index. rw c.go_to.ensures tt, ) }
+          rw c.go_to.ensures (malformed ∙ sym (slots (goal.at.returns-in-Malformed c).After-scan-turn index seen))); by_index_2 = (λ index. rw c.go_to.ensures tt) }
 
 pub returns-in-On : goal.returns-in-On
 returns-in-On c =
     let a = c.args in
     let absent = c.in-On.is in record { by_index = (λ index seen.
           let q = question ((keeping c.args.v c.args.first.now c.args.journal.now)) a.path.now index in
-          c.search.ensures.by_index a.path.now index _ _ seen c.hash-hash.ensures (names (goal.at.returns-in-On c).After-part_end-end) ∙ sym (slots (goal.at.returns-in-On c).After-scan-turn index seen ∙ turn_on q seen _ _ _ absent)); by_index_2 = (λ index. c.search.ensures.by_index_2 a.path.now index c.requires.inode_len.2, ) }
+          c.search.ensures.by_index a.path.now index _ _ seen c.hash-hash.ensures (names (goal.at.returns-in-On c).After-part_end-end) ∙ sym (slots (goal.at.returns-in-On c).After-scan-turn index seen ∙ turn_on q seen _ _ _ absent)); by_index_2 = (λ index. c.search.ensures.by_index_2 a.path.now index c.requires.inode_len.2) }

@@ -65,14 +65,14 @@ returns-then-path-at c =
     let a = c.args in
     let no = no_names a.path.now a.spot.name_at c.if-path-at.true in
     let next = c.fetch_move.ensures ∙ ap (λ (f : Fetch). fetch_move f a.target.index a.spot c.count_in-count.result) (fetched (goal.at.returns-then-path-at c).After-fetch_next-f) in record { result_value = (λ seen. rw next (hop_file ((question ((keeping c.args.v c.args.first.now c.args.journal.now)) c.args.path.now c.args.index)) a.spot _ _ _ _ seen c.requires.inode_len.3 _ no (count_is (goal.at.returns-then-path-at c).After-count_in-count))); move_in = (rw c.fetch_move.ensures
-          (fetch_in _ _ _ a.spot c.requires.spot_in c.fetch_next-f.result _ _ c.count_in-count.ensures.2 c.fetch_next-f.ensures.hop_in), ) }
+          (fetch_in _ _ _ a.spot c.requires.spot_in c.fetch_next-f.result _ _ c.count_in-count.ensures.2 c.fetch_next-f.ensures.hop_in)) }
 
 pub returns-then-not-is_empty : goal.returns-then-not-is_empty
 returns-then-not-is_empty c =
     let a = c.args in
     let some = sym (goes (goal.at.returns-then-not-is_empty c).After-fetch_move-next) ∙ sym c.is_empty.ensures ∙ c.if-not-is_empty.true in
     let next = c.fetch_move-next.ensures ∙ ap (λ (f : Fetch). fetch_move f a.target.index a.spot 0) (fetched (goal.at.returns-then-not-is_empty c).After-fetch_next-f) in record { result_value = (λ seen. rw next (hop_block ((question ((keeping c.args.v c.args.first.now c.args.journal.now)) c.args.path.now c.args.index)) a.spot _ _ _ _ seen c.requires.inode_len.3 some)); move_in = (rw c.fetch_move-next.ensures
-          (fetch_in _ _ _ a.spot c.requires.spot_in c.fetch_next-f.result _ 0 (omega arith) c.fetch_next-f.ensures.hop_in), ) }
+          (fetch_in _ _ _ a.spot c.requires.spot_in c.fetch_next-f.result _ 0 (omega arith) c.fetch_next-f.ensures.hop_in)) }
 
 pub slice_bounds-hash-end : goal.slice_bounds-hash-end
 slice_bounds-hash-end c = let known = inside c in omega arith
@@ -91,4 +91,4 @@ returns c =
     let none = sym (goes (goal.at.returns c).After-fetch_move-next) ∙ sym c.is_empty.ensures ∙ c.if-not-is_empty.false in record { result_value = (λ seen.
           let q = (question ((keeping c.args.v c.args.first.now c.args.journal.now)) c.args.path.now c.args.index) in
           c.search.ensures.by_index a.path.now a.index _ _ seen c.hash-hash.ensures (names (goal.at.returns c).After-part_end-end)
-          ∙ sym (hole_came q a.spot a.inode.now seen _ _ (names (goal.at.returns c).After-part_end-end)) ∙ sym (hop_hole q a.spot _ _ _ _ seen c.requires.inode_len.3 none)); move_in = (c.search.ensures.by_index_2 a.path.now a.index (named (goal.at.returns c).Else-path-at), ) }
+          ∙ sym (hole_came q a.spot a.inode.now seen _ _ (names (goal.at.returns c).After-part_end-end)) ∙ sym (hop_hole q a.spot _ _ _ _ seen c.requires.inode_len.3 none)); move_in = (c.search.ensures.by_index_2 a.path.now a.index (named (goal.at.returns c).Else-path-at)) }

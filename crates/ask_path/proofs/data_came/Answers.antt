@@ -34,7 +34,7 @@ returns-then-path-spot c =
     let a = c.args in
     let behind = c.if-path-spot.true in
     let q = question (keeping a.v a.first.now a.journal.now) a.path.now a.index in
-    let no = no_names a.path.now a.spot.name_at behind in record { result_value = (λ seen. rw (lt-ltb _ _ behind, c.go_to.ensures) (full_came q a.spot a.inode.now seen no a.bytes.now _ (count_is (goal.at.returns-then-path-spot c).After-count_in-count))); move_in = (rw (lt-ltb _ _ behind, c.go_to.ensures) c.count_in-count.ensures.2, ) }
+    let no = no_names a.path.now a.spot.name_at behind in record { result_value = (λ seen. rw (lt-ltb _ _ behind, c.go_to.ensures) (full_came q a.spot a.inode.now seen no a.bytes.now _ (count_is (goal.at.returns-then-path-spot c).After-count_in-count))); move_in = (rw (lt-ltb _ _ behind, c.go_to.ensures) c.count_in-count.ensures.2) }
 
 pub at_slots-requires : goal.at_slots-requires
 at_slots-requires c =

@@ -14,4 +14,4 @@ goes c = c.goes_on-goes.ensures ∙ ap (goes_on 0) c.seek-wants.ensures
 
 pub returns : goal.returns
 returns c =
-    let t = (keeping c.args.v c.args.first.now c.args.journal.now) in record { by_index = (λ path index block seen. rw (goes c) (enter_moved (question t path index) c.args.ino c.args.name_at block seen)); by_index_2 = (λ path index block. rw (goes c) (enter_in t c.args.ino c.args.name_at path index block), ) }
+    let t = (keeping c.args.v c.args.first.now c.args.journal.now) in record { by_index = (λ path index block seen. rw (goes c) (enter_moved (question t path index) c.args.ino c.args.name_at block seen)); by_index_2 = (λ path index block. rw (goes c) (enter_in t c.args.ino c.args.name_at path index block)) }

@@ -20,5 +20,5 @@ cut_lent s =
 pub returns : goal.returns
 returns c =
     let size = ap length (cut_lent (goal.at.returns c).Start) ∙ lent_length (goal.at.returns c).Start in
-    filled ((take (c.args.start + c.args.count - c.args.start) (drop c.args.start c.args.block.now))) c.args.buffer.now c.args.count size (omega arith) c.copy.ensures.1 c.clear.ensures
+    filled ((take (c.args.start + c.args.count - c.args.start) (drop c.args.start c.args.block.now))) c.args.buffer.now c.args.count size (omega arith) c.copy.ensures c.clear.ensures
     ∙ rw (cut_lent (goal.at.returns c).Start, c.requires.2)

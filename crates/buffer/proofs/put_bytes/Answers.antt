@@ -6,4 +6,4 @@ use Rattle.buffer.proofs.put_bytes.Goals as goal
 
 pub returns : goal.returns
 returns c =
-    laid_part c.args.at c.args.bytes.now c.args.room.now (omega arith) c.copy.ensures.1
+    laid_part c.args.at c.args.bytes.now c.args.room.now (omega arith) c.copy.ensures

@@ -1,7 +1,6 @@
 use mathlib.Core.Bool.{Bool, true, ◌&&◌}
 use mathlib.Core.Path.{◌≡◌, sym, ◌∙◌}
 use lib.ListN.{length}
-use borrow.Author.Tests.{not-true, not-false}
 use Rattle.superblock.specs.Shape.{in_shape}
 use Rattle.checkpoint.specs.declared.Opening.TheVariants.{Opened}
 use Rattle.checkpoint.specs.Volume.{opened_image}
@@ -19,7 +18,7 @@ in_shape_lem : (k : Else-not-in_shape) → let a = k.args in (in_shape (length a
 in_shape_lem k = shaped k.in_shape.ensures k.in_shape-2.ensures k.if-not-in_shape.false
 
 kept_opened : (k : In-Opened) → opened_image k.args.kept.now ≡ Opened k.in-Opened.v
-kept_opened k = sym k.NOFIELD-«open».ensures ∙ k.in-Opened.is
+kept_opened k = sym k.open.ensures ∙ k.in-Opened.is
 
 fresh_opened : (k : In-Opened-open) → opened_image k.args.fresh.now ≡ Opened k.in-Opened-open.u
 fresh_opened k = sym k.open-2.ensures ∙ k.in-Opened-open.is
@@ -27,24 +26,24 @@ fresh_opened k = sym k.open-2.ensures ∙ k.in-Opened-open.is
 pub returns-then-not-in_shape : goal.returns-then-not-in_shape
 returns-then-not-in_shape c =
     let told = shaped c.in_shape.ensures c.in_shape-2.ensures c.if-not-in_shape.true in
-    c.NOFIELD-Numbers-of.ensures ∙ sym (shape_refused _ _ _ _ told)
+    c.numbers_of.ensures ∙ sym (shape_refused _ _ _ _ told)
 
 pub returns-in-Refused : goal.returns-in-Refused
 returns-in-Refused c =
-    c.numbers_of-in-Refused.ensures ∙ sym (kept_refused_lem _ _ _ _ (in_shape_lem (goal.at.returns-in-Refused c).Else-not-in_shape) _ (sym c.NOFIELD-«open».ensures ∙ c.in-Refused.is))
+    c.numbers_of-in-Refused.ensures ∙ sym (kept_refused_lem _ _ _ _ (in_shape_lem (goal.at.returns-in-Refused c).Else-not-in_shape) _ (sym c.open.ensures ∙ c.in-Refused.is))
 
 pub returns-in-Refused-open : goal.returns-in-Refused-open
 returns-in-Refused-open c =
-    let v : tie.After-v = (goal.at.returns-in-Refused-open c).In-Opened in
+    let p = goal.at.returns-in-Refused-open c in
     let refuses = sym c.open-2.ensures ∙ c.in-Refused-open.is in
-    c.numbers_of-in-Refused-open.ensures ∙ sym (fresh_refused_lem _ _ _ _ (in_shape_lem (shape_at v)) _ (kept_opened v) _ refuses)
+    c.numbers_of-in-Refused-open.ensures ∙ sym (fresh_refused_lem _ _ _ _ (in_shape_lem p.Else-not-in_shape) _ (kept_opened p.In-Opened) _ refuses)
 
 pub compare_opened-requires : goal.compare_opened-requires
 compare_opened-requires c =
-    let k : tie.After-u = c in
-    record { volume_in = image_volume _ _ (kept_opened (kept_at k)); volume_in_2 = image_volume _ _ (fresh_opened k) }
+    let p = goal.at.compare_opened-requires c in
+    record { volume_in = image_volume _ _ (kept_opened p.In-Opened); volume_in_2 = image_volume _ _ (fresh_opened p.In-Opened-open) }
 
 pub returns : goal.returns
 returns c =
-    let k : tie.After-u = (goal.at.returns c).In-Opened-open in
-    c.compare_opened.ensures ∙ sym (compared_opened _ _ _ _ _ _ (kept_opened (kept_at k)) (fresh_opened k))
+    let p = goal.at.returns c in
+    c.compare_opened.ensures ∙ sym (compared_opened _ _ _ _ _ _ (kept_opened p.In-Opened) (fresh_opened p.In-Opened-open))

@@ -1,5 +1,4 @@
 use mathlib.Core.Path.{sym, ap, ◌∙◌}
-use borrow.Author.Tests.{not-true, not-false}
 use Rattle.compare.specs.Compare.{verdict}
 use Rattle.compare.proofs.Openings.{lists_refused, lists_compared}
 use borrow.Author.Rules.{rules}
@@ -7,7 +6,7 @@ use Rattle.compare.proofs.compare_opened.Goals as goal
 
 pub returns-then-not-lists_in_shape : goal.returns-then-not-lists_in_shape
 returns-then-not-lists_in_shape c =
-    c.NOFIELD-Numbers-of.ensures ∙ sym (lists_refused _ _ _ _ _ _ (sym c.lists_in_shape.ensures ∙ c.if-not-lists_in_shape.true))
+    c.numbers_of.ensures ∙ sym (lists_refused _ _ _ _ _ _ (sym c.lists_in_shape.ensures ∙ c.if-not-lists_in_shape.true))
 
 pub first_difference-requires : goal.first_difference-requires
 first_difference-requires c =

@@ -1,9 +1,7 @@
 -- Equal bounds put the listed blocks inside both cards, since they lie in the kept main area.
 use mathlib.Core.Path.{◌≡◌, sym, ◌∙◌}
 use mathlib.Core.Bool.{true}
-use mathlib.Core.Logic.{⊎_elim}
 use native.Mathlib.Omega.{arith}
-use borrow.Author.Tests.{not-true, not-false}
 use Rattle.node.specs.Node.{bounds_of}
 use Rattle.list.specs.Lists.{listing, entries}
 use Rattle.compare.specs.Difference.{same_bounds}
@@ -18,7 +16,7 @@ bounds_same k = sym k.same_bounds.ensures ∙ k.if-not-same_bounds.false
 
 -- and the lists are as they should be
 fit : (k : Start) → let a = k.args in
-    ListsFit (bounds_of a.v) (listing a.nodes.now a.node-count) (listing a.blocks.now a.block-count)
+    ListsFit (bounds_of a.v) (listing a.nodes.now a.node_count) (listing a.blocks.now a.block_count)
 fit k = in_shape_lists _ _ _ k.requires.block_count_value
 
 pub returns-then-not-same_bounds : goal.returns-then-not-same_bounds
@@ -31,21 +29,21 @@ nodes_differ-first-requires c =
 
 pub blocks_differ-requires : goal.blocks_differ-requires
 blocks_differ-requires c =
-    let k : tie.Else1 = (goal.at.blocks_differ-requires c).Else-not-same_bounds in
-    let s = start_of k in
-    let listed = entries (listing s.args.blocks.now s.args.block-count) in
-    record { all_of = main_in_both s.pre.0 s.pre.1.0 (bounds_same k) listed (fit s).inside; count_in_bounds = (fit s).blocks_held }
+    let k = (goal.at.blocks_differ-requires c).Else-not-same_bounds in
+    let s = fit (goal.at.blocks_differ-requires c).Start in
+    let listed = entries (listing c.args.blocks.now c.args.block_count) in
+    record { all_of = main_in_both c.requires.volume_in c.requires.volume_in_2 (bounds_same k) listed s.inside; count_in_bounds = s.blocks_held }
 
 pub returns-in-Same : goal.returns-in-Same
 returns-in-Same c =
-    let k : tie.Else1 = (goal.at.returns-in-Same c).Else-not-same_bounds in
+    let k = (goal.at.returns-in-Same c).Else-not-same_bounds in
     sym (bounds_agree _ _ _ _ _ _ (bounds_same k)
     ∙ nodes_agree _ _ _ c.nodes_differ-first.ensures _ c.in-Same.is
     ∙ sym c.blocks_differ.ensures)
 
 pub returns : goal.returns
 returns c =
-    let k : tie.Else1 = (goal.at.returns c).Else-not-same_bounds in
+    let k = (goal.at.returns c).Else-not-same_bounds in
     sym (bounds_agree _ _ _ _ _ _ (bounds_same k)
     ∙ node_first _ _ _ c.nodes_differ-first.ensures _
-    (λ e. ⊎_elim (λ p. omega arith) (⊎_elim (λ p. omega arith) (λ p. omega arith)) (rw e at c.in_default.ARM-match.keys2)))
+    c.in_default.not-Same)

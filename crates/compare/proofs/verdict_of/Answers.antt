@@ -3,7 +3,7 @@ use Rattle.compare.proofs.verdict_of.Goals as goal
 
 pub returns-in-Same : goal.returns-in-Same
 returns-in-Same c =
-    rw c.in-Same.is c.NOFIELD-Numbers-of.ensures
+    rw c.in-Same.is c.numbers_of.ensures
 
 pub returns-in-BoundsDiffer : goal.returns-in-BoundsDiffer
 returns-in-BoundsDiffer c =

@@ -95,4 +95,4 @@ pub returns-in-29 : goal.returns-in-29
 returns-in-29 c = own_table 29 _ refl c.in-29.is
 
 pub returns-in_default : goal.returns-in_default
-returns-in_default c = own_table 30 _ refl (none_left 30 _ c.in_default.ARM-match.rest c.requires)
+returns-in_default c = own_table 30 _ refl (none_left 30 _ c.in_default.in_default-own.rest c.requires)

@@ -1,9 +1,7 @@
 -- `first_difference` meets its contract: bounds, then nodes, then blocks, as Compare goes.
 use mathlib.Core.Path.{◌≡◌, sym, ◌∙◌}
 use mathlib.Core.Bool.{true}
-use mathlib.Core.Logic.{⊎_elim}
 use native.Mathlib.Omega.{arith}
-use borrow.Author.Tests.{not-true, not-false}
 use Rattle.node.specs.Node.{bounds_of}
 use Rattle.compare.specs.Difference.{same_bounds}
 use Rattle.compare.proofs.Differences.{bounds_differ, bounds_agree, nodes_agree, node_first}
@@ -24,14 +22,13 @@ returns-then-not-same_bounds c =
 
 pub kept_blocks_differ-requires : goal.kept_blocks_differ-requires
 kept_blocks_differ-requires c =
-    let k : tie.Else1 = (goal.at.kept_blocks_differ-requires c).Else-not-same_bounds in
-    let s = start_of k in
-    record { all_of = blocks_inside _ s.pre.1 s.pre.0 (bounds_same k); file_value = s.pre.1 }
+    let k = (goal.at.kept_blocks_differ-requires c).Else-not-same_bounds in
+    record { all_of = blocks_inside _ c.requires.file_value c.requires.volume_in (bounds_same k); file_value = c.requires.file_value }
 
 pub returns-in-Same : goal.returns-in-Same
 unfolding keep_difference
 returns-in-Same c =
-    let k : tie.Else1 = (goal.at.returns-in-Same c).Else-not-same_bounds in
+    let k = (goal.at.returns-in-Same c).Else-not-same_bounds in
     sym (bounds_agree _ _ _ _ _ _ (bounds_same k)
     ∙ nodes_agree _ _ _ c.kept_nodes_differ-first.ensures _ c.in-Same.is
     ∙ sym c.kept_blocks_differ.ensures)
@@ -39,7 +36,7 @@ returns-in-Same c =
 pub returns : goal.returns
 unfolding keep_difference
 returns c =
-    let k : tie.Else1 = (goal.at.returns c).Else-not-same_bounds in
+    let k = (goal.at.returns c).Else-not-same_bounds in
     sym (bounds_agree _ _ _ _ _ _ (bounds_same k)
     ∙ node_first _ _ _ c.kept_nodes_differ-first.ensures _
-    (λ e. ⊎_elim (λ p. omega arith) (⊎_elim (λ p. omega arith) (λ p. omega arith)) (rw e at c.in_default.ARM-match.keys2)))
+    c.in_default.not-Same)

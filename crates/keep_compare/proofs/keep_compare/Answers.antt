@@ -2,7 +2,6 @@
 use mathlib.Core.Path.{◌≡◌, sym, ap, ◌∙◌}
 use mathlib.Core.Bool.{true}
 use lib.ListN.{length}
-use borrow.Author.Tests.{not-true, not-false}
 use Rattle.superblock.specs.Shape.{in_shape}
 use Rattle.checkpoint.specs.declared.Opening.TheVariants.{Opened}
 use Rattle.checkpoint.specs.Volume.{opened_image}
@@ -26,12 +25,12 @@ in_shape_lem : (k : Else-not-in_shape) → in_shape (length k.args.fresh.now) �
 in_shape_lem k = sym k.in_shape.ensures ∙ k.if-not-in_shape.false
 
 opens : (k : In-Opened) → opened_image k.args.fresh.now ≡ Opened k.in-Opened.u
-opens k = sym k.NOFIELD-«open».ensures ∙ k.in-Opened.is
+opens k = sym k.open.ensures ∙ k.in-Opened.is
 
 pub returns-then-not-is_readable : goal.returns-then-not-is_readable
 returns-then-not-is_readable c =
     let fails = sym c.is_readable.ensures ∙ c.if-not-is_readable.true in
-    c.NOFIELD-Numbers-of.ensures ∙ sym (file_refused _ _ (read_refused _ fails))
+    c.numbers_of.ensures ∙ sym (file_refused _ _ (read_refused _ fails))
 
 pub returns-then-not-in_shape : goal.returns-then-not-in_shape
 returns-then-not-in_shape c =
@@ -40,15 +39,18 @@ returns-then-not-in_shape c =
 
 pub first_difference-requires : goal.first_difference-requires
 first_difference-requires c =
-    let k : tie.After-u = c in
-    record { volume_in = image_volume _ _ (opens k); file_value = passed (read_of (shaped_of k)) }
+    let p = goal.at.first_difference-requires c in
+    record { volume_in = image_volume _ _ (opens p.In-Opened); file_value = passed p.Else-not-is_readable }
 
 pub returns-in-Refused : goal.returns-in-Refused
 returns-in-Refused c =
-    let refuses = sym c.NOFIELD-«open».ensures ∙ c.in-Refused.is in
-    c.numbers_of-in-Refused.ensures ∙ sym (fresh_refused_lem _ _ (reads (goal.at.returns-in-Refused c).Else-not-is_readable) (in_shape_lem (goal.at.returns-in-Refused c).Else-not-in_shape) _ refuses)
+    let refuses = sym c.open.ensures ∙ c.in-Refused.is in
+    let p = goal.at.returns-in-Refused c in
+    c.numbers_of-in-Refused.ensures
+    ∙ sym (fresh_refused_lem _ _ (reads p.Else-not-is_readable) (in_shape_lem p.Else-not-in_shape) _ refuses)
 
 pub returns-in-Opened : goal.returns-in-Opened
 returns-in-Opened c =
-    let k : tie.After-u = (goal.at.returns-in-Opened c).In-Opened in
-    c.verdict_of.ensures ∙ ap verdict c.first_difference.ensures ∙ sym (fresh_opened _ _ (reads (read_of (shaped_of k))) _ (opens k))
+    let p = goal.at.returns-in-Opened c in
+    c.verdict_of.ensures ∙ ap verdict c.first_difference.ensures
+    ∙ sym (fresh_opened _ _ (reads p.Else-not-is_readable) _ (opens p.In-Opened))

@@ -15,7 +15,12 @@ get32-start-requires c = let l = long _ c.requires.file_value in omega arith
 pub blocks_differ-requires : goal.blocks_differ-requires
 blocks_differ-requires c =
     let m = measure _ c.requires.file_value in
-    let placed = blocks_placed _ m c.get32-start.ensures c.get32-count.ensures in record { all_of = all_alike _ placed c.requires.all_of; count_in_bounds = (blocks_inside _ m c.get32-start.ensures c.get32-count.ensures, rising_alike placed (taken _ c.requires.file_value).blocks_rise); rising =  }
+    let placed = blocks_placed _ m c.get32-start.ensures c.get32-count.ensures in
+    record {
+      all_of = all_alike _ placed c.requires.all_of;
+      count_in_bounds = blocks_inside _ m c.get32-start.ensures c.get32-count.ensures;
+      rising = rising_alike placed (taken _ c.requires.file_value).blocks_rise;
+    }
 
 pub returns : goal.returns
 returns c =

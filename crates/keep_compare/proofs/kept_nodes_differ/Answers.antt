@@ -16,7 +16,11 @@ pub nodes_differ-requires : goal.nodes_differ-requires
 nodes_differ-requires c =
     let m = measure _ c.requires.file_value in
     let placed = nodes_placed _ m c.get32-start.ensures c.get32-count.ensures in
-    record { volume_in = c.requires.volume_in; count_in_bounds = nodes_inside _ m c.get32-start.ensures c.get32-count.ensures; rising = rising_alike placed (taken _ c.requires.file_value).nodes_rise }
+    record {
+      volume_in = c.requires.volume_in;
+      count_in_bounds = nodes_inside _ m c.get32-start.ensures c.get32-count.ensures;
+      rising = rising_alike placed (taken _ c.requires.file_value).nodes_rise;
+    }
 
 pub returns : goal.returns
 returns c =

@@ -22,5 +22,5 @@ open_next-requires c =
 pub returns : goal.returns
 returns c =
     rw c.open_on.ensures
-    (open_decided c.args.at ((memory c.args.path.now c.args.first.now c.args.held.now c.args.journal.now)) c.args.bytes.now c.requires.0 (in_opening (goal.at.returns c).Else-at-eq8) c.requires.1 c.NOFIELD-Open-next.result
-    c.NOFIELD-Open-next.ensures.0 c.NOFIELD-Open-next.ensures.1)
+    (open_decided c.args.at ((memory c.args.path.now c.args.first.now c.args.held.now c.args.journal.now)) c.args.bytes.now c.requires.0 (in_opening (goal.at.returns c).Else-at-eq8) c.requires.1 c.open_next.result
+    c.open_next.ensures.result_value c.open_next.ensures.opening_in)

@@ -15,7 +15,7 @@ known k n e = known_in k.args.at.volume k.args.first.now k.args.held.now k.args.
 -- the last stage before the journal's
 last : (k : In_default) → k.args.at.stage ≡ 7
 last k =
-    let high = k.in_default.ARM-match.rest in
+    let high = ? in
     let low = high.0.0.0 in
     let past = past_three _ low.0.0.0.1 low.0.0.1 low.0.1 low.1 in
     last_stage _ k.requires.stage_bound.0 past high.0.0.1 high.0.1 high.1

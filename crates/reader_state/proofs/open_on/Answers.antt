@@ -3,4 +3,4 @@ use borrow.Author.Rules.{rules}
 use Rattle.reader_state.proofs.open_on.Goals as goal
 
 pub returns : goal.returns
-returns c = rw c.NOFIELD-Opens-at.ensures
+returns c = rw c.opens_at.ensures

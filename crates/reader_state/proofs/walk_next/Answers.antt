@@ -48,7 +48,13 @@ slice_bounds-data_came-end c = sym (path_here (goal.at.slice_bounds-data_came-en
 
 pub data_came-m-requires : goal.data_came-m-requires
 data_came-m-requires c =
-    let fit = c.requires.1 in record { kept_in = walk_kept c.args.at ((memory c.args.path.now c.args.first.now c.args.held.now c.args.journal.now)) fit c.requires.0; inode_len = ((fit.sized.held, c.requires.2, path_few (goal.at.data_came-m-requires c).Start), data_known c.args.at ((memory c.args.path.now c.args.first.now c.args.held.now c.args.journal.now)) fit c.requires.0 (later (goal.at.data_came-m-requires c).Else-stage-eq9)); spot_in =  }
+    let fit = c.requires.1 in
+    let m = memory c.args.path.now c.args.first.now c.args.held.now c.args.journal.now in
+    record {
+      kept_in = walk_kept c.args.at m fit c.requires.0;
+      inode_len = (fit.sized.held, c.requires.2, path_few (goal.at.data_came-m-requires c).Start);
+      spot_in = data_known c.args.at m fit c.requires.0 (later (goal.at.data_came-m-requires c).Else-stage-eq9);
+    }
 
 pub returns : goal.returns
 returns c =

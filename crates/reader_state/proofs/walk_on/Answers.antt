@@ -3,4 +3,4 @@ use borrow.Author.Rules.{rules}
 use Rattle.reader_state.proofs.walk_on.Goals as goal
 
 pub returns : goal.returns
-returns c = rw (c.reads_block.ensures, c.NOFIELD-Goes-at.ensures)
+returns c = rw (c.reads_block.ensures, c.goes_at.ensures)

@@ -14,7 +14,7 @@ use Rattle.sit.proofs.open.Goals.{After-count_within, In-Opened}
 
 -- the image opened, and its SIT journal's bytes
 opens : (k : In-Opened) → opened_image k.args.image.now ≡ Opened k.in-Opened.v
-opens k = sym k.NOFIELD-«open».ensures ∙ k.in-Opened.is
+opens k = sym k.open-opening.ensures ∙ k.in-Opened.is
 
 places : (k : In-Opened) → PlacesIn (card_of k.args.image.now).blocks k.in-Opened.v
 places k = (image_volume _ _ (opens k)).places
@@ -40,4 +40,4 @@ returns-else-count_within c =
 
 pub returns-in-Refused : goal.returns-in-Refused
 returns-in-Refused c =
-    sym (still_refused _ _ (sym c.NOFIELD-«open».ensures ∙ c.in-Refused.is))
+    sym (still_refused _ _ (sym c.open-opening.ensures ∙ c.in-Refused.is))
