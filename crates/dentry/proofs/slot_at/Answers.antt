@@ -15,7 +15,7 @@ used k z = k.if-slot_bit-eq0.false (k.slot_bit.ensures ∙ z)
 
 entry : (k : Else-not-fits) → let a = k.args in Formed a.l a.part.now a.slot k.get16-len.result
 unfolding well_formed
-entry k = record { used = used PLACE-Else-slot_bit-eq0; sized = k.get16-len.ensures; fits = k.if-not-fits.false }
+entry k = record { used = λ z. k.if-slot_bit-eq0.false (k.slot_bit.ensures ∙ z); sized = k.get16-len.ensures; fits = k.if-not-fits.false }
 
 pub returns-then-slot_bit-eq0 : goal.returns-then-slot_bit-eq0
 returns-then-slot_bit-eq0 c =

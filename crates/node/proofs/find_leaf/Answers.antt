@@ -53,7 +53,7 @@ returns-then-way-eq0 c =
     let A = c.args.file.addresses in
     let past = none_past A (place_of A c.args.index) (sym (ap (λ (w : Way). w.count) (found (goal.at.returns-then-way-eq0 c).After-way_to-way)) ∙ none) in
     let walked = reached_done (reached_to (reached_start _ _ _) (leaf_none _ _ _ _ _ (found (goal.at.returns-then-way-eq0 c).After-way_to-way) none)) in
-    let whole = rw c.no_leaf.ensures (walked, leaf_new c.requires.fits past.0 past.1 tt walked) in record { walked = whole.0; leaf_of = whole.1 }
+    rw c.no_leaf.ensures (record { walked = walked; leaf_of = leaf_new c.requires.fits past.0 past.1 tt walked })
 
 pub overflow_mul-first : goal.overflow_mul-first
 overflow_mul-first c = omega (arith, small (goal.at.overflow_mul-first c).Else-way-eq0)

@@ -23,7 +23,8 @@ to_data : (k : After-get32-address) → let a = k.args in let s = lists a.nodes.
     Reached (image_view a.image.now a.v) (onward (at_leaf (bounds_of a.v) a.at) (data_of (card_of a.image.now) a.node)) s
     (data_walk (bounds_of a.v) k.get32-address.result) s
 to_data k =
-    reached_to (reached_start _ _ _) (from_at _ _ _ k.in-At.is
+    let a = k.args in
+    reached_to (reached_start _ _ (lists a.nodes.now a.blocks.now a.counts)) (from_at (card_of a.image.now) _ _ k.in-At.is
     (rw (← k.block_at.ensures) k.get32-address.ensures))
 
 pub block_at-requires : goal.block_at-requires
@@ -40,10 +41,10 @@ data_at-requires c =
     record { fits = fits_at c.requires.fits (to_data (goal.at.data_at-requires c).After-get32-address); volume_in = c.requires.volume_in }
 
 pub returns-in-Hole : goal.returns-in-Hole
-returns-in-Hole c = record { walked = reached_done (reached_to (reached_start _ _ _) (from_hole _ _ _ c.in-Hole.is)); data_in_2 = tt }
+returns-in-Hole c = record { walked = reached_done (reached_to (reached_start _ _ (lists c.args.nodes.now c.args.blocks.now c.args.counts)) (from_hole (card_of c.args.image.now) _ _ c.in-Hole.is)); data_in_2 = tt }
 
 pub returns-in-Stop : goal.returns-in-Stop
-returns-in-Stop c = record { walked = reached_done (reached_to (reached_start _ _ _) (from_stop _ _ _ c.in-Stop.is)); data_in_2 = tt }
+returns-in-Stop c = record { walked = reached_done (reached_to (reached_start _ _ (lists c.args.nodes.now c.args.blocks.now c.args.counts)) (from_stop (card_of c.args.image.now) _ _ c.in-Stop.is)); data_in_2 = tt }
 
 pub returns-in-At : goal.returns-in-At
 returns-in-At c =

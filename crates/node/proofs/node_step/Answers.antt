@@ -18,70 +18,58 @@ use borrow.Author.Rules.{rules}
 use Rattle.node.proofs.node_step.Goals as goal
 use Rattle.node.proofs.node_step.Goals.{After-block_at-block, After-table_answer-entry, Else-not-in_main, In-Entry}
 
-looked : (k : After-table_answer-entry) → (let a = k.args in
-    Reached (image_view a.image.now a.v) (node_walk (bounds_of a.v) a.number a.ino a.place)
-    (lists a.nodes.now a.blocks.now a.counts) rest t) ((let a = k.args in at_entry (bounds_of a.v) a.number a.ino a.place) k.table_answer-entry.result) ((let a = k.args in
-    let listed = k.insert in
-    lists listed.last.0 a.blocks.now (record { nodes = listed.result; blocks = a.counts.blocks })))
+-- the number is listed, then looked up
+looked : (k : After-table_answer-entry) → let a = k.args in
+    Reached (image_view a.image.now a.v) (node_walk (bounds_of a.v) a.number a.ino a.place) (lists a.nodes.now a.blocks.now a.counts)
+    (at_entry (bounds_of a.v) a.number a.ino a.place k.table_answer-entry.result)
+    (lists k.insert.new.list a.blocks.now (record { nodes = k.insert.result; blocks = a.counts.blocks }))
 looked k =
+    let a = k.args in
     let begins = reached_to (reached_start _ _ _) (node_look _ _ _ _) in
-    reached_to (reached_look begins k.insert.ensures) (ap ((let a = k.args in at_entry (bounds_of a.v) a.number a.ino a.place)) (sym k.table_answer-entry.ensures))
+    reached_to (reached_look begins k.insert.ensures) (ap (at_entry (bounds_of a.v) a.number a.ino a.place) (sym k.table_answer-entry.ensures))
 
-has : (k : In-Entry) → (let a = k.args in
-    Reached (image_view a.image.now a.v) (node_walk (bounds_of a.v) a.number a.ino a.place)
-    (lists a.nodes.now a.blocks.now a.counts) rest t) ((let a = k.args in at_entry (bounds_of a.v) a.number a.ino a.place) (Entry (k.in-Entry.table_inode) (k.in-Entry.address))) ((let a = k.args in
-    let listed = k.insert in
-    lists listed.last.0 a.blocks.now (record { nodes = listed.result; blocks = a.counts.blocks })))
-has k = reached_to ((let it : (let a = k.args in
-    Reached (image_view a.image.now a.v) (node_walk (bounds_of a.v) a.number a.ino a.place)
-    (lists a.nodes.now a.blocks.now a.counts) rest t) ((let a = k.args in at_entry (bounds_of a.v) a.number a.ino a.place) k.table_answer-entry.result) ((let a = k.args in
-    let listed = k.insert in
-    lists listed.last.0 a.blocks.now (record { nodes = listed.result; blocks = a.counts.blocks }))) = let begins = reached_to (reached_start _ _ _) (node_look _ _ _ _) in
-    reached_to (reached_look begins k.insert.ensures) (ap ((let a = k.args in at_entry (bounds_of a.v) a.number a.ino a.place)) (sym k.table_answer-entry.ensures)) in it)) (ap ((let a = k.args in at_entry (bounds_of a.v) a.number a.ino a.place)) k.in-Entry.is)
+-- the table has an entry
+has : (k : In-Entry) → let a = k.args in
+    Reached (image_view a.image.now a.v) (node_walk (bounds_of a.v) a.number a.ino a.place) (lists a.nodes.now a.blocks.now a.counts)
+    (at_entry (bounds_of a.v) a.number a.ino a.place (Entry k.in-Entry.table_inode k.in-Entry.address))
+    (lists k.insert.new.list a.blocks.now (record { nodes = k.insert.result; blocks = a.counts.blocks }))
+has k =
+    let a = k.args in
+    let begins = reached_to (reached_start _ _ _) (node_look _ _ _ _) in
+    let said = sym k.table_answer-entry.ensures ∙ k.in-Entry.is in
+    reached_to (reached_look begins k.insert.ensures) (ap (at_entry (bounds_of a.v) a.number a.ino a.place) said)
 
-inside : (k : Else-not-in_main) → in_main (bounds_of k.args.v) (k.in-Entry.address) ≡ true
+inside : (k : Else-not-in_main) → in_main (bounds_of k.args.v) k.in-Entry.address ≡ true
 inside k = sym k.in_main.ensures ∙ k.if-not-in_main.false
 
 in_image : (k : Else-not-in_main) → k.in-Entry.address < (card_of k.args.image.now).blocks
 in_image k = in_card_lem _ (inside k) k.requires.volume_in
 
-to_read : (k : Else-not-in_main) → (let a = k.args in
-    Reached (image_view a.image.now a.v) (node_walk (bounds_of a.v) a.number a.ino a.place)
-    (lists a.nodes.now a.blocks.now a.counts) rest t) (read (k.in-Entry.address) ((let a = k.args in at_block a.number a.ino a.place (k.in-Entry.table_inode)))) ((let a = k.args in
-    let listed = k.insert in
-    lists listed.last.0 a.blocks.now (record { nodes = listed.result; blocks = a.counts.blocks })))
-to_read k = reached_to ((let it : (let a = k.args in
-    Reached (image_view a.image.now a.v) (node_walk (bounds_of a.v) a.number a.ino a.place)
-    (lists a.nodes.now a.blocks.now a.counts) rest t) ((let a = k.args in at_entry (bounds_of a.v) a.number a.ino a.place) (Entry k.in-Entry.table_inode k.in-Entry.address)) ((let a = k.args in
-    let listed = k.insert in
-    lists listed.last.0 a.blocks.now (record { nodes = listed.result; blocks = a.counts.blocks }))) = reached_to ((let it : (let a = k.args in
-    Reached (image_view a.image.now a.v) (node_walk (bounds_of a.v) a.number a.ino a.place)
-    (lists a.nodes.now a.blocks.now a.counts) rest t) ((let a = k.args in at_entry (bounds_of a.v) a.number a.ino a.place) k.table_answer-entry.result) ((let a = k.args in
-    let listed = k.insert in
-    lists listed.last.0 a.blocks.now (record { nodes = listed.result; blocks = a.counts.blocks }))) = let begins = reached_to (reached_start _ _ _) (node_look _ _ _ _) in
-    reached_to (reached_look begins k.insert.ensures) (ap ((let a = k.args in at_entry (bounds_of a.v) a.number a.ino a.place)) (sym k.table_answer-entry.ensures)) in it)) (ap ((let a = k.args in at_entry (bounds_of a.v) a.number a.ino a.place)) k.in-Entry.is) in it)) (entry_inside _ _ _ _ _ _ k.if-address-eq0.false (inside k))
+-- its address is not 0, and lies in the main area
+to_read : (k : Else-not-in_main) → let a = k.args in
+    Reached (image_view a.image.now a.v) (node_walk (bounds_of a.v) a.number a.ino a.place) (lists a.nodes.now a.blocks.now a.counts)
+    (read k.in-Entry.address (at_block a.number a.ino a.place k.in-Entry.table_inode))
+    (lists k.insert.new.list a.blocks.now (record { nodes = k.insert.result; blocks = a.counts.blocks }))
+to_read k =
+    let a = k.args in
+    let begins = reached_to (reached_start _ _ _) (node_look _ _ _ _) in
+    let said = sym k.table_answer-entry.ensures ∙ k.in-Entry.is in
+    let has = reached_to (reached_look begins k.insert.ensures) (ap (at_entry (bounds_of a.v) a.number a.ino a.place) said) in
+    reached_to has (entry_inside _ _ _ _ _ _ k.if-address-eq0.false (inside k))
 
-block_read : (c : After-block_at-block) → (let a = c.args in
-    Reached (image_view a.image.now a.v) (node_walk (bounds_of a.v) a.number a.ino a.place)
-    (lists a.nodes.now a.blocks.now a.counts) rest t) ((let a = c.args in at_block a.number a.ino a.place (c.in-Entry.table_inode)) c.block_at-block.result.now) ((let t = (let a = c.args in
-    let listed = c.insert in
-    lists listed.last.0 a.blocks.now (record { nodes = listed.result; blocks = a.counts.blocks })) in
-    lists t.nodes c.insert-2.new.0 (record { nodes = t.counts.nodes; blocks = c.insert-2.result })))
-block_read c =
-    reached_to (reached_read ((let it : (let a = c.args in
-    Reached (image_view a.image.now a.v) (node_walk (bounds_of a.v) a.number a.ino a.place)
-    (lists a.nodes.now a.blocks.now a.counts) rest t) (read c.in-Entry.address ((let a = c.args in at_block a.number a.ino a.place c.in-Entry.table_inode))) ((let a = c.args in
-    let listed = c.insert in
-    lists listed.last.0 a.blocks.now (record { nodes = listed.result; blocks = a.counts.blocks }))) = reached_to ((let it : (let a = c.args in
-    Reached (image_view a.image.now a.v) (node_walk (bounds_of a.v) a.number a.ino a.place)
-    (lists a.nodes.now a.blocks.now a.counts) rest t) ((let a = c.args in at_entry (bounds_of a.v) a.number a.ino a.place) (Entry c.in-Entry.table_inode c.in-Entry.address)) ((let a = c.args in
-    let listed = c.insert in
-    lists listed.last.0 a.blocks.now (record { nodes = listed.result; blocks = a.counts.blocks }))) = reached_to ((let it : (let a = c.args in
-    Reached (image_view a.image.now a.v) (node_walk (bounds_of a.v) a.number a.ino a.place)
-    (lists a.nodes.now a.blocks.now a.counts) rest t) ((let a = c.args in at_entry (bounds_of a.v) a.number a.ino a.place) c.table_answer-entry.result) ((let a = c.args in
-    let listed = c.insert in
-    lists listed.last.0 a.blocks.now (record { nodes = listed.result; blocks = a.counts.blocks }))) = let begins = reached_to (reached_start _ _ _) (node_look _ _ _ _) in
-    reached_to (reached_look begins c.insert.ensures) (ap ((let a = c.args in at_entry (bounds_of a.v) a.number a.ino a.place)) (sym c.table_answer-entry.ensures)) in it)) (ap ((let a = c.args in at_entry (bounds_of a.v) a.number a.ino a.place)) c.in-Entry.is) in it)) (entry_inside _ _ _ _ _ _ c.if-address-eq0.false ((let it : in_main (bounds_of c.args.v) c.in-Entry.address ≡ true = sym c.in_main.ensures ∙ c.if-not-in_main.false in it))) in it)) c.insert-2.ensures) (ap ((let a = c.args in at_block a.number a.ino a.place c.in-Entry.table_inode)) (sym c.block_at-block.ensures))
+-- the block is listed, then read
+block_read : (k : After-block_at-block) → let a = k.args in
+    Reached (image_view a.image.now a.v) (node_walk (bounds_of a.v) a.number a.ino a.place) (lists a.nodes.now a.blocks.now a.counts)
+    (at_block a.number a.ino a.place k.in-Entry.table_inode k.block_at-block.result.now)
+    (lists k.insert.new.list k.insert-2.new.list (record { nodes = k.insert.result; blocks = k.insert-2.result }))
+block_read k =
+    let a = k.args in
+    let begins = reached_to (reached_start _ _ _) (node_look _ _ _ _) in
+    let said = sym k.table_answer-entry.ensures ∙ k.in-Entry.is in
+    let has = reached_to (reached_look begins k.insert.ensures) (ap (at_entry (bounds_of a.v) a.number a.ino a.place) said) in
+    let within = sym k.in_main.ensures ∙ k.if-not-in_main.false in
+    let to_read = reached_to has (entry_inside _ _ _ _ _ _ k.if-address-eq0.false within) in
+    reached_to (reached_read to_read k.insert-2.ensures) (ap (at_block a.number a.ino a.place k.in-Entry.table_inode) (sym k.block_at-block.ensures))
 
 -- ---- the needs
 pub insert-requires : goal.insert-requires
@@ -90,7 +78,7 @@ insert-requires c =
 
 pub returns-in_default : goal.returns-in_default
 returns-in_default c =
-    record { walked = reached_done (reached_to (looked (goal.at.returns-in_default c).After-table_answer-entry) (ap ((let a = c.args in at_entry (bounds_of a.v) a.number a.ino a.place)) c.in_default.is ∙ entry_range _ _ _ _)); found_in = tt }
+    record { walked = reached_done (reached_to (looked (goal.at.returns-in_default c).After-table_answer-entry) (ap (at_entry (bounds_of c.args.v) c.args.number c.args.ino c.args.place) c.in_default.is ∙ entry_range _ _ _ _)); found_in = tt }
 
 pub returns-then-address-eq0 : goal.returns-then-address-eq0
 returns-then-address-eq0 c =
