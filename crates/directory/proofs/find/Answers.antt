@@ -15,7 +15,7 @@ use Rattle.directory.proofs.find.Goals.{Start}
 
 levels_of : (s : Start) → (let a = s.args in
     let t = lists a.nodes.now a.blocks.now a.counts in
-    let d = directory_of (card_of a.image.now) a.v a.file a.inline a.dir-level in
+    let d = directory_of (card_of a.image.now) a.v a.file a.inline a.dir_level in
     let w = wanted a.hash a.name.now in
     Reached (image_view a.image.now a.v) (find_walk d w a.depth) t (levels_walk d w a.depth 0) t)
 levels_of s = reached_to (reached_start _ _ _) (by_levels _ _ _ s.requires.dir_level_value)

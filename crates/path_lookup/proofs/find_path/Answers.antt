@@ -67,13 +67,13 @@ returns-then-end-path c =
     names_end c.loop-answer.invariant c.part_end-end.ensures c.find_in-step.ensures (led (goal.at.returns-then-end-path c).In-Found) c.if-end-path.true
 
 pub shape_of-nodes-in-Stop : goal.shape_of-nodes-in-Stop
-shape_of-nodes-in-Stop c = (returns c).nodes_grown.size
+shape_of-nodes-in-Stop c = (returns-in-Stop c).nodes_grown.size
 
 pub shape_of-blocks-in-Stop : goal.shape_of-blocks-in-Stop
-shape_of-blocks-in-Stop c = (returns c).blocks_grown.size
+shape_of-blocks-in-Stop c = (returns-in-Stop c).blocks_grown.size
 
 pub shape_of-nodes-then-end-path : goal.shape_of-nodes-then-end-path
-shape_of-nodes-then-end-path c = (returns_2 c).nodes_grown.size
+shape_of-nodes-then-end-path c = (returns-then-end-path c).nodes_grown.size
 
 pub shape_of-blocks-then-end-path : goal.shape_of-blocks-then-end-path
-shape_of-blocks-then-end-path c = (returns_2 c).blocks_grown.size
+shape_of-blocks-then-end-path c = (returns-then-end-path c).blocks_grown.size

@@ -10,7 +10,7 @@ use Rattle.segment_report.proofs.report.Goals.{In-Opened}
 
 -- the image opened
 opens : (k : In-Opened) → opened_with_sit k.args.image.now ≡ Opened k.in-Opened.v
-opens k = sym k.NOFIELD-«open».ensures ∙ k.in-Opened.is
+opens k = sym k.open-opening.ensures ∙ k.in-Opened.is
 
 pub returns-then-list-v : goal.returns-then-list-v
 returns-then-list-v c =
@@ -23,7 +23,7 @@ report_opened-requires c =
 
 pub returns-in-Refused : goal.returns-in-Refused
 returns-in-Refused c =
-    rw c.refused.ensures (sym (refused_by_opening _ _ _ (sym c.NOFIELD-«open».ensures ∙ c.in-Refused.is)))
+    rw c.refused.ensures (sym (refused_by_opening _ _ _ (sym c.open-opening.ensures ∙ c.in-Refused.is)))
 
 pub returns-else-list-v : goal.returns-else-list-v
 returns-else-list-v c =
