@@ -47,10 +47,10 @@ fn block_from_inode(
         (lists nodes.old blocks.old counts) }
     requires volume_in { VolumeIn (card_of image.now) v }
     requires at_bound { at < (card_of image.now).blocks }
-    ensures fact { Walked (image_view image.now v) (at_file (bounds_of v) index ino ((card_of image.now).block at))
+    ensures walked { Walked (image_view image.now v) (at_file (bounds_of v) index ino ((card_of image.now).block at))
         (lists nodes.old blocks.old counts) (block_found (card_of image.now) result.data result.start result.bytes)
         (lists nodes.new blocks.new result.counts) }
-    ensures fact_2 { DataIn (card_of image.now) result.data × (result.start + result.bytes ≤ 4096) }
+    ensures data_in { DataIn (card_of image.now) result.data × (result.start + result.bytes ≤ 4096) }
 {
     let i = inode::inode_of(field::block_at(image, at));
     if !inode::is_regular(i) {
@@ -106,10 +106,10 @@ fn block_of_file(
 ) -> BlockStep
     requires fits { Fits (image_view image.now v) (file_walk (bounds_of v) index ino) (lists nodes.old blocks.old counts) }
     requires volume_in { VolumeIn (card_of image.now) v }
-    ensures fact { Walked (image_view image.now v) (file_walk (bounds_of v) index ino)
+    ensures walked { Walked (image_view image.now v) (file_walk (bounds_of v) index ino)
         (lists nodes.old blocks.old counts) (block_found (card_of image.now) result.data result.start result.bytes)
         (lists nodes.new blocks.new result.counts) }
-    ensures fact_2 { DataIn (card_of image.now) result.data × (result.start + result.bytes ≤ 4096) }
+    ensures data_in { DataIn (card_of image.now) result.data × (result.start + result.bytes ≤ 4096) }
 {
     let step = node::node_step(image, v, nodes, blocks, counts, ino, ino, 0);
     let found = step.found;
@@ -136,10 +136,10 @@ fn walk_to(
 ) -> BlockStep
     requires fits { Fits (image_view image.now v) (pull_walk (bounds_of v) path.now index) (lists nodes.old blocks.old none) }
     requires volume_in { VolumeIn (card_of image.now) v }
-    ensures fact { Walked (image_view image.now v) (pull_walk (bounds_of v) path.now index)
+    ensures walked { Walked (image_view image.now v) (pull_walk (bounds_of v) path.now index)
         (lists nodes.old blocks.old none) (block_found (card_of image.now) result.data result.start result.bytes)
         (lists nodes.new blocks.new result.counts) }
-    ensures fact_2 { DataIn (card_of image.now) result.data × (result.start + result.bytes ≤ 4096) }
+    ensures data_in { DataIn (card_of image.now) result.data × (result.start + result.bytes ≤ 4096) }
 {
     let empty = walk::Counts {
         nodes: 0,

@@ -29,14 +29,15 @@ inside : (k : Else-is_past) → is_past k.inode_of-i.result k.args.index ≡ fal
 inside k = sym k.is_past.ensures ∙ k.if-is_past.false
 
 to_block_lem : (k : After-addresses_in) → let a = k.args in
-    (let a = k.args in
     let t = lists a.nodes.now a.blocks.now a.counts in
-    Reached (image_view a.image.now a.v) (at_file (bounds_of a.v) a.index a.ino ((card_of a.image.now).block a.at)) t rest t) (and_then (block_walk (bounds_of a.v) a.ino ((card_of a.image.now).block a.at) k.addresses_in.result a.index)
-    (counted k.count_in-bytes.result))
+    Reached (image_view a.image.now a.v) (at_file (bounds_of a.v) a.index a.ino ((card_of a.image.now).block a.at)) t
+    (and_then (block_walk (bounds_of a.v) a.ino ((card_of a.image.now).block a.at) k.addresses_in.result a.index) (counted k.count_in-bytes.result)) t
 to_block_lem k =
+    let read = rw k.block_at.ensures at k.inode_of-i.ensures in
+    let kind = sym k.is_regular.ensures ∙ k.if-not-is_regular.false in
+    let within = sym k.is_past.ensures ∙ k.if-is_past.false in
     let apart = sym k.has_inline_data.ensures ∙ k.if-has_inline_data.false in
-    reached_to (reached_start _ _ _)
-    (file_block _ _ _ _ ((let it : let a = k.args in k.inode_of-i.result ≡ inode_of ((card_of a.image.now).block a.at) = rw k.block_at.ensures at k.inode_of-i.ensures in it)) _ ((let it : is_regular k.inode_of-i.result ≡ true = sym k.is_regular.ensures ∙ k.if-not-is_regular.false in it)) ((let it : is_past k.inode_of-i.result k.args.index ≡ false = sym k.is_past.ensures ∙ k.if-is_past.false in it)) k.count_in-bytes.ensures.0 _ apart k.addresses_in.ensures.0)
+    reached_to (reached_start _ _ _) (file_block _ _ _ _ read _ kind within k.count_in-bytes.ensures.0 _ apart k.addresses_in.ensures.0)
 
 pub inode_of-i-requires : goal.inode_of-i-requires
 inode_of-i-requires c =
@@ -45,12 +46,12 @@ inode_of-i-requires c =
 pub returns-then-not-is_regular : goal.returns-then-not-is_regular
 returns-then-not-is_regular c =
     let other = sym c.is_regular.ensures ∙ c.if-not-is_regular.true in
-    record { fact = reached_done (reached_to (reached_start _ _ _) (file_other _ _ _ _ (read_of (goal.at.returns-then-not-is_regular c).After-inode_of-i) other)); fact_2 = (tt, omega arith) }
+    record { walked = reached_done (reached_to (reached_start _ _ _) (file_other _ _ _ _ (read_of (goal.at.returns-then-not-is_regular c).After-inode_of-i) other)); data_in = (tt, omega arith) }
 
 pub returns-then-is_past : goal.returns-then-is_past
 returns-then-is_past c =
     let past = sym c.is_past.ensures ∙ c.if-is_past.true in
-    record { fact = reached_done (reached_to (reached_start _ _ _) (file_past _ _ _ _ (read_of (goal.at.returns-then-is_past c).After-inode_of-i) (regular (goal.at.returns-then-is_past c).Else-not-is_regular) past)); fact_2 = (tt, omega arith) }
+    record { walked = reached_done (reached_to (reached_start _ _ _) (file_past _ _ _ _ (read_of (goal.at.returns-then-is_past c).After-inode_of-i) (regular (goal.at.returns-then-is_past c).Else-not-is_regular) past)); data_in = (tt, omega arith) }
 
 pub count_in-bytes-requires : goal.count_in-bytes-requires
 count_in-bytes-requires c =
@@ -60,7 +61,7 @@ pub returns-then-has_inline_data : goal.returns-then-has_inline_data
 returns-then-has_inline_data c =
     let own = sym c.has_inline_data.ensures ∙ c.if-has_inline_data.true in
     let count = c.count_in-bytes.ensures.0 in
-    let few = inline_room _ (regular (goal.at.returns-then-has_inline_data c).Else-not-is_regular) own _ (inside (goal.at.returns-then-has_inline_data c).Else-is_past) in record { fact = reached_done (reached_to (reached_start _ _ _) (file_inline _ _ _ _ (read_of (goal.at.returns-then-has_inline_data c).After-inode_of-i) _ (regular (goal.at.returns-then-has_inline_data c).Else-not-is_regular) (inside (goal.at.returns-then-has_inline_data c).Else-is_past) count own)); fact_2 = ((c.requires.at_bound, omega arith), ) }
+    let few = inline_room _ (regular (goal.at.returns-then-has_inline_data c).Else-not-is_regular) own _ (inside (goal.at.returns-then-has_inline_data c).Else-is_past) in record { walked = reached_done (reached_to (reached_start _ _ _) (file_inline _ _ _ _ (read_of (goal.at.returns-then-has_inline_data c).After-inode_of-i) _ (regular (goal.at.returns-then-has_inline_data c).Else-not-is_regular) (inside (goal.at.returns-then-has_inline_data c).Else-is_past) count own)); data_in = (c.requires.at_bound, omega arith) }
 
 pub data_block-step-requires : goal.data_block-step-requires
 data_block-step-requires c =
@@ -69,4 +70,4 @@ data_block-step-requires c =
 pub returns : goal.returns
 returns c =
     let card = card_of c.args.image.now in
-    let count = c.count_in-bytes in record { fact = reached_all (to_block_lem (goal.at.returns c).After-addresses_in) (counted_walked card c.data_block-step.result.«data» count.result c.data_block-step.ensures.walked); fact_2 = ((c.data_block-step.ensures.data_in, omega (arith, count.ensures.2)), ) }
+    let count = c.count_in-bytes in record { walked = reached_all (to_block_lem (goal.at.returns c).After-addresses_in) (counted_walked card c.data_block-step.result.data count.result c.data_block-step.ensures.walked); data_in = (c.data_block-step.ensures.data_in, omega (arith, count.ensures.2)) }

@@ -33,9 +33,9 @@ pub returns-in-Stop : goal.returns-in-Stop
 unfolding file_walk
 returns-in-Stop c =
     let stopped = ap (found_of ((card_of c.args.image.now))) c.in-Stop.is in
-    record { fact = both_stop (at_file _ _ _) c.node_step-step.ensures.walked stopped; fact_2 = (tt, omega arith) }
+    record { walked = both_stop (at_file _ _ _) c.node_step-step.ensures.walked stopped; data_in = (tt, omega arith) }
 
 pub returns-in-At : goal.returns-in-At
 unfolding file_walk
 returns-in-At c =
-    record { fact = both_walked (at_file _ _ _) c.node_step-step.ensures.walked (value (goal.at.returns-in-At c).In-At) c.block_from_inode.ensures.fact; fact_2 = c.block_from_inode.ensures.fact_2 }
+    record { walked = both_walked (at_file _ _ _) c.node_step-step.ensures.walked (value (goal.at.returns-in-At c).In-At) c.block_from_inode.ensures.walked; data_in = c.block_from_inode.ensures.data_in }

@@ -8,9 +8,9 @@ use Rattle.pull.proofs.deliver.Goals as goal
 use Rattle.pull.proofs.deliver.Goals.{In-At}
 
 -- the block that is delivered lies on the card
-on_card_lem : (k : In-At) → k.NOFIELD-«data».given.0.0 < (card_of k.args.image.now).blocks
+on_card_lem : (k : In-At) → k.in-At.at < (card_of k.args.image.now).blocks
 on_card_lem k =
-    subst (DataIn (card_of k.args.image.now)) k.NOFIELD-«data».given.1 k.requires.data_in.0
+    subst (DataIn (card_of k.args.image.now)) k.in-At.is k.requires.data_in.0
 
 pub block_at-requires : goal.block_at-requires
 block_at-requires c =
@@ -26,4 +26,4 @@ returns-in-Hole c =
 
 pub returns-in-At : goal.returns-in-At
 returns-in-At c =
-    rw c.NOFIELD-«data».given.1 (refl, refl, c.put_block.ensures ∙ rw c.block_at.ensures)
+    rw c.in-At.is (refl, refl, c.put_block.ensures ∙ rw c.block_at.ensures)

@@ -22,10 +22,12 @@ tested k =
     counted_shape k.args.image.now k.args.path.now k.args.index ((lending k.args.block.now k.args.nodes.now k.args.blocks.now)) k.name_count-k.ensures
     k.in_shape.ensures k.lent_in_shape.ensures
 
-in_shape_lem : (k : After-open) → call_in_shape k.args.image.now k.args.path.now ((lending k.args.block.now k.args.nodes.now k.args.blocks.now)) ≡ true
-in_shape_lem k = (let it : call_in_shape k.args.image.now k.args.path.now ((lending k.args.block.now k.args.nodes.now k.args.blocks.now))
-    ≡ (k.in_shape.result && not (eqb k.name_count-k.result 0) && k.lent_in_shape.result) = counted_shape k.args.image.now k.args.path.now k.args.index ((lending k.args.block.now k.args.nodes.now k.args.blocks.now)) k.name_count-k.ensures
-    k.in_shape.ensures k.lent_in_shape.ensures in it) ∙ k.if-not-in_shape-k.false
+in_shape_lem : (k : After-open) → call_in_shape k.args.image.now k.args.path.now (lending k.args.block.now k.args.nodes.now k.args.blocks.now) ≡ true
+unfolding lent_in_shape
+in_shape_lem k =
+    let lent = lending k.args.block.now k.args.nodes.now k.args.blocks.now in
+    let counted = counted_shape k.args.image.now k.args.path.now k.args.index lent k.name_count-k.ensures in
+    counted k.in_shape.ensures k.lent_in_shape.ensures ∙ k.if-not-in_shape-k.false
 
 pub lent_in_shape-requires : goal.lent_in_shape-requires
 lent_in_shape-requires c =
@@ -39,19 +41,16 @@ returns-then-not-in_shape-k c =
 
 pub pull_opened-requires : goal.pull_opened-requires
 pull_opened-requires c =
-    let opens = sym c.NOFIELD-«open».ensures ∙ c.in-Opened.is in
-    let shape = in_shape_lem (goal.at.pull_opened-requires c).After-open in record { volume_in = image_volume _ _ opens; path_value = (
-        path_in_shape c.args.image.now c.args.path.now c.args.index ((lending c.args.block.now c.args.nodes.now c.args.blocks.now)) shape,
-        lent_shape c.args.image.now c.args.path.now c.args.index ((lending c.args.block.now c.args.nodes.now c.args.blocks.now)) shape,
-      ); blocks_value =  }
+    let opens = sym c.open.ensures ∙ c.in-Opened.is in
+    let shape = in_shape_lem (goal.at.pull_opened-requires c).After-open in record { volume_in = image_volume _ _ opens; path_value = path_in_shape c.args.image.now c.args.path.now c.args.index ((lending c.args.block.now c.args.nodes.now c.args.blocks.now)) shape; blocks_value = lent_shape c.args.image.now c.args.path.now c.args.index ((lending c.args.block.now c.args.nodes.now c.args.blocks.now)) shape }
 
 pub returns-in-Refused : goal.returns-in-Refused
 returns-in-Refused c =
-    let opens = sym c.NOFIELD-«open».ensures ∙ c.in-Refused.is in
+    let opens = sym c.open.ensures ∙ c.in-Refused.is in
     ap (λ (p : Pulled). result_in p ((lending c.args.block.now c.args.nodes.now c.args.blocks.now))) c.refused_pull-in-Refused.ensures
     ∙ sym (call_opens c.args.image.now c.args.path.now c.args.index ((lending c.args.block.now c.args.nodes.now c.args.blocks.now)) _ (in_shape_lem (goal.at.returns-in-Refused c).After-open) opens)
 
 pub returns-in-Opened : goal.returns-in-Opened
 returns-in-Opened c =
-    let opens = sym c.NOFIELD-«open».ensures ∙ c.in-Opened.is in
+    let opens = sym c.open.ensures ∙ c.in-Opened.is in
     c.pull_opened.ensures ∙ sym (call_opens c.args.image.now c.args.path.now c.args.index ((lending c.args.block.now c.args.nodes.now c.args.blocks.now)) _ (in_shape_lem (goal.at.returns-in-Opened c).After-open) opens)

@@ -14,17 +14,17 @@ walk_to-step-requires c =
 
 pub deliver-done-requires : goal.deliver-done-requires
 deliver-done-requires c =
-    record { data_in = c.walk_to-step.ensures.fact_2; buffer_len = block_room _ _ c.requires.blocks_value }
+    record { data_in = c.walk_to-step.ensures.data_in; buffer_len = block_room _ _ c.requires.blocks_value }
 
 pub overflow_cast-result : goal.overflow_cast-result
 overflow_cast-result c =
-    let few = left_few c.walk_to-step.ensures.fact (pull_within _ _ _) in
+    let few = left_few c.walk_to-step.ensures.walked (pull_within _ _ _) in
     let most = parts_few _ c.requires.path_value in
     omega arith
 
 pub overflow_cast-result-2 : goal.overflow_cast-result-2
 overflow_cast-result-2 c =
-    let few = left_few c.walk_to-step.ensures.fact (pull_within _ _ _) in
+    let few = left_few c.walk_to-step.ensures.walked (pull_within _ _ _) in
     let most = parts_few _ c.requires.path_value in
     omega arith
 
@@ -33,5 +33,5 @@ returns c =
     let put = c.deliver-done.ensures in
     let node-bytes = c.type_inv.nodes in
     let block-bytes = c.type_inv.blocks in
-    pull_written _ _ _ _ _ c.requires.blocks_value c.walk_to-step.ensures.fact
-    (λ k. (node-bytes k).ranges) (λ k. (block-bytes k).ranges) put.0 put.1 put.2
+    pull_written _ _ _ _ _ c.requires.blocks_value c.walk_to-step.ensures.walked
+    (λ k. (node-bytes k).fits) (λ k. (block-bytes k).fits) put.0 put.1 put.2

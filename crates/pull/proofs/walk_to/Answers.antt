@@ -23,10 +23,10 @@ block_of_file-requires c =
 pub returns-in-Stop : goal.returns-in-Stop
 unfolding pull_walk named_file_walk path_walk
 returns-in-Stop c =
-    record { fact = both_stop (file_walk _ _) c.find_path-step.ensures (ap entry_of c.in-Stop.is); fact_2 = (tt, omega arith) }
+    record { walked = both_stop (file_walk _ _) c.find_path-step.ensures (ap entry_of c.in-Stop.is); data_in = (tt, omega arith) }
 
 pub returns-in-Found : goal.returns-in-Found
 unfolding pull_walk named_file_walk path_walk
 returns-in-Found c =
     let found = ap entry_of c.in-Found.is in
-    record { fact = both_walked (file_walk _ _) c.find_path-step.ensures found c.block_of_file.ensures.fact; fact_2 = c.block_of_file.ensures.fact_2 }
+    record { walked = both_walked (file_walk _ _) c.find_path-step.ensures found c.block_of_file.ensures.walked; data_in = c.block_of_file.ensures.data_in }
