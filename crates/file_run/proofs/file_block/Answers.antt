@@ -27,23 +27,19 @@ inside : (k : Else-is_past) → is_past k.args.i k.args.index ≡ false
 inside k = sym k.is_past.ensures ∙ k.if-is_past.false
 
 to_block_lem : (k : Else-has_inline_data) → let a = k.args in
-    (let a = k.args in
     let t = lists a.nodes.now a.blocks.now a.counts in
-    Reached (image_view a.image.now a.v)
-    (at_file (bounds_of a.v) a.index a.file.ino ((card_of a.image.now).block a.file.inode)) t rest t) (and_then (file_block_walk (card_of a.image.now) a.v a.file a.index) (counted k.count_in-bytes.result))
+    Reached (image_view a.image.now a.v) (at_file (bounds_of a.v) a.index a.file.ino ((card_of a.image.now).block a.file.inode)) t
+    (and_then (file_block_walk (card_of a.image.now) a.v a.file a.index) (counted k.count_in-bytes.result)) t
 to_block_lem k =
-    let f = (let it : let a = k.args in RegularFile (card_of a.image.now) a.file a.i = k.requires.regular_file in it) in
+    let f = k.requires.regular_file in
     let apart = sym k.has_inline_data.ensures ∙ k.if-has_inline_data.false in
-    reached_to (reached_start _ _ _)
-    (file_block _ _ _ _ f.inode_is _ f.regular ((let it : is_past k.args.i k.args.index ≡ false = sym k.is_past.ensures ∙ k.if-is_past.false in it)) k.count_in-bytes.ensures.0 _ apart f.addresses_are)
+    let within = sym k.is_past.ensures ∙ k.if-is_past.false in
+    reached_to (reached_start _ _ _) (file_block _ _ _ _ f.inode_is _ f.regular within k.count_in-bytes.ensures.0 _ apart f.addresses_are)
 
 pub returns-then-is_past : goal.returns-then-is_past
 returns-then-is_past c =
     let f = file_of_lem (goal.at.returns-then-is_past c).Start in
-    let past = sym c.is_past.ensures ∙ c.if-is_past.true in let whole = (
-      reached_done (reached_to (reached_start _ _ _) (file_past _ _ _ _ f.inode_is f.regular past)),
-      ((tt, omega arith), (keeps_none c.no_leaf.ensures, λ none. absurd none)),
-    ) in record { walked = whole.0; data_in = whole.1.0; keeps_2 = whole.1.1.0; index_bound = whole.1.1.1 }
+    let past = sym c.is_past.ensures ∙ c.if-is_past.true in record { walked = reached_done (reached_to (reached_start _ _ _) (file_past _ _ _ _ f.inode_is f.regular past)); data_in = (tt, omega arith); keeps_2 = keeps_none c.no_leaf.ensures; index_bound = (λ none. absurd none) }
 
 pub count_in-bytes-requires : goal.count_in-bytes-requires
 count_in-bytes-requires c =
@@ -54,10 +50,7 @@ returns-then-has_inline_data c =
     let f = file_of_lem (goal.at.returns-then-has_inline_data c).Start in
     let own = sym c.has_inline_data.ensures ∙ c.if-has_inline_data.true in
     let count = c.count_in-bytes.ensures.0 in
-    let few = inline_room _ f.regular own _ (inside (goal.at.returns-then-has_inline_data c).Else-is_past) in let whole = (
-      reached_done (reached_to (reached_start _ _ _) (file_inline _ _ _ _ f.inode_is _ f.regular (inside (goal.at.returns-then-has_inline_data c).Else-is_past) count own)),
-      ((f.in_card.0, omega arith), (keeps_none c.no_leaf-then-has_inline_data.ensures, λ _. inside_near _ _ (inside (goal.at.returns-then-has_inline_data c).Else-is_past))),
-    ) in record { walked = whole.0; data_in = whole.1.0; keeps_2 = whole.1.1.0; index_bound = whole.1.1.1 }
+    let few = inline_room _ f.regular own _ (inside (goal.at.returns-then-has_inline_data c).Else-is_past) in record { walked = reached_done (reached_to (reached_start _ _ _) (file_inline _ _ _ _ f.inode_is _ f.regular (inside (goal.at.returns-then-has_inline_data c).Else-is_past) count own)); data_in = (f.in_card.0, omega arith); keeps_2 = keeps_none c.no_leaf-then-has_inline_data.ensures; index_bound = (λ _. inside_near _ _ (inside (goal.at.returns-then-has_inline_data c).Else-is_past)) }
 
 pub next_block-step-requires : goal.next_block-step-requires
 next_block-step-requires c =
@@ -66,7 +59,4 @@ next_block-step-requires c =
 pub returns : goal.returns
 returns c =
     let card = card_of c.args.image.now in
-    let count = c.count_in-bytes in let whole = (
-      reached_all (to_block_lem (goal.at.returns c).Else-has_inline_data) (counted_walked card c.next_block-step.result.«data» count.result c.next_block-step.ensures.walked),
-      ((c.next_block-step.ensures.data_in, omega (arith, count.ensures.2)), (c.next_block-step.ensures.keeps_2, λ _. inside_near _ _ (inside (goal.at.returns c).Else-is_past))),
-    ) in record { walked = whole.0; data_in = whole.1.0; keeps_2 = whole.1.1.0; index_bound = whole.1.1.1 }
+    let count = c.count_in-bytes in record { walked = reached_all (to_block_lem (goal.at.returns c).Else-has_inline_data) (counted_walked card c.next_block-step.result.data count.result c.next_block-step.ensures.walked); data_in = (c.next_block-step.ensures.data_in, omega (arith, count.ensures.2)); keeps_2 = c.next_block-step.ensures.keeps_2; index_bound = (λ _. inside_near _ _ (inside (goal.at.returns c).Else-is_past)) }

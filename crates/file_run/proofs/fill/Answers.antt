@@ -14,12 +14,12 @@ use Rattle.file_run.proofs.Found.{block_of, found_stands}
 use Rattle.file_run.proofs.Turns.{Turn, turn_start, turn_fits, turn_stop, turn_next, turn_end}
 use borrow.Author.Rules.{rules}
 use Rattle.file_run.proofs.fill.Goals as goal
-use Rattle.file_run.proofs.fill.Goals.{Joined-data}
+use Rattle.file_run.proofs.fill.Goals.{Joined-data, in-Hole, in-At}
 
 -- ---- what is known there
-stands : (k : Joined-data) → Stands k.file_block-step.result.«data»
+stands : (k : Joined-data) → Stands k.file_block-step.result.data
 stands k =
-    ⊎_elim (λ h. subst Stands (sym h.1.given.1) tt) (λ h. subst Stands (sym h.1.given.1) tt) k.match-data.branch
+    elim k.match-data.branch [ in-Hole w ↦ subst Stands (sym w.in-Hole.is) tt | in-At w ↦ subst Stands (sym w.in-At.is) tt ]
 
 value : (k : Joined-data) → let r = k.file_block-step.result in
     block_found ((card_of k.args.image.now)) r.«data» r.start r.bytes ≡ ok (block_of ((card_of k.args.image.now)) r.«data» r.start r.bytes)
@@ -37,7 +37,7 @@ file_block-step-requires c =
 pub returns-in-Stop : goal.returns-in-Stop
 returns-in-Stop c =
     let r = c.file_block-step.result in
-    let told = ap (λ (x : Data). block_found ((card_of c.args.image.now)) x r.start r.bytes) c.NOFIELD-«data».given.1 in
+    let told = ap (λ (x : Data). block_found ((card_of c.args.image.now)) x r.start r.bytes) c.in-Stop.is in
     turn_stop c.loop-k.invariant c.loop-k-test.true c.file_block-step.ensures.walked told
 
 pub overflow_cast-k : goal.overflow_cast-k
@@ -75,7 +75,7 @@ loop-k-preserved c =
     let at = 4096 * c.loop-k.k in
     let buffer = c.loop-k.buffer in
     turn_next c.loop-k.invariant c.loop-k-test.true c.file_block-step.ensures.walked (value (goal.at.loop-k-preserved c).Joined-data) c.file_block-step.ensures.keeps_2
-    c.requires.room_for c.put_at-last.auto.1.1.1.1.0 (c.put_at-last.ensures.0 ∙ ap count_of (value (goal.at.loop-k-preserved c).Joined-data))
+    c.requires.room_for c.put_at-last.auto.buffer (c.put_at-last.ensures.0 ∙ ap count_of (value (goal.at.loop-k-preserved c).Joined-data))
     (c.put_at-last.ensures.1 ∙ ap (λ (o : Outcome Block). put_at at (buffer_after o (take 4096 (drop at buffer))) buffer) (value (goal.at.loop-k-preserved c).Joined-data))
 
 pub returns : goal.returns

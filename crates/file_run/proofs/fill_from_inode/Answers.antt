@@ -30,13 +30,4 @@ returns-then-not-is_regular c =
 
 pub fill-requires : goal.fill-requires
 fill-requires c =
-    let held = c.addresses_in.ensures in let whole = (
-      c.requires.fits,
-      (
-        c.requires.volume_in,
-        (
-          record { in_card = (c.requires.at_bound, held.1); inode_is = read_of (goal.at.fill-requires c).After-inode_of-i; regular = regular (goal.at.fill-requires c).Else-not-is_regular; addresses_are = held.0 },
-          c.requires.room_for,
-        ),
-      ),
-    ) in record { fits = whole.0; volume_in = whole.1.0; regular_file = whole.1.1.0; room_for = whole.1.1.1 }
+    let held = c.addresses_in.ensures in record { fits = c.requires.fits; volume_in = c.requires.volume_in; regular_file = record { in_card = (c.requires.at_bound, held.1); inode_is = read_of (goal.at.fill-requires c).After-inode_of-i; regular = regular (goal.at.fill-requires c).Else-not-is_regular; addresses_are = held.0 }; room_for = c.requires.room_for }

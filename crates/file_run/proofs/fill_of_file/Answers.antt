@@ -29,16 +29,16 @@ node_step-step-requires c =
 pub fill_from_inode-requires : goal.fill_from_inode-requires
 unfolding file_run_walk
 fill_from_inode-requires c =
-    record { fits = unless_fits ((let a = c.args in blocks_walk (bounds_of a.v) a.ino inode a.wanted a.index)) c.node_step-step.ensures.walked (value (goal.at.fill_from_inode-requires c).In-At) c.requires.fits; volume_in = c.requires.volume_in; at_bound = on_card_lem (goal.at.fill_from_inode-requires c).In-At; room_for = c.requires.room_for }
+    record { fits = unless_fits (λ (inode : List ℕ). let a = c.args in blocks_walk (bounds_of a.v) a.ino inode a.wanted a.index) c.node_step-step.ensures.walked (value (goal.at.fill_from_inode-requires c).In-At) c.requires.fits; volume_in = c.requires.volume_in; at_bound = on_card_lem (goal.at.fill_from_inode-requires c).In-At; room_for = c.requires.room_for }
 
 pub returns-in-Stop : goal.returns-in-Stop
 unfolding file_run_walk
 returns-in-Stop c =
-    unless_stop ((let a = c.args in blocks_walk (bounds_of a.v) a.ino inode a.wanted a.index)) c.node_step-step.ensures.walked
+    unless_stop (λ (inode : List ℕ). let a = c.args in blocks_walk (bounds_of a.v) a.ino inode a.wanted a.index) c.node_step-step.ensures.walked
     (ap (found_of ((card_of c.args.image.now))) c.in-Stop.is)
 
 pub returns-in-At : goal.returns-in-At
 unfolding file_run_walk
 returns-in-At c =
-    unless_filled ((let a = c.args in blocks_walk (bounds_of a.v) a.ino inode a.wanted a.index)) c.node_step-step.ensures.walked (value (goal.at.returns-in-At c).In-At)
+    unless_filled (λ (inode : List ℕ). let a = c.args in blocks_walk (bounds_of a.v) a.ino inode a.wanted a.index) c.node_step-step.ensures.walked (value (goal.at.returns-in-At c).In-At)
     c.fill_from_inode.ensures
