@@ -23,10 +23,13 @@ tested k =
     counted_run_shape k.args.image.now k.args.path.now k.args.index k.args.wanted ((lending k.args.buffer.now k.args.nodes.now k.args.blocks.now)) k.name_count-k.ensures
     k.in_shape.ensures k.run_in_shape.ensures
 
-in_shape_lem : (k : After-open) → run_call_in_shape k.args.image.now k.args.path.now k.args.wanted ((lending k.args.buffer.now k.args.nodes.now k.args.blocks.now)) ≡ true
-in_shape_lem k = (let it : run_call_in_shape k.args.image.now k.args.path.now k.args.wanted ((lending k.args.buffer.now k.args.nodes.now k.args.blocks.now))
-    ≡ (k.in_shape.result && not (eqb k.name_count-k.result 0) && k.run_in_shape.result) = counted_run_shape k.args.image.now k.args.path.now k.args.index k.args.wanted ((lending k.args.buffer.now k.args.nodes.now k.args.blocks.now)) k.name_count-k.ensures
-    k.in_shape.ensures k.run_in_shape.ensures in it) ∙ k.if-not-in_shape-k.false
+in_shape_lem : (k : After-open) → let lent = lending k.args.buffer.now k.args.nodes.now k.args.blocks.now in
+    run_call_in_shape k.args.image.now k.args.path.now k.args.wanted lent ≡ true
+unfolding run_in_shape
+in_shape_lem k =
+    let lent = lending k.args.buffer.now k.args.nodes.now k.args.blocks.now in
+    let counted = counted_run_shape k.args.image.now k.args.path.now k.args.index k.args.wanted lent k.name_count-k.ensures in
+    counted k.in_shape.ensures k.run_in_shape.ensures ∙ k.if-not-in_shape-k.false
 
 pub run_in_shape-requires : goal.run_in_shape-requires
 run_in_shape-requires c =
@@ -40,20 +43,17 @@ returns-then-not-in_shape-k c =
 
 pub run_opened-requires : goal.run_opened-requires
 run_opened-requires c =
-    let opens = sym c.NOFIELD-«open».ensures ∙ c.in-Opened.is in
-    let shape = in_shape_lem (goal.at.run_opened-requires c).After-open in record { volume_in = image_volume _ _ opens; path_value = (
-        run_path_shape c.args.image.now c.args.path.now c.args.index c.args.wanted ((lending c.args.buffer.now c.args.nodes.now c.args.blocks.now)) shape,
-        run_lent_shape c.args.image.now c.args.path.now c.args.index c.args.wanted ((lending c.args.buffer.now c.args.nodes.now c.args.blocks.now)) shape,
-      ); blocks_value =  }
+    let opens = sym c.open.ensures ∙ c.in-Opened.is in
+    let shape = in_shape_lem (goal.at.run_opened-requires c).After-open in record { volume_in = image_volume _ _ opens; path_value = run_path_shape c.args.image.now c.args.path.now c.args.index c.args.wanted ((lending c.args.buffer.now c.args.nodes.now c.args.blocks.now)) shape; blocks_value = run_lent_shape c.args.image.now c.args.path.now c.args.index c.args.wanted ((lending c.args.buffer.now c.args.nodes.now c.args.blocks.now)) shape }
 
 pub returns-in-Refused : goal.returns-in-Refused
 returns-in-Refused c =
-    let opens = sym c.NOFIELD-«open».ensures ∙ c.in-Refused.is in
+    let opens = sym c.open.ensures ∙ c.in-Refused.is in
     ap (λ (r : Run). run_result r ((lending c.args.buffer.now c.args.nodes.now c.args.blocks.now))) c.refused_run-in-Refused.ensures
     ∙ sym (run_opens c.args.image.now c.args.path.now c.args.index c.args.wanted ((lending c.args.buffer.now c.args.nodes.now c.args.blocks.now)) _ (in_shape_lem (goal.at.returns-in-Refused c).After-open) opens)
 
 pub returns-in-Opened : goal.returns-in-Opened
 returns-in-Opened c =
-    let opens = sym c.NOFIELD-«open».ensures ∙ c.in-Opened.is in
+    let opens = sym c.open.ensures ∙ c.in-Opened.is in
     c.run_opened.ensures
     ∙ sym (run_opens c.args.image.now c.args.path.now c.args.index c.args.wanted ((lending c.args.buffer.now c.args.nodes.now c.args.blocks.now)) _ (in_shape_lem (goal.at.returns-in-Opened c).After-open) opens)
