@@ -26,4 +26,5 @@ pub returns-then-is_newer : goal.returns-then-is_newer
 returns-then-is_newer c = rw (chosen_in_order, ← newer_by (goal.at.returns-then-is_newer c).After-is_newer, c.if-is_newer.true, c.first_passing.ensures)
 
 pub returns-else-is_newer : goal.returns-else-is_newer
-returns-else-is_newer c = rw (chosen_in_order, ← newer_by (goal.at.returns-else-is_newer c).After-is_newer, c.if-is_newer.false, c.first_passing-else-is_newer.ensures)
+returns-else-is_newer c = rw (chosen_in_order, ← newer_by (goal.at.returns-else-is_newer c).After-is_newer, c.if-is_newer.false,
+    c.first_passing-else-is_newer.ensures)

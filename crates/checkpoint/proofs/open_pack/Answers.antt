@@ -33,7 +33,11 @@ placed : (k : After-volume_of-volume) → let v = k.volume_of-volume.result in
 placed k =
     rw k.volume_of-volume.ensures
     (omega (arith, (let it : let cp = k.checkpoint_of-cp.result in
-    (2 ≤ cp.cp_pack_total_block_count) × (cp.cp_pack_total_block_count ≤ 512) = rw ((let it : let a = k.args in k.checkpoint_of-cp.result ≡ header_of (card_of a.image.now) a.start = rw k.block_at.ensures at k.checkpoint_of-cp.ensures in it)) (passing_total _ _ k.requires.start_value) in it), journal_inside_lem _ _ ((let it : maps_readable k.args.areas k.checkpoint_of-cp.result ≡ true = readable_maps _ _ ((let it : header_readable k.args.areas k.checkpoint_of-cp.result ≡ true = holds k.header_readable.ensures k.if-not-header_readable.false in it)) in it))), journal_at_most _)
+    (2 ≤ cp.cp_pack_total_block_count) × (cp.cp_pack_total_block_count ≤ 512) = rw (let it : let a = k.args in k.checkpoint_of-cp.result ≡ header_of
+    (card_of a.image.now) a.start = rw k.block_at.ensures at k.checkpoint_of-cp.ensures in it) (passing_total _ _ k.requires.start_value) in it),
+    journal_inside_lem _ _ (let it : maps_readable k.args.areas k.checkpoint_of-cp.result ≡ true = readable_maps _ _
+    (let it : header_readable k.args.areas k.checkpoint_of-cp.result ≡ true = holds k.header_readable.ensures k.if-not-header_readable.false in it) in it)),
+    journal_at_most _)
 
 pub checkpoint_of-cp-requires : goal.checkpoint_of-cp-requires
 checkpoint_of-cp-requires c =
@@ -45,7 +49,8 @@ header_readable-requires c =
 
 pub returns-then-not-header_readable : goal.returns-then-not-header_readable
 returns-then-not-header_readable c =
-    sym (header_refuses _ _ _ _ (read_of (goal.at.returns-then-not-header_readable c).After-checkpoint_of-cp) (fails c.header_readable.ensures c.if-not-header_readable.true))
+    sym (header_refuses _ _ _ _ (read_of (goal.at.returns-then-not-header_readable c).After-checkpoint_of-cp)
+    (fails c.header_readable.ensures c.if-not-header_readable.true))
 
 pub volume_of-volume-requires : goal.volume_of-volume-requires
 volume_of-volume-requires c =
@@ -54,19 +59,23 @@ volume_of-volume-requires c =
 
 pub journal_of-requires : goal.journal_of-requires
 journal_of-requires c =
-    let whole = placed c in record { journal_block_bound = whole.0; journal_at_bound = whole.1 }
+    let whole = placed c in
+    record { journal_block_bound = whole.0; journal_at_bound = whole.1 }
 
 pub journal_readable-requires : goal.journal_readable-requires
 journal_readable-requires c =
     let image = c.args.image.now in
-    rw c.journal_of.ensures (journal_room image c.volume_of-volume.result (placed (goal.at.journal_readable-requires c).After-volume_of-volume).0 (placed (goal.at.journal_readable-requires c).After-volume_of-volume).1)
+    rw c.journal_of.ensures (journal_room image c.volume_of-volume.result (placed (goal.at.journal_readable-requires c).After-volume_of-volume).0
+    (placed (goal.at.journal_readable-requires c).After-volume_of-volume).1)
 
 pub returns-then-not-journal_readable : goal.returns-then-not-journal_readable
 returns-then-not-journal_readable c =
     let journal = rw c.journal_of.ensures at c.journal_readable.ensures in
-    sym (journal_refuses _ _ _ _ (read_of (goal.at.returns-then-not-journal_readable c).After-checkpoint_of-cp) _ c.volume_of-volume.ensures (readable (goal.at.returns-then-not-journal_readable c).Else-not-header_readable) (fails journal c.if-not-journal_readable.true))
+    sym (journal_refuses _ _ _ _ (read_of (goal.at.returns-then-not-journal_readable c).After-checkpoint_of-cp) _ c.volume_of-volume.ensures
+    (readable (goal.at.returns-then-not-journal_readable c).Else-not-header_readable) (fails journal c.if-not-journal_readable.true))
 
 pub returns : goal.returns
 returns c =
     let journal = rw c.journal_of.ensures at c.journal_readable.ensures in
-    sym (pack_opens _ _ _ _ (read_of (goal.at.returns c).After-checkpoint_of-cp) _ c.volume_of-volume.ensures (readable (goal.at.returns c).Else-not-header_readable) (holds journal c.if-not-journal_readable.false))
+    sym (pack_opens _ _ _ _ (read_of (goal.at.returns c).After-checkpoint_of-cp) _ c.volume_of-volume.ensures
+    (readable (goal.at.returns c).Else-not-header_readable) (holds journal c.if-not-journal_readable.false))

@@ -22,11 +22,17 @@ slots-preserved c = (took_told _ _ _ c.slots.scan c.take_turn-step.result.scan c
 
 pub returns-in-Found : goal.returns-in-Found
 returns-in-Found c =
-    record { name_value = took_told _ _ _ c.slots.scan c.take_turn-step.result.scan c.take_turn-step.ensures.took c.in-Found.is; turns_bound = c.take_turn-step.ensures.turns_value.1 }
+    record {
+      name_value = took_told _ _ _ c.slots.scan c.take_turn-step.result.scan c.take_turn-step.ensures.took c.in-Found.is;
+      turns_bound = c.take_turn-step.ensures.turns_value.1;
+    }
 
 pub returns-in-Malformed : goal.returns-in-Malformed
 returns-in-Malformed c =
-    record { name_value = took_told _ _ _ c.slots.scan c.take_turn-step.result.scan c.take_turn-step.ensures.took c.in-Malformed.is; turns_bound = c.take_turn-step.ensures.turns_value.1 }
+    record {
+      name_value = took_told _ _ _ c.slots.scan c.take_turn-step.result.scan c.take_turn-step.ensures.took c.in-Malformed.is;
+      turns_bound = c.take_turn-step.ensures.turns_value.1;
+    }
 
 pub returns : goal.returns
 returns c =

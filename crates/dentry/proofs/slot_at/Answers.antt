@@ -41,8 +41,10 @@ same_at-requires c =
 pub returns-then-same_at : goal.returns-then-same_at
 returns-then-same_at c =
     let own = c.if-same_at.true in
-    sym (slot_match _ (entry (goal.at.returns-then-same_at c).Else-not-fits) c.get32.ensures c.if-get32-hash.false c.if-len-name.false c.same_at.ensures own c.get32-then-same_at.ensures)
+    sym (slot_match _ (entry (goal.at.returns-then-same_at c).Else-not-fits) c.get32.ensures c.if-get32-hash.false c.if-len-name.false c.same_at.ensures own
+    c.get32-then-same_at.ensures)
 
 pub returns : goal.returns
 returns c =
-    sym (other_bytes _ (entry (goal.at.returns c).Else-not-fits) c.get32.ensures c.if-get32-hash.false c.if-len-name.false c.same_at.ensures c.if-same_at.false)
+    sym (other_bytes _ (entry (goal.at.returns c).Else-not-fits) c.get32.ensures c.if-get32-hash.false c.if-len-name.false c.same_at.ensures
+    c.if-same_at.false)

@@ -22,8 +22,15 @@ returns-then-last-index c =
 
 pub data_block-requires : goal.data_block-requires
 data_block-requires c =
-    record { fits = fits_at c.requires.fits (reached_to (reached_start _ _ _) (not_inline _ _ _ _ _ c.if-inline.false)); volume_in = c.requires.volume_in; file_in = c.requires.file_in }
+    record {
+      fits = fits_at c.requires.fits (reached_to (reached_start _ _ _) (not_inline _ _ _ _ _ c.if-inline.false));
+      volume_in = c.requires.volume_in;
+      file_in = c.requires.file_in;
+    }
 
 pub returns : goal.returns
 returns c =
-    record { walked = reached_all (reached_to (reached_start _ _ _) (not_inline _ _ _ _ _ c.if-inline.false)) c.data_block.ensures.walked; data_in = c.data_block.ensures.data_in }
+    record {
+      walked = reached_all (reached_to (reached_start _ _ _) (not_inline _ _ _ _ _ c.if-inline.false)) c.data_block.ensures.walked;
+      data_in = c.data_block.ensures.data_in;
+    }

@@ -24,7 +24,11 @@ pub find_by-requires : goal.find_by-requires
 find_by-requires c =
     let small = c.requires.file_in in
     let table = subst (λ (dir : ℕ). IsTable dir c.level_0_blocks-firsts.result) (sym c.if-dir_level-eq0.true) c.level_0_blocks-firsts.ensures in
-    record { fits = fits_at c.requires.fits (levels_of (goal.at.find_by-requires c).Start); volume_in = c.requires.volume_in; file_in = (small.0, small.1, small.2, table) }
+    record {
+      fits = fits_at c.requires.fits (levels_of (goal.at.find_by-requires c).Start);
+      volume_in = c.requires.volume_in;
+      file_in = (small.0, small.1, small.2, table);
+    }
 
 pub returns-then-dir_level-eq0 : goal.returns-then-dir_level-eq0
 returns-then-dir_level-eq0 c =
@@ -33,7 +37,11 @@ returns-then-dir_level-eq0 c =
 pub find_by-requires-2 : goal.find_by-requires-2
 find_by-requires-2 c =
     let small = c.requires.file_in in
-    record { fits = fits_at c.requires.fits (levels_of (goal.at.find_by-requires-2 c).Start); volume_in = c.requires.volume_in; file_in = (small.0, small.1, small.2, c.first_blocks-firsts.ensures) }
+    record {
+      fits = fits_at c.requires.fits (levels_of (goal.at.find_by-requires-2 c).Start);
+      volume_in = c.requires.volume_in;
+      file_in = (small.0, small.1, small.2, c.first_blocks-firsts.ensures);
+    }
 
 pub returns : goal.returns
 returns c =

@@ -29,14 +29,14 @@ index : (b : In-bucket) → let k = b.bucket.k in
 index b = ap (λ (l : Level). l.bucket + b.bucket.k) b.level_at-here.ensures
 
 -- the block that was fetched lies in the card
-in_card_lem : (k : In-At) → k.in-At.address < ((card_of k.args.image.now)).blocks
+in_card_lem : (k : In-At) → k.in-At.address < (card_of k.args.image.now).blocks
 in_card_lem k =
-    subst (DataIn ((card_of k.args.image.now))) k.in-At.is k.fetch-step.ensures.data_in
+    subst (DataIn (card_of k.args.image.now)) k.in-At.is k.fetch-step.ensures.data_in
 
 -- and is the one whose slots are searched
-held_of : (k : After-block_at) → data_of ((card_of k.args.image.now)) k.fetch-step.result.data ≡ ok (held k.block_at.result.now)
+held_of : (k : After-block_at) → data_of (card_of k.args.image.now) k.fetch-step.result.data ≡ ok (held k.block_at.result.now)
 held_of k =
-    ap (data_of ((card_of k.args.image.now))) k.in-At.is ∙ ap (λ (l : List ℕ). ok (held l)) (sym k.block_at.ensures)
+    ap (data_of (card_of k.args.image.now)) k.in-At.is ∙ ap (λ (l : List ℕ). ok (held l)) (sym k.block_at.ensures)
 
 came : (s : At-slots) → {o : Sought} → let a = s.args in
     let w = wanted a.hash a.name.now in
@@ -69,12 +69,18 @@ overflow_add-bucket c =
 
 pub fetch-step-requires : goal.fetch-step-requires
 fetch-step-requires c =
-    record { fits = block_fits c.levels.invariant c.if-depth-level.false c.bucket.invariant (more (goal.at.fetch-step-requires c).In-bucket) (index (goal.at.fetch-step-requires c).In-bucket) c.requires.fits; volume_in = c.requires.volume_in; file_in = c.requires.file_in.0 }
+    record {
+      fits = block_fits c.levels.invariant c.if-depth-level.false c.bucket.invariant (more (goal.at.fetch-step-requires c).In-bucket)
+      (index (goal.at.fetch-step-requires c).In-bucket) c.requires.fits;
+      volume_in = c.requires.volume_in;
+      file_in = c.requires.file_in.0;
+    }
 
 pub bucket-preserved-in-Hole : goal.bucket-preserved-in-Hole
 bucket-preserved-in-Hole c =
-    let told = ap (data_of ((card_of c.args.image.now))) c.in-Hole.is in
-    bucket_hole c.bucket.invariant (more (goal.at.bucket-preserved-in-Hole c).In-bucket) (index (goal.at.bucket-preserved-in-Hole c).In-bucket) c.fetch-step.ensures.walked told
+    let told = ap (data_of (card_of c.args.image.now)) c.in-Hole.is in
+    bucket_hole c.bucket.invariant (more (goal.at.bucket-preserved-in-Hole c).In-bucket) (index (goal.at.bucket-preserved-in-Hole c).In-bucket)
+    c.fetch-step.ensures.walked told
 
 pub block_at-requires : goal.block_at-requires
 block_at-requires c =
@@ -92,7 +98,8 @@ slots-init c =
 pub bucket-preserved : goal.bucket-preserved
 bucket-preserved c =
     let none = came (goal.at.bucket-preserved c).At-slots (scanning_end c.slots.invariant c.slots-test.false).0 in
-    bucket_absent c.bucket.invariant (more (goal.at.bucket-preserved c).In-bucket) (index (goal.at.bucket-preserved c).In-bucket) c.fetch-step.ensures.walked (held_of (goal.at.bucket-preserved c).After-block_at) none
+    bucket_absent c.bucket.invariant (more (goal.at.bucket-preserved c).In-bucket) (index (goal.at.bucket-preserved c).In-bucket) c.fetch-step.ensures.walked
+    (held_of (goal.at.bucket-preserved c).After-block_at) none
 
 pub take_turn-step-requires : goal.take_turn-step-requires
 take_turn-step-requires c =
@@ -117,23 +124,26 @@ returns-then-depth-level c =
 
 pub returns-in-Stop : goal.returns-in-Stop
 returns-in-Stop c =
-    let told = ap (data_of ((card_of c.args.image.now))) c.in-Stop.is in
+    let told = ap (data_of (card_of c.args.image.now)) c.in-Stop.is in
     levels_out c.levels.invariant c.if-depth-level.false
-    (bucket_stop c.bucket.invariant (more (goal.at.returns-in-Stop c).In-bucket) (index (goal.at.returns-in-Stop c).In-bucket) c.fetch-step.ensures.walked told)
+    (bucket_stop c.bucket.invariant (more (goal.at.returns-in-Stop c).In-bucket) (index (goal.at.returns-in-Stop c).In-bucket) c.fetch-step.ensures.walked
+    told)
 
 pub returns-in-Found : goal.returns-in-Found
 returns-in-Found c =
     let turn = took_told _ _ _ c.slots.scan c.take_turn-step.result.scan c.take_turn-step.ensures.took c.in-Found.is in
     let told = came (goal.at.returns-in-Found c).At-slots turn.0 in
     levels_out c.levels.invariant c.if-depth-level.false
-    (bucket_found c.bucket.invariant (more (goal.at.returns-in-Found c).In-bucket) (index (goal.at.returns-in-Found c).In-bucket) c.fetch-step.ensures.walked (held_of (goal.at.returns-in-Found c).After-block_at) told)
+    (bucket_found c.bucket.invariant (more (goal.at.returns-in-Found c).In-bucket) (index (goal.at.returns-in-Found c).In-bucket) c.fetch-step.ensures.walked
+    (held_of (goal.at.returns-in-Found c).After-block_at) told)
 
 pub returns-in-Malformed : goal.returns-in-Malformed
 returns-in-Malformed c =
     let turn = took_told _ _ _ c.slots.scan c.take_turn-step.result.scan c.take_turn-step.ensures.took c.in-Malformed.is in
     let told = came (goal.at.returns-in-Malformed c).At-slots turn.0 in
     levels_out c.levels.invariant c.if-depth-level.false
-    (bucket_malformed c.bucket.invariant (more (goal.at.returns-in-Malformed c).In-bucket) (index (goal.at.returns-in-Malformed c).In-bucket) c.fetch-step.ensures.walked (held_of (goal.at.returns-in-Malformed c).After-block_at) told)
+    (bucket_malformed c.bucket.invariant (more (goal.at.returns-in-Malformed c).In-bucket) (index (goal.at.returns-in-Malformed c).In-bucket)
+    c.fetch-step.ensures.walked (held_of (goal.at.returns-in-Malformed c).After-block_at) told)
 
 pub shape_of-nodes-in-Found : goal.shape_of-nodes-in-Found
 shape_of-nodes-in-Found c =

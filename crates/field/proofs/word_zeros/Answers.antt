@@ -9,7 +9,7 @@ use borrow.Author.Rules.{rules}
 use Rattle.field.proofs.word_zeros.Goals as goal
 use Rattle.field.proofs.word_zeros.Goals.{After-get64}
 
-bytes : (r : After-get64) → (k : ℕ) → get_or (r.args.map.now) k 0 < 256
+bytes : (r : After-get64) → (k : ℕ) → get_or r.args.map.now k 0 < 256
 bytes r k = (r.type_inv.map k).fits
 
 pub returns-then-word-eq2 : goal.returns-then-word-eq2
@@ -18,7 +18,8 @@ returns-then-word-eq2 c =
 
 pub returns-then-zeros-most : goal.returns-then-zeros-most
 returns-then-zeros-most c =
-    rw c.get64.ensures (word_ends c.args.map.now (bytes (goal.at.returns-then-zeros-most c).After-get64) c.args.b (rw c.get64.ensures at c.if-zeros-most.true))
+    rw c.get64.ensures (word_ends c.args.map.now (bytes (goal.at.returns-then-zeros-most c).After-get64) c.args.b
+    (rw c.get64.ensures at c.if-zeros-most.true))
 
 pub returns : goal.returns
 returns c =

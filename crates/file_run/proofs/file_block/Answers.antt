@@ -39,7 +39,13 @@ to_block_lem k =
 pub returns-then-is_past : goal.returns-then-is_past
 returns-then-is_past c =
     let f = file_of_lem (goal.at.returns-then-is_past c).Start in
-    let past = sym c.is_past.ensures ∙ c.if-is_past.true in record { walked = reached_done (reached_to (reached_start _ _ _) (file_past _ _ _ _ f.inode_is f.regular past)); data_in = (tt, omega arith); keeps_2 = keeps_none c.no_leaf.ensures; index_bound = (λ none. absurd none) }
+    let past = sym c.is_past.ensures ∙ c.if-is_past.true in
+    record {
+      walked = reached_done (reached_to (reached_start _ _ _) (file_past _ _ _ _ f.inode_is f.regular past));
+      data_in = (tt, omega arith);
+      keeps_2 = keeps_none c.no_leaf.ensures;
+      index_bound = (λ none. absurd none);
+    }
 
 pub count_in-bytes-requires : goal.count_in-bytes-requires
 count_in-bytes-requires c =
@@ -50,13 +56,32 @@ returns-then-has_inline_data c =
     let f = file_of_lem (goal.at.returns-then-has_inline_data c).Start in
     let own = sym c.has_inline_data.ensures ∙ c.if-has_inline_data.true in
     let count = c.count_in-bytes.ensures.0 in
-    let few = inline_room _ f.regular own _ (inside (goal.at.returns-then-has_inline_data c).Else-is_past) in record { walked = reached_done (reached_to (reached_start _ _ _) (file_inline _ _ _ _ f.inode_is _ f.regular (inside (goal.at.returns-then-has_inline_data c).Else-is_past) count own)); data_in = (f.in_card.0, omega arith); keeps_2 = keeps_none c.no_leaf-then-has_inline_data.ensures; index_bound = (λ _. inside_near _ _ (inside (goal.at.returns-then-has_inline_data c).Else-is_past)) }
+    let few = inline_room _ f.regular own _ (inside (goal.at.returns-then-has_inline_data c).Else-is_past) in
+    record {
+      walked = reached_done (reached_to (reached_start _ _ _)
+      (file_inline _ _ _ _ f.inode_is _ f.regular (inside (goal.at.returns-then-has_inline_data c).Else-is_past) count own));
+      data_in = (f.in_card.0, omega arith);
+      keeps_2 = keeps_none c.no_leaf-then-has_inline_data.ensures;
+      index_bound = (λ _. inside_near _ _ (inside (goal.at.returns-then-has_inline_data c).Else-is_past));
+    }
 
 pub next_block-step-requires : goal.next_block-step-requires
 next_block-step-requires c =
-    record { fits = fits_first _ (fits_at c.requires.fits (to_block_lem (goal.at.next_block-step-requires c).Else-has_inline_data)); volume_in = c.requires.volume_in; file_in = (file_of_lem (goal.at.next_block-step-requires c).Start).in_card; keeps = c.requires.keeps }
+    record {
+      fits = fits_first _ (fits_at c.requires.fits (to_block_lem (goal.at.next_block-step-requires c).Else-has_inline_data));
+      volume_in = c.requires.volume_in;
+      file_in = (file_of_lem (goal.at.next_block-step-requires c).Start).in_card;
+      keeps = c.requires.keeps;
+    }
 
 pub returns : goal.returns
 returns c =
     let card = card_of c.args.image.now in
-    let count = c.count_in-bytes in record { walked = reached_all (to_block_lem (goal.at.returns c).Else-has_inline_data) (counted_walked card c.next_block-step.result.data count.result c.next_block-step.ensures.walked); data_in = (c.next_block-step.ensures.data_in, omega (arith, count.ensures.2)); keeps_2 = c.next_block-step.ensures.keeps_2; index_bound = (λ _. inside_near _ _ (inside (goal.at.returns c).Else-is_past)) }
+    let count = c.count_in-bytes in
+    record {
+      walked = reached_all (to_block_lem (goal.at.returns c).Else-has_inline_data)
+      (counted_walked card c.next_block-step.result.data count.result c.next_block-step.ensures.walked);
+      data_in = (c.next_block-step.ensures.data_in, omega (arith, count.ensures.2));
+      keeps_2 = c.next_block-step.ensures.keeps_2;
+      index_bound = (λ _. inside_near _ _ (inside (goal.at.returns c).Else-is_past));
+    }

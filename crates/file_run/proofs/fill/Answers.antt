@@ -22,8 +22,8 @@ stands k =
     elim k.match-data.branch [ in-Hole w ↦ subst Stands (sym w.in-Hole.is) tt | in-At w ↦ subst Stands (sym w.in-At.is) tt ]
 
 value : (k : Joined-data) → let r = k.file_block-step.result in
-    block_found ((card_of k.args.image.now)) r.«data» r.start r.bytes ≡ ok (block_of ((card_of k.args.image.now)) r.«data» r.start r.bytes)
-value k = let r = k.file_block-step.result in found_stands ((card_of k.args.image.now)) r.«data» r.start r.bytes (stands k)
+    block_found (card_of k.args.image.now) r.«data» r.start r.bytes ≡ ok (block_of (card_of k.args.image.now) r.«data» r.start r.bytes)
+value k = let r = k.file_block-step.result in found_stands (card_of k.args.image.now) r.«data» r.start r.bytes (stands k)
 
 pub loop-k-init : goal.loop-k-init
 loop-k-init c =
@@ -32,12 +32,17 @@ loop-k-init c =
 pub file_block-step-requires : goal.file_block-step-requires
 file_block-step-requires c =
     let inv = c.loop-k.invariant in
-    record { fits = turn_fits inv c.loop-k-test.true c.requires.fits; volume_in = c.requires.volume_in; regular_file = c.requires.regular_file; keeps = inv.keeps }
+    record {
+      fits = turn_fits inv c.loop-k-test.true c.requires.fits;
+      volume_in = c.requires.volume_in;
+      regular_file = c.requires.regular_file;
+      keeps = inv.keeps;
+    }
 
 pub returns-in-Stop : goal.returns-in-Stop
 returns-in-Stop c =
     let r = c.file_block-step.result in
-    let told = ap (λ (x : Data). block_found ((card_of c.args.image.now)) x r.start r.bytes) c.in-Stop.is in
+    let told = ap (λ (x : Data). block_found (card_of c.args.image.now) x r.start r.bytes) c.in-Stop.is in
     turn_stop c.loop-k.invariant c.loop-k-test.true c.file_block-step.ensures.walked told
 
 pub overflow_cast-k : goal.overflow_cast-k
@@ -74,9 +79,11 @@ pub loop-k-preserved : goal.loop-k-preserved
 loop-k-preserved c =
     let at = 4096 * c.loop-k.k in
     let buffer = c.loop-k.buffer in
-    turn_next c.loop-k.invariant c.loop-k-test.true c.file_block-step.ensures.walked (value (goal.at.loop-k-preserved c).Joined-data) c.file_block-step.ensures.keeps_2
+    turn_next c.loop-k.invariant c.loop-k-test.true c.file_block-step.ensures.walked (value (goal.at.loop-k-preserved c).Joined-data)
+    c.file_block-step.ensures.keeps_2
     c.requires.room_for c.put_at-last.auto.buffer (c.put_at-last.ensures.0 ∙ ap count_of (value (goal.at.loop-k-preserved c).Joined-data))
-    (c.put_at-last.ensures.1 ∙ ap (λ (o : Outcome Block). put_at at (buffer_after o (take 4096 (drop at buffer))) buffer) (value (goal.at.loop-k-preserved c).Joined-data))
+    (c.put_at-last.ensures.1 ∙ ap (λ (o : Outcome Block). put_at at (buffer_after o (take 4096 (drop at buffer))) buffer)
+    (value (goal.at.loop-k-preserved c).Joined-data))
 
 pub returns : goal.returns
 returns c =

@@ -26,8 +26,16 @@ pub returns-then-not-is_regular : goal.returns-then-not-is_regular
 returns-then-not-is_regular c =
     let other = sym c.is_regular.ensures ∙ c.if-not-is_regular.true in
     let some = c.requires.room_for.some in
-    none_stands (reached_done (reached_to (reached_start _ _ _) (other_kind _ _ _ (read_of (goal.at.returns-then-not-is_regular c).After-inode_of-i) other _ _ some)))
+    none_stands (reached_done (reached_to (reached_start _ _ _)
+    (other_kind _ _ _ (read_of (goal.at.returns-then-not-is_regular c).After-inode_of-i) other _ _ some)))
 
 pub fill-requires : goal.fill-requires
 fill-requires c =
-    let held = c.addresses_in.ensures in record { fits = c.requires.fits; volume_in = c.requires.volume_in; regular_file = record { in_card = (c.requires.at_bound, held.1); inode_is = read_of (goal.at.fill-requires c).After-inode_of-i; regular = regular (goal.at.fill-requires c).Else-not-is_regular; addresses_are = held.0 }; room_for = c.requires.room_for }
+    let held = c.addresses_in.ensures in
+    record {
+      fits = c.requires.fits;
+      volume_in = c.requires.volume_in;
+      regular_file = record { in_card = (c.requires.at_bound, held.1); inode_is = read_of (goal.at.fill-requires c).After-inode_of-i; regular = regular
+      (goal.at.fill-requires c).Else-not-is_regular; addresses_are = held.0 };
+      room_for = c.requires.room_for;
+    }

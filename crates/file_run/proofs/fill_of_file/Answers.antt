@@ -14,11 +14,11 @@ use borrow.Author.Rules.{rules}
 use Rattle.file_run.proofs.fill_of_file.Goals as goal
 use Rattle.file_run.proofs.fill_of_file.Goals.{In-At}
 
-value : (k : In-At) → found_of ((card_of k.args.image.now)) k.node_step-step.result.found ≡ ok (((card_of k.args.image.now)).block k.in-At.at)
-value k = ap (found_of ((card_of k.args.image.now))) k.in-At.is
+value : (k : In-At) → found_of (card_of k.args.image.now) k.node_step-step.result.found ≡ ok ((card_of k.args.image.now).block k.in-At.at)
+value k = ap (found_of (card_of k.args.image.now)) k.in-At.is
 
-on_card_lem : (k : In-At) → k.in-At.at < ((card_of k.args.image.now)).blocks
-on_card_lem k = subst (FoundIn ((card_of k.args.image.now))) k.in-At.is k.node_step-step.ensures.found_in
+on_card_lem : (k : In-At) → k.in-At.at < (card_of k.args.image.now).blocks
+on_card_lem k = subst (FoundIn (card_of k.args.image.now)) k.in-At.is k.node_step-step.ensures.found_in
 
 -- ---- the needs
 pub node_step-step-requires : goal.node_step-step-requires
@@ -29,16 +29,23 @@ node_step-step-requires c =
 pub fill_from_inode-requires : goal.fill_from_inode-requires
 unfolding file_run_walk
 fill_from_inode-requires c =
-    record { fits = unless_fits (λ (inode : List ℕ). let a = c.args in blocks_walk (bounds_of a.v) a.ino inode a.wanted a.index) c.node_step-step.ensures.walked (value (goal.at.fill_from_inode-requires c).In-At) c.requires.fits; volume_in = c.requires.volume_in; at_bound = on_card_lem (goal.at.fill_from_inode-requires c).In-At; room_for = c.requires.room_for }
+    record {
+      fits = unless_fits (λ (inode : List ℕ). let a = c.args in blocks_walk (bounds_of a.v) a.ino inode a.wanted a.index) c.node_step-step.ensures.walked
+      (value (goal.at.fill_from_inode-requires c).In-At) c.requires.fits;
+      volume_in = c.requires.volume_in;
+      at_bound = on_card_lem (goal.at.fill_from_inode-requires c).In-At;
+      room_for = c.requires.room_for;
+    }
 
 pub returns-in-Stop : goal.returns-in-Stop
 unfolding file_run_walk
 returns-in-Stop c =
     unless_stop (λ (inode : List ℕ). let a = c.args in blocks_walk (bounds_of a.v) a.ino inode a.wanted a.index) c.node_step-step.ensures.walked
-    (ap (found_of ((card_of c.args.image.now))) c.in-Stop.is)
+    (ap (found_of (card_of c.args.image.now)) c.in-Stop.is)
 
 pub returns-in-At : goal.returns-in-At
 unfolding file_run_walk
 returns-in-At c =
-    unless_filled (λ (inode : List ℕ). let a = c.args in blocks_walk (bounds_of a.v) a.ino inode a.wanted a.index) c.node_step-step.ensures.walked (value (goal.at.returns-in-At c).In-At)
+    unless_filled (λ (inode : List ℕ). let a = c.args in blocks_walk (bounds_of a.v) a.ino inode a.wanted a.index) c.node_step-step.ensures.walked
+    (value (goal.at.returns-in-At c).In-At)
     c.fill_from_inode.ensures

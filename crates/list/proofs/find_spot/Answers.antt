@@ -9,7 +9,8 @@ use Rattle.list.proofs.find_spot.Goals as goal
 use Rattle.list.proofs.find_spot.Goals.{After-least-gap}
 
 -- ---- what is known there
-inside : (k : After-least-gap) → (k.loop-low.low ≤ (k.loop-low.high - 1 - k.least-gap.result)) × ((k.loop-low.high - 1 - k.least-gap.result) < k.loop-low.high)
+inside : (k : After-least-gap) → (k.loop-low.low ≤ (k.loop-low.high - 1 - k.least-gap.result))
+    × ((k.loop-low.high - 1 - k.least-gap.result) < k.loop-low.high)
 inside k =
     let more = k.loop-low-test.true in
     let half = k.least-gap.ensures in
@@ -46,7 +47,8 @@ get32-y-requires c =
 
 pub returns-then-y-x : goal.returns-then-y-x
 returns-then-y-x c =
-    between_there c.loop-low.invariant c.requires.rising ((c.loop-low.high - 1 - c.least-gap.result)) (inside (goal.at.returns-then-y-x c).After-least-gap).1 (sym c.get32-y.ensures ∙ c.if-y-x.true)
+    between_there c.loop-low.invariant c.requires.rising (c.loop-low.high - 1 - c.least-gap.result) (inside (goal.at.returns-then-y-x c).After-least-gap).1
+    (sym c.get32-y.ensures ∙ c.if-y-x.true)
 
 pub overflow_mul-reach : goal.overflow_mul-reach
 overflow_mul-reach c =
@@ -74,7 +76,8 @@ loop-low-smaller-then-y-x-2 c =
 pub loop-low-preserved-then-y-x-2 : goal.loop-low-preserved-then-y-x-2
 loop-low-preserved-then-y-x-2 c =
     let less = c.if-y-x-2.true in
-    between_low c.loop-low.invariant ((c.loop-low.high - 1 - c.least-gap.result)) (inside (goal.at.loop-low-preserved-then-y-x-2 c).After-least-gap).0 (inside (goal.at.loop-low-preserved-then-y-x-2 c).After-least-gap).1 (omega (arith, c.get32-y.ensures))
+    between_low c.loop-low.invariant (c.loop-low.high - 1 - c.least-gap.result) (inside (goal.at.loop-low-preserved-then-y-x-2 c).After-least-gap).0
+    (inside (goal.at.loop-low-preserved-then-y-x-2 c).After-least-gap).1 (omega (arith, c.get32-y.ensures))
 
 pub loop-low-smaller : goal.loop-low-smaller
 loop-low-smaller c =
@@ -85,7 +88,8 @@ pub loop-low-preserved : goal.loop-low-preserved
 loop-low-preserved c =
     let other = c.if-y-x.false in
     let least = c.if-y-x-2.false in
-    between_high c.loop-low.invariant ((c.loop-low.high - 1 - c.least-gap.result)) (inside (goal.at.loop-low-preserved c).After-least-gap).0 (inside (goal.at.loop-low-preserved c).After-least-gap).1 (omega (arith, c.get32-y.ensures))
+    between_high c.loop-low.invariant (c.loop-low.high - 1 - c.least-gap.result) (inside (goal.at.loop-low-preserved c).After-least-gap).0
+    (inside (goal.at.loop-low-preserved c).After-least-gap).1 (omega (arith, c.get32-y.ensures))
 
 pub returns : goal.returns
 returns c =

@@ -39,4 +39,7 @@ insert-requires c =
 
 pub returns : goal.returns
 returns c =
-    record { walked = reached_done (reached_read (to_read (goal.at.returns c).Else-not-in_main) c.insert.ensures); data_in = in_card_lem _ (inside (goal.at.returns c).Else-not-in_main) c.requires.volume_in }
+    record {
+      walked = reached_done (reached_read (to_read (goal.at.returns c).Else-not-in_main) c.insert.ensures);
+      data_in = in_card_lem _ (inside (goal.at.returns c).Else-not-in_main) c.requires.volume_in;
+    }

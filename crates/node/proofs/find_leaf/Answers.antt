@@ -28,7 +28,8 @@ found k = k.way_to-way.ensures ∙ ap (λ (p : Place). in_array (way_of p)) k.fi
 small : (k : Else-way-eq0) → slot_at k.way_to-way.result 0 < 928
 small k =
     let most = k.requires.file_in.1 in
-    let low = way_inode_slot _ _ ((let it : let a = k.args in k.way_to-way.result ≡ in_array (way_of (place_of a.file.addresses a.index)) = k.way_to-way.ensures ∙ ap (λ (p : Place). in_array (way_of p)) k.find_place-p.ensures in it)) in
+    let low = way_inode_slot _ _ (let it : let a = k.args in k.way_to-way.result ≡ in_array
+    (way_of (place_of a.file.addresses a.index)) = k.way_to-way.ensures ∙ ap (λ (p : Place). in_array (way_of p)) k.find_place-p.ensures in it) in
     omega arith
 
 to_nodes : (k : Else-way-eq0) → let a = k.args in
@@ -37,7 +38,9 @@ to_nodes : (k : Else-way-eq0) → let a = k.args in
     let way = k.way_to-way.result in
     Reached (image_view a.image.now a.v) (file_leaf_walk card a.v a.file a.index) s
     (leaf_from (bounds_of a.v) a.file.ino (after_inode way) (card.block a.file.inode) (4052 + 4 * slot_at way 0)) s
-to_nodes k = reached_to (reached_start _ _ _) (leaf_nodes _ _ _ _ _ ((let it : let a = k.args in k.way_to-way.result ≡ in_array (way_of (place_of a.file.addresses a.index)) = k.way_to-way.ensures ∙ ap (λ (p : Place). in_array (way_of p)) k.find_place-p.ensures in it)) k.if-way-eq0.false)
+to_nodes k = reached_to (reached_start _ _ _) (leaf_nodes _ _ _ _ _
+    (let it : let a = k.args in k.way_to-way.result ≡ in_array (way_of (place_of a.file.addresses a.index)) = k.way_to-way.ensures ∙ ap
+    (λ (p : Place). in_array (way_of p)) k.find_place-p.ensures in it) k.if-way-eq0.false)
 
 pub address_span-span-requires : goal.address_span-span-requires
 address_span-span-requires c =
@@ -65,9 +68,15 @@ pub follow-step-requires : goal.follow-step-requires
 follow-step-requires c =
     let few = way_few _ _ (found (goal.at.follow-step-requires c).After-way_to-way) in
     let w = c.way_to-way.result in
-    let steps : WayIn w.steps w.count = record { few = few.0; whole = few.1; slots = way_node_slots _ _ (found (goal.at.follow-step-requires c).After-way_to-way) } in
+    let steps : WayIn w.steps w.count = record { few = few.0; whole = few.1; slots = way_node_slots _ _
+    (found (goal.at.follow-step-requires c).After-way_to-way) } in
     let low = way_number_slot _ _ (found (goal.at.follow-step-requires c).After-way_to-way) in
-    record { fits = fits_at c.requires.fits (to_nodes (goal.at.follow-step-requires c).Else-way-eq0); volume_in = c.requires.volume_in; file_in = c.requires.file_in; way_in = (steps, λ two. omega (arith, low two)) }
+    record {
+      fits = fits_at c.requires.fits (to_nodes (goal.at.follow-step-requires c).Else-way-eq0);
+      volume_in = c.requires.volume_in;
+      file_in = c.requires.file_in;
+      way_in = (steps, λ two. omega (arith, low two));
+    }
 
 pub returns : goal.returns
 returns c =

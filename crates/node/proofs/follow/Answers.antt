@@ -46,7 +46,10 @@ get32-number-requires c =
 
 pub returns-then-number-eq0 : goal.returns-then-number-eq0
 returns-then-number-eq0 c =
-    record { walked = following_hole c.loop-i.invariant c.loop-i-test.true (read_number (goal.at.returns-then-number-eq0 c).After-get32-number) c.if-number-eq0.true; data_in = tt }
+    record {
+      walked = following_hole c.loop-i.invariant c.loop-i-test.true (read_number (goal.at.returns-then-number-eq0 c).After-get32-number) c.if-number-eq0.true;
+      data_in = tt;
+    }
 
 pub offset_bounds-steps-i : goal.offset_bounds-steps-i
 offset_bounds-steps-i c =
@@ -59,14 +62,22 @@ bounds-steps-i c =
 
 pub node_step-came-requires : goal.node_step-came-requires
 node_step-came-requires c =
-    record { fits = following_fits c.loop-i.invariant c.loop-i-test.true (read_number (goal.at.node_step-came-requires c).After-get32-number) c.if-number-eq0.false c.requires.fits; volume_in = c.requires.volume_in }
+    record {
+      fits = following_fits c.loop-i.invariant c.loop-i-test.true (read_number (goal.at.node_step-came-requires c).After-get32-number) c.if-number-eq0.false
+      c.requires.fits;
+      volume_in = c.requires.volume_in;
+    }
 
 pub returns-in-Stop : goal.returns-in-Stop
 returns-in-Stop c =
     let card = card_of c.args.image.now in
     let told = ap (found_of card) c.in-Stop.is in
     let went = c.node_step-came.ensures.walked in
-    record { walked = following_stop c.loop-i.invariant c.loop-i-test.true (read_number (goal.at.returns-in-Stop c).After-get32-number) c.if-number-eq0.false went told; data_in = tt }
+    record {
+      walked = following_stop c.loop-i.invariant c.loop-i-test.true (read_number (goal.at.returns-in-Stop c).After-get32-number) c.if-number-eq0.false went
+      told;
+      data_in = tt;
+    }
 
 pub overflow_mul-at : goal.overflow_mul-at
 overflow_mul-at c =
@@ -83,7 +94,8 @@ loop-i-preserved c =
     let card = card_of c.args.image.now in
     let told = ap (found_of card) c.in-At.is in
     let went = c.node_step-came.ensures.walked in
-    following_next c.loop-i.invariant c.loop-i-test.true (read_number (goal.at.loop-i-preserved c).After-get32-number) c.if-number-eq0.false went told (in_image (goal.at.loop-i-preserved c).In-At)
+    following_next c.loop-i.invariant c.loop-i-test.true (read_number (goal.at.loop-i-preserved c).After-get32-number) c.if-number-eq0.false went told
+    (in_image (goal.at.loop-i-preserved c).In-At)
 
 pub returns : goal.returns
 returns c =

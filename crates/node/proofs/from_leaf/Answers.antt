@@ -41,10 +41,18 @@ data_at-requires c =
     record { fits = fits_at c.requires.fits (to_data (goal.at.data_at-requires c).After-get32-address); volume_in = c.requires.volume_in }
 
 pub returns-in-Hole : goal.returns-in-Hole
-returns-in-Hole c = record { walked = reached_done (reached_to (reached_start _ _ (lists c.args.nodes.now c.args.blocks.now c.args.counts)) (from_hole (card_of c.args.image.now) _ _ c.in-Hole.is)); data_in_2 = tt }
+returns-in-Hole c = record {
+      walked = reached_done (reached_to (reached_start _ _ (lists c.args.nodes.now c.args.blocks.now c.args.counts))
+      (from_hole (card_of c.args.image.now) _ _ c.in-Hole.is));
+      data_in_2 = tt;
+    }
 
 pub returns-in-Stop : goal.returns-in-Stop
-returns-in-Stop c = record { walked = reached_done (reached_to (reached_start _ _ (lists c.args.nodes.now c.args.blocks.now c.args.counts)) (from_stop (card_of c.args.image.now) _ _ c.in-Stop.is)); data_in_2 = tt }
+returns-in-Stop c = record {
+      walked = reached_done (reached_to (reached_start _ _ (lists c.args.nodes.now c.args.blocks.now c.args.counts))
+      (from_stop (card_of c.args.image.now) _ _ c.in-Stop.is));
+      data_in_2 = tt;
+    }
 
 pub returns-in-At : goal.returns-in-At
 returns-in-At c =

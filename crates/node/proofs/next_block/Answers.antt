@@ -10,7 +10,11 @@ leaf_of-came-requires c =
 
 pub from_leaf-step-requires : goal.from_leaf-step-requires
 from_leaf-step-requires c =
-    record { fits = rest_fits _ _ _ _ c.requires.fits c.leaf_of-came.ensures.leaf_of c.leaf_of-came.ensures.walked; volume_in = c.requires.volume_in; data_in = (c.leaf_of-came.ensures.leaf_of.inside, leaf_offset c.leaf_of-came.ensures.leaf_of c.requires.file_in) }
+    record {
+      fits = rest_fits _ _ _ _ c.requires.fits c.leaf_of-came.ensures.leaf_of c.leaf_of-came.ensures.walked;
+      volume_in = c.requires.volume_in;
+      data_in = (c.leaf_of-came.ensures.leaf_of.inside, leaf_offset c.leaf_of-came.ensures.leaf_of c.requires.file_in);
+    }
 
 pub overflow_add-result : goal.overflow_add-result
 overflow_add-result c =
@@ -21,4 +25,8 @@ pub returns : goal.returns
 returns c =
     let fits = c.requires.fits in
     let rest = rest_fits _ _ _ _ fits c.leaf_of-came.ensures.leaf_of c.leaf_of-came.ensures.walked in
-    record { walked = block_walked _ _ _ _ fits c.leaf_of-came.ensures.leaf_of c.leaf_of-came.ensures.walked c.from_leaf-step.ensures.walked; data_in = c.from_leaf-step.ensures.data_in_2; keeps_2 = leaf_next c.leaf_of-came.ensures.leaf_of rest c.from_leaf-step.ensures.walked }
+    record {
+      walked = block_walked _ _ _ _ fits c.leaf_of-came.ensures.leaf_of c.leaf_of-came.ensures.walked c.from_leaf-step.ensures.walked;
+      data_in = c.from_leaf-step.ensures.data_in_2;
+      keeps_2 = leaf_next c.leaf_of-came.ensures.leaf_of rest c.from_leaf-step.ensures.walked;
+    }

@@ -78,16 +78,26 @@ insert-requires c =
 
 pub returns-in_default : goal.returns-in_default
 returns-in_default c =
-    record { walked = reached_done (reached_to (looked (goal.at.returns-in_default c).After-table_answer-entry) (ap (at_entry (bounds_of c.args.v) c.args.number c.args.ino c.args.place) c.in_default.is ∙ entry_range _ _ _ _)); found_in = tt }
+    record {
+      walked = reached_done (reached_to (looked (goal.at.returns-in_default c).After-table_answer-entry)
+      (ap (at_entry (bounds_of c.args.v) c.args.number c.args.ino c.args.place) c.in_default.is ∙ entry_range _ _ _ _));
+      found_in = tt;
+    }
 
 pub returns-then-address-eq0 : goal.returns-then-address-eq0
 returns-then-address-eq0 c =
-    record { walked = reached_done (reached_to (has (goal.at.returns-then-address-eq0 c).In-Entry) (entry_zero _ _ _ _ _ _ c.if-address-eq0.true)); found_in = tt }
+    record {
+      walked = reached_done (reached_to (has (goal.at.returns-then-address-eq0 c).In-Entry) (entry_zero _ _ _ _ _ _ c.if-address-eq0.true));
+      found_in = tt;
+    }
 
 pub returns-then-not-in_main : goal.returns-then-not-in_main
 returns-then-not-in_main c =
     let out = sym c.in_main.ensures ∙ c.if-not-in_main.true in
-    record { walked = reached_done (reached_to (has (goal.at.returns-then-not-in_main c).In-Entry) (entry_outside _ _ _ _ _ _ c.if-address-eq0.false out)); found_in = tt }
+    record {
+      walked = reached_done (reached_to (has (goal.at.returns-then-not-in_main c).In-Entry) (entry_outside _ _ _ _ _ _ c.if-address-eq0.false out));
+      found_in = tt;
+    }
 
 pub insert-requires-2 : goal.insert-requires-2
 insert-requires-2 c =
@@ -103,10 +113,17 @@ belongs-requires c =
 
 pub returns-then-not-belongs : goal.returns-then-not-belongs
 returns-then-not-belongs c =
-    record { walked = reached_done (reached_to (block_read (goal.at.returns-then-not-belongs c).After-block_at-block) (block_foreign _ _ _ _ _ (sym c.belongs.ensures ∙ c.if-not-belongs.true))); found_in = tt }
+    record {
+      walked = reached_done (reached_to (block_read (goal.at.returns-then-not-belongs c).After-block_at-block)
+      (block_foreign _ _ _ _ _ (sym c.belongs.ensures ∙ c.if-not-belongs.true)));
+      found_in = tt;
+    }
 
 pub returns : goal.returns
 returns c =
     let own = block_own _ _ _ _ _ (sym c.belongs.ensures ∙ c.if-not-belongs.false) in
     let same = ap (λ (l : List ℕ). done (ok l)) c.block_at-block.ensures in
-    record { walked = reached_done (reached_to (block_read (goal.at.returns c).After-block_at-block) (own ∙ same)); found_in = in_image (goal.at.returns c).Else-not-in_main }
+    record {
+      walked = reached_done (reached_to (block_read (goal.at.returns c).After-block_at-block) (own ∙ same));
+      found_in = in_image (goal.at.returns c).Else-not-in_main;
+    }

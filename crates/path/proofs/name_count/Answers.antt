@@ -14,21 +14,28 @@ use Rattle.path.proofs.name_count.Goals as goal
 use Rattle.path.proofs.name_count.Goals.{After-part_end-end, Else-not-is_name}
 
 -- ---- what is known there
-inside : (k : After-part_end-end) → (k.loop-count.start ≤ k.part_end-end.result) × (k.part_end-end.result ≤ length (k.args.path.now))
+inside : (k : After-part_end-end) → (k.loop-count.start ≤ k.part_end-end.result) × (k.part_end-end.result ≤ length k.args.path.now)
 inside k = part_inside k.args.path.now k.loop-count.start _ k.loop-count.invariant.0 k.part_end-end.ensures
 
 -- what is left begins with that part
-counted : (k : After-part_end-end) → name_count (k.args.path.now) ≡ count_on k.loop-count.count ((take (k.part_end-end.result - k.loop-count.start) (drop k.loop-count.start (k.args.path.now))) ∷ parts_behind (k.args.path.now) k.part_end-end.result)
+counted : (k : After-part_end-end) → name_count k.args.path.now ≡ count_on k.loop-count.count
+    ((take (k.part_end-end.result - k.loop-count.start) (drop k.loop-count.start k.args.path.now)) ∷ parts_behind k.args.path.now k.part_end-end.result)
 counted k =
-    k.loop-count.invariant.2 ∙ ap (count_on k.loop-count.count) (parts_from k.args.path.now k.loop-count.start _ k.loop-count.invariant.0 k.part_end-end.ensures)
+    k.loop-count.invariant.2 ∙ ap (count_on k.loop-count.count)
+    (parts_from k.args.path.now k.loop-count.start _ k.loop-count.invariant.0 k.part_end-end.ensures)
 
-is_name_lem : (k : Else-not-is_name) → is_name ((take (k.part_end-end.result - k.loop-count.start) (drop k.loop-count.start (k.args.path.now)))) ≡ true
+is_name_lem : (k : Else-not-is_name) → is_name (take (k.part_end-end.result - k.loop-count.start) (drop k.loop-count.start k.args.path.now)) ≡ true
 is_name_lem k = sym k.is_name.ensures ∙ k.if-not-is_name.false
 
 -- and it is a name
-counted_on : (k : Else-not-is_name) → name_count (k.args.path.now) ≡ count_on (k.loop-count.count + 1) (parts_behind (k.args.path.now) k.part_end-end.result)
+counted_on : (k : Else-not-is_name) → name_count k.args.path.now ≡ count_on (k.loop-count.count + 1) (parts_behind k.args.path.now k.part_end-end.result)
 counted_on k =
-    (let it : name_count k.args.path.now ≡ count_on k.loop-count.count ((take (k.part_end-end.result - k.loop-count.start) (drop k.loop-count.start k.args.path.now)) ∷ parts_behind k.args.path.now k.part_end-end.result) = k.loop-count.invariant.2 ∙ ap (count_on k.loop-count.count) (parts_from k.args.path.now k.loop-count.start _ k.loop-count.invariant.0 k.part_end-end.ensures) in it) ∙ count_next k.loop-count.count ((take (k.part_end-end.result - k.loop-count.start) (drop k.loop-count.start k.args.path.now))) (parts_behind k.args.path.now k.part_end-end.result) (is_name_lem k)
+    (let it : name_count k.args.path.now ≡ count_on k.loop-count.count
+    ((take (k.part_end-end.result - k.loop-count.start) (drop k.loop-count.start k.args.path.now)) ∷ parts_behind k.args.path.now
+    k.part_end-end.result) = k.loop-count.invariant.2 ∙ ap (count_on k.loop-count.count)
+    (parts_from k.args.path.now k.loop-count.start _ k.loop-count.invariant.0 k.part_end-end.ensures) in it) ∙ count_next k.loop-count.count
+    (take (k.part_end-end.result - k.loop-count.start) (drop k.loop-count.start k.args.path.now)) (parts_behind k.args.path.now k.part_end-end.result)
+    (is_name_lem k)
 
 -- ---- the needs
 pub loop-count-init : goal.loop-count-init
@@ -49,7 +56,8 @@ slice_bounds-is_name-end c = let known = inside c in omega arith
 pub returns-then-not-is_name : goal.returns-then-not-is_name
 returns-then-not-is_name c =
     let none = sym c.is_name.ensures ∙ c.if-not-is_name.true in
-    sym (counted (goal.at.returns-then-not-is_name c).After-part_end-end ∙ count_none c.loop-count.count ((take (c.part_end-end.result - c.loop-count.start) (drop c.loop-count.start c.args.path.now))) (parts_behind c.args.path.now c.part_end-end.result) none)
+    sym (counted (goal.at.returns-then-not-is_name c).After-part_end-end ∙ count_none c.loop-count.count
+    (take (c.part_end-end.result - c.loop-count.start) (drop c.loop-count.start c.args.path.now)) (parts_behind c.args.path.now c.part_end-end.result) none)
 
 pub returns-then-end-path : goal.returns-then-end-path
 returns-then-end-path c =

@@ -37,7 +37,10 @@ to_search : (k : After-hash-hash) → let a = k.args in
     (wanted k.hash-hash.result a.name.now) k.levels_in-levels.result) t
 to_search k =
     reached_to (reached_start _ _ _)
-    (directory_search _ _ _ _ ((let it : let a = k.args in k.inode_of-i.result ≡ inode_of ((card_of a.image.now).block a.at) = rw k.block_at.ensures at k.inode_of-i.ensures in it)) _ _ _ ((let it : is_directory k.inode_of-i.result ≡ true = sym k.is_directory.ensures ∙ k.if-not-is_directory.false in it)) k.if-i-eq0.false k.addresses_in.ensures.0 k.hash-hash.ensures
+    (directory_search _ _ _ _ (let it : let a = k.args in k.inode_of-i.result ≡ inode_of
+    ((card_of a.image.now).block a.at) = rw k.block_at.ensures at k.inode_of-i.ensures in it) _ _ _
+    (let it : is_directory k.inode_of-i.result ≡ true = sym k.is_directory.ensures ∙ k.if-not-is_directory.false in it) k.if-i-eq0.false
+    k.addresses_in.ensures.0 k.hash-hash.ensures
     k.has_inline_dentry-inline.ensures _ _ k.dir_level_in-dir_level.ensures k.levels_in-levels.ensures)
 
 -- an inline directory is one level
@@ -58,7 +61,8 @@ returns-then-not-is_directory c =
 
 pub returns-then-i-eq0 : goal.returns-then-i-eq0
 returns-then-i-eq0 c =
-    reached_done (reached_to (reached_start _ _ _) (directory_empty _ _ _ _ (read_of (goal.at.returns-then-i-eq0 c).After-inode_of-i) (is_directory_lem (goal.at.returns-then-i-eq0 c).Else-not-is_directory) c.if-i-eq0.true))
+    reached_done (reached_to (reached_start _ _ _) (directory_empty _ _ _ _ (read_of (goal.at.returns-then-i-eq0 c).After-inode_of-i)
+    (is_directory_lem (goal.at.returns-then-i-eq0 c).Else-not-is_directory) c.if-i-eq0.true))
 
 pub find-requires : goal.find-requires
 find-requires c =
@@ -68,7 +72,12 @@ find-requires c =
     let table = has_table _ is in
     let told = c.levels_in-levels.ensures in
     let level = c.dir_level_in-dir_level.ensures in
-    record { fits = fits_at c.requires.fits (to_search (goal.at.find-requires c).After-hash-hash); volume_in = c.requires.volume_in; file_in = ((c.requires.at_bound, few), omega arith, omega arith); dir_level_value = inline_one (goal.at.find-requires c).After-hash-hash }
+    record {
+      fits = fits_at c.requires.fits (to_search (goal.at.find-requires c).After-hash-hash);
+      volume_in = c.requires.volume_in;
+      file_in = ((c.requires.at_bound, few), omega arith, omega arith);
+      dir_level_value = inline_one (goal.at.find-requires c).After-hash-hash;
+    }
 
 pub returns : goal.returns
 returns c =

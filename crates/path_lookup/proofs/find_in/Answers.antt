@@ -11,11 +11,11 @@ use borrow.Author.Rules.{rules}
 use Rattle.path_lookup.proofs.find_in.Goals as goal
 use Rattle.path_lookup.proofs.find_in.Goals.{In-At}
 
-value : (k : In-At) → found_of ((card_of k.args.image.now)) k.node_step-step.result.found ≡ ok (((card_of k.args.image.now)).block k.in-At.at)
-value k = ap (found_of ((card_of k.args.image.now))) k.in-At.is
+value : (k : In-At) → found_of (card_of k.args.image.now) k.node_step-step.result.found ≡ ok ((card_of k.args.image.now).block k.in-At.at)
+value k = ap (found_of (card_of k.args.image.now)) k.in-At.is
 
-on_card_lem : (k : In-At) → k.in-At.at < ((card_of k.args.image.now)).blocks
-on_card_lem k = subst (FoundIn ((card_of k.args.image.now))) k.in-At.is k.node_step-step.ensures.found_in
+on_card_lem : (k : In-At) → k.in-At.at < (card_of k.args.image.now).blocks
+on_card_lem k = subst (FoundIn (card_of k.args.image.now)) k.in-At.is k.node_step-step.ensures.found_in
 
 -- ---- the needs
 pub node_step-step-requires : goal.node_step-step-requires
@@ -26,12 +26,16 @@ node_step-step-requires c =
 pub find_from_inode-requires : goal.find_from_inode-requires
 unfolding directory_walk
 find_from_inode-requires c =
-    record { fits = second_fits (at_directory _ _ _) c.node_step-step.ensures.walked (value (goal.at.find_from_inode-requires c).In-At) c.requires.fits; volume_in = c.requires.volume_in; at_bound = on_card_lem (goal.at.find_from_inode-requires c).In-At }
+    record {
+      fits = second_fits (at_directory _ _ _) c.node_step-step.ensures.walked (value (goal.at.find_from_inode-requires c).In-At) c.requires.fits;
+      volume_in = c.requires.volume_in;
+      at_bound = on_card_lem (goal.at.find_from_inode-requires c).In-At;
+    }
 
 pub returns-in-Stop : goal.returns-in-Stop
 unfolding directory_walk
 returns-in-Stop c =
-    let stopped = ap (found_of ((card_of c.args.image.now))) c.in-Stop.is in
+    let stopped = ap (found_of (card_of c.args.image.now)) c.in-Stop.is in
     both_stop (at_directory _ _ _) c.node_step-step.ensures.walked stopped
 
 pub returns-in-At : goal.returns-in-At

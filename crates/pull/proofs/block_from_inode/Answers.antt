@@ -46,12 +46,19 @@ inode_of-i-requires c =
 pub returns-then-not-is_regular : goal.returns-then-not-is_regular
 returns-then-not-is_regular c =
     let other = sym c.is_regular.ensures ∙ c.if-not-is_regular.true in
-    record { walked = reached_done (reached_to (reached_start _ _ _) (file_other _ _ _ _ (read_of (goal.at.returns-then-not-is_regular c).After-inode_of-i) other)); data_in = (tt, omega arith) }
+    record {
+      walked = reached_done (reached_to (reached_start _ _ _) (file_other _ _ _ _ (read_of (goal.at.returns-then-not-is_regular c).After-inode_of-i) other));
+      data_in = (tt, omega arith);
+    }
 
 pub returns-then-is_past : goal.returns-then-is_past
 returns-then-is_past c =
     let past = sym c.is_past.ensures ∙ c.if-is_past.true in
-    record { walked = reached_done (reached_to (reached_start _ _ _) (file_past _ _ _ _ (read_of (goal.at.returns-then-is_past c).After-inode_of-i) (regular (goal.at.returns-then-is_past c).Else-not-is_regular) past)); data_in = (tt, omega arith) }
+    record {
+      walked = reached_done (reached_to (reached_start _ _ _)
+      (file_past _ _ _ _ (read_of (goal.at.returns-then-is_past c).After-inode_of-i) (regular (goal.at.returns-then-is_past c).Else-not-is_regular) past));
+      data_in = (tt, omega arith);
+    }
 
 pub count_in-bytes-requires : goal.count_in-bytes-requires
 count_in-bytes-requires c =
@@ -61,13 +68,29 @@ pub returns-then-has_inline_data : goal.returns-then-has_inline_data
 returns-then-has_inline_data c =
     let own = sym c.has_inline_data.ensures ∙ c.if-has_inline_data.true in
     let count = c.count_in-bytes.ensures.0 in
-    let few = inline_room _ (regular (goal.at.returns-then-has_inline_data c).Else-not-is_regular) own _ (inside (goal.at.returns-then-has_inline_data c).Else-is_past) in record { walked = reached_done (reached_to (reached_start _ _ _) (file_inline _ _ _ _ (read_of (goal.at.returns-then-has_inline_data c).After-inode_of-i) _ (regular (goal.at.returns-then-has_inline_data c).Else-not-is_regular) (inside (goal.at.returns-then-has_inline_data c).Else-is_past) count own)); data_in = (c.requires.at_bound, omega arith) }
+    let few = inline_room _ (regular (goal.at.returns-then-has_inline_data c).Else-not-is_regular) own _
+    (inside (goal.at.returns-then-has_inline_data c).Else-is_past) in
+    record {
+      walked = reached_done (reached_to (reached_start _ _ _)
+      (file_inline _ _ _ _ (read_of (goal.at.returns-then-has_inline_data c).After-inode_of-i) _
+      (regular (goal.at.returns-then-has_inline_data c).Else-not-is_regular) (inside (goal.at.returns-then-has_inline_data c).Else-is_past) count own));
+      data_in = (c.requires.at_bound, omega arith);
+    }
 
 pub data_block-step-requires : goal.data_block-step-requires
 data_block-step-requires c =
-    record { fits = fits_first _ (fits_at c.requires.fits (to_block_lem (goal.at.data_block-step-requires c).After-addresses_in)); volume_in = c.requires.volume_in; file_in = (c.requires.at_bound, c.addresses_in.ensures.1) }
+    record {
+      fits = fits_first _ (fits_at c.requires.fits (to_block_lem (goal.at.data_block-step-requires c).After-addresses_in));
+      volume_in = c.requires.volume_in;
+      file_in = (c.requires.at_bound, c.addresses_in.ensures.1);
+    }
 
 pub returns : goal.returns
 returns c =
     let card = card_of c.args.image.now in
-    let count = c.count_in-bytes in record { walked = reached_all (to_block_lem (goal.at.returns c).After-addresses_in) (counted_walked card c.data_block-step.result.data count.result c.data_block-step.ensures.walked); data_in = (c.data_block-step.ensures.data_in, omega (arith, count.ensures.2)) }
+    let count = c.count_in-bytes in
+    record {
+      walked = reached_all (to_block_lem (goal.at.returns c).After-addresses_in)
+      (counted_walked card c.data_block-step.result.data count.result c.data_block-step.ensures.walked);
+      data_in = (c.data_block-step.ensures.data_in, omega (arith, count.ensures.2));
+    }

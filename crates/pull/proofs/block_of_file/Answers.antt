@@ -12,11 +12,11 @@ use borrow.Author.Rules.{rules}
 use Rattle.pull.proofs.block_of_file.Goals as goal
 use Rattle.pull.proofs.block_of_file.Goals.{In-At}
 
-value : (k : In-At) → found_of ((card_of k.args.image.now)) k.node_step-step.result.found ≡ ok (((card_of k.args.image.now)).block k.in-At.at)
-value k = ap (found_of ((card_of k.args.image.now))) k.in-At.is
+value : (k : In-At) → found_of (card_of k.args.image.now) k.node_step-step.result.found ≡ ok ((card_of k.args.image.now).block k.in-At.at)
+value k = ap (found_of (card_of k.args.image.now)) k.in-At.is
 
-on_card_lem : (k : In-At) → k.in-At.at < ((card_of k.args.image.now)).blocks
-on_card_lem k = subst (FoundIn ((card_of k.args.image.now))) k.in-At.is k.node_step-step.ensures.found_in
+on_card_lem : (k : In-At) → k.in-At.at < (card_of k.args.image.now).blocks
+on_card_lem k = subst (FoundIn (card_of k.args.image.now)) k.in-At.is k.node_step-step.ensures.found_in
 
 -- ---- the needs
 pub node_step-step-requires : goal.node_step-step-requires
@@ -27,15 +27,22 @@ node_step-step-requires c =
 pub block_from_inode-requires : goal.block_from_inode-requires
 unfolding file_walk
 block_from_inode-requires c =
-    record { fits = second_fits (at_file _ _ _) c.node_step-step.ensures.walked (value (goal.at.block_from_inode-requires c).In-At) c.requires.fits; volume_in = c.requires.volume_in; at_bound = on_card_lem (goal.at.block_from_inode-requires c).In-At }
+    record {
+      fits = second_fits (at_file _ _ _) c.node_step-step.ensures.walked (value (goal.at.block_from_inode-requires c).In-At) c.requires.fits;
+      volume_in = c.requires.volume_in;
+      at_bound = on_card_lem (goal.at.block_from_inode-requires c).In-At;
+    }
 
 pub returns-in-Stop : goal.returns-in-Stop
 unfolding file_walk
 returns-in-Stop c =
-    let stopped = ap (found_of ((card_of c.args.image.now))) c.in-Stop.is in
+    let stopped = ap (found_of (card_of c.args.image.now)) c.in-Stop.is in
     record { walked = both_stop (at_file _ _ _) c.node_step-step.ensures.walked stopped; data_in = (tt, omega arith) }
 
 pub returns-in-At : goal.returns-in-At
 unfolding file_walk
 returns-in-At c =
-    record { walked = both_walked (at_file _ _ _) c.node_step-step.ensures.walked (value (goal.at.returns-in-At c).In-At) c.block_from_inode.ensures.walked; data_in = c.block_from_inode.ensures.data_in }
+    record {
+      walked = both_walked (at_file _ _ _) c.node_step-step.ensures.walked (value (goal.at.returns-in-At c).In-At) c.block_from_inode.ensures.walked;
+      data_in = c.block_from_inode.ensures.data_in;
+    }

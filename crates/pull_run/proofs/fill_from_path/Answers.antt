@@ -20,7 +20,11 @@ unfolding run_walk
 fill_of_file-requires c =
     let a = c.args in
     let found = ap entry_of c.in-Found.is in
-    record { fits = unless_fits (file_run_walk (bounds_of a.v) a.wanted a.index) c.find_path-step.ensures found c.requires.fits; volume_in = c.requires.volume_in; room_for = c.requires.room_for }
+    record {
+      fits = unless_fits (file_run_walk (bounds_of a.v) a.wanted a.index) c.find_path-step.ensures found c.requires.fits;
+      volume_in = c.requires.volume_in;
+      room_for = c.requires.room_for;
+    }
 
 pub returns-in-Stop : goal.returns-in-Stop
 unfolding run_walk

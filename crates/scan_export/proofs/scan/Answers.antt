@@ -70,7 +70,10 @@ crosses k told =
     sym (in_shape_lem _ _ _ (is_scan_lem k) ∙ ap₂ crossing is.0 (sym is.1))
 
 pub returns-then-not-block-is_name : goal.returns-then-not-block-is_name
-returns-then-not-block-is_name c = record { value = sym (out_of_shape_lem _ _ _ (tested (goal.at.returns-then-not-block-is_name c).After-is_name ∙ c.if-not-block-is_name.true)); turns_bound = omega arith }
+returns-then-not-block-is_name c = record {
+      value = sym (out_of_shape_lem _ _ _ (tested (goal.at.returns-then-not-block-is_name c).After-is_name ∙ c.if-not-block-is_name.true));
+      turns_bound = omega arith;
+    }
 
 pub part_of-part-requires : goal.part_of-part-requires
 part_of-part-requires c =
@@ -85,11 +88,17 @@ returns-in-On c =
 
 pub returns-in-Found : goal.returns-in-Found
 returns-in-Found c =
-    record { value = crosses (goal.at.returns-in-Found c).After-scan_slots-step c.in-Found.is; turns_bound = few (goal.at.returns-in-Found c).After-scan_slots-step }
+    record {
+      value = crosses (goal.at.returns-in-Found c).After-scan_slots-step c.in-Found.is;
+      turns_bound = few (goal.at.returns-in-Found c).After-scan_slots-step;
+    }
 
 pub returns-in-Malformed : goal.returns-in-Malformed
 returns-in-Malformed c =
-    record { value = crosses (goal.at.returns-in-Malformed c).After-scan_slots-step c.in-Malformed.is; turns_bound = few (goal.at.returns-in-Malformed c).After-scan_slots-step }
+    record {
+      value = crosses (goal.at.returns-in-Malformed c).After-scan_slots-step c.in-Malformed.is;
+      turns_bound = few (goal.at.returns-in-Malformed c).After-scan_slots-step;
+    }
 
 -- stands last, so that another number in its place is refused for what crosses
 pub overflow_cast-turns : goal.overflow_cast-turns

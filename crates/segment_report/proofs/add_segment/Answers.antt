@@ -31,9 +31,11 @@ valid_count-requires c = omega (arith, whole (goal.at.valid_count-requires c).Af
 pub returns-then-valid_count-ones : goal.returns-then-valid_count-ones
 returns-then-valid_count-ones c =
     let a = c.args in
-    sym (in_order _ a.segment a.tally a.list.now (ones_here (goal.at.returns-then-valid_count-ones c).After-ones-ones) (sym (count_here (goal.at.returns-then-valid_count-ones c).After-valid_count) ∙ c.if-valid_count-ones.true))
+    sym (in_order _ a.segment a.tally a.list.now (ones_here (goal.at.returns-then-valid_count-ones c).After-ones-ones)
+    (sym (count_here (goal.at.returns-then-valid_count-ones c).After-valid_count) ∙ c.if-valid_count-ones.true))
 
 pub returns : goal.returns
 returns c =
     let a = c.args in
-    rw c.put32.ensures (sym (off _ a.segment a.tally a.list.now (ones_here (goal.at.returns c).After-ones-ones) (λ s. c.if-valid_count-ones.false (count_here (goal.at.returns c).After-valid_count ∙ s))))
+    rw c.put32.ensures (sym (off _ a.segment a.tally a.list.now (ones_here (goal.at.returns c).After-ones-ones)
+    (λ s. c.if-valid_count-ones.false (count_here (goal.at.returns c).After-valid_count ∙ s))))

@@ -15,7 +15,11 @@ loop-segment-init c = (omega arith, tallied_start _ _, λ k. (c.type_inv.list k)
 pub add_segment-tally-requires : goal.add_segment-tally-requires
 add_segment-tally-requires c =
     let size = c.loop-segment.invariant.1.grown.size in
-    record { sit_in = c.requires.sit_in; segment_bound = (c.loop-segment-test.true, omega arith); count_le_segment = tallied_most _ c.loop-segment.invariant.1 }
+    record {
+      sit_in = c.requires.sit_in;
+      segment_bound = (c.loop-segment-test.true, omega arith);
+      count_le_segment = tallied_most _ c.loop-segment.invariant.1;
+    }
 
 pub loop-segment-preserved : goal.loop-segment-preserved
 loop-segment-preserved c =

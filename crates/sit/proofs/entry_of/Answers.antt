@@ -12,14 +12,16 @@ use Rattle.sit.proofs.entry_of.Goals as goal
 use Rattle.sit.proofs.entry_of.Goals.{After-find_entry, In-At}
 
 -- the search is of the card's SIT journal
-sought : (k : After-find_entry) → k.find_entry.result ≡ journal_find 78 ((sit_journal_of (card_of k.args.image.now) k.args.v)) k.args.segment
+sought : (k : After-find_entry) → k.find_entry.result ≡ journal_find 78 (sit_journal_of (card_of k.args.image.now) k.args.v) k.args.segment
 sought k = rw k.journal_of-journal.ensures at k.find_entry.ensures
 
 -- the entry that was found lies inside
 inside : (k : In-At) → k.in-At.at + 78 ≤ length k.journal_of-journal.result.now
 inside k =
     rw k.journal_of-journal.ensures
-    (journaled_inside k.args.image.now k.args.v k.requires.sit_in k.args.segment k.in-At.at (sym ((let it : k.find_entry.result ≡ journal_find 78 ((sit_journal_of (card_of k.args.image.now) k.args.v)) k.args.segment = rw k.journal_of-journal.ensures at k.find_entry.ensures in it)) ∙ k.in-At.is))
+    (journaled_inside k.args.image.now k.args.v k.requires.sit_in k.args.segment k.in-At.at
+    (sym (let it : k.find_entry.result ≡ journal_find 78 (sit_journal_of (card_of k.args.image.now) k.args.v)
+    k.args.segment = rw k.journal_of-journal.ensures at k.find_entry.ensures in it) ∙ k.in-At.is))
 
 pub find_entry-requires : goal.find_entry-requires
 find_entry-requires c =

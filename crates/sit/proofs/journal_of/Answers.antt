@@ -32,7 +32,7 @@ cold_there k =
 
 cold_whole : (k : After-block_at-cold) → length k.block_at-cold.result.now ≡ 4096
 cold_whole k = length_of_block _ _ ((let it : k.args.v.journal_block + 2 < (card_of k.args.image.now).blocks = let p = k.requires in
-    let h = p.cold_inside ((let it : is_compact k.args.v ≡ false = sym k.flag_set.ensures ∙ k.if-flag_set.false in it)) in
+    let h = p.cold_inside (let it : is_compact k.args.v ≡ false = sym k.flag_set.ensures ∙ k.if-flag_set.false in it) in
     let a = p.areas_in in
     omega arith in it)) k.block_at-cold.ensures
 

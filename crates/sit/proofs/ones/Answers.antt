@@ -11,7 +11,7 @@ use Rattle.sit.proofs.ones.Goals.{After-get64}
 
 -- the sum after a turn
 summed : (k : After-get64) → let l = k.loop-i in
-    l.sum + ones k.get64.result ≡ ones_below (64 * (l.i + 1)) (k.args.map.now)
+    l.sum + ones k.get64.result ≡ ones_below (64 * (l.i + 1)) k.args.map.now
 summed k =
     let l = k.loop-i in
     rw (k.get64.ensures, l.invariant.1) (sym (ones_word k.args.map.now (λ b. (k.type_inv.map b).fits) l.i))

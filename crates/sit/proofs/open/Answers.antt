@@ -32,11 +32,13 @@ count_within-requires c =
 
 pub returns-then-count_within : goal.returns-then-count_within
 returns-then-count_within c =
-    sym (journal_opens _ _ (opens (goal.at.returns-then-count_within c).In-Opened) (sym (readable (goal.at.returns-then-count_within c).After-count_within) ∙ c.if-count_within.true))
+    sym (journal_opens _ _ (opens (goal.at.returns-then-count_within c).In-Opened)
+    (sym (readable (goal.at.returns-then-count_within c).After-count_within) ∙ c.if-count_within.true))
 
 pub returns-else-count_within : goal.returns-else-count_within
 returns-else-count_within c =
-    sym (journal_refuses _ _ (opens (goal.at.returns-else-count_within c).In-Opened) (sym (readable (goal.at.returns-else-count_within c).After-count_within) ∙ c.if-count_within.false))
+    sym (journal_refuses _ _ (opens (goal.at.returns-else-count_within c).In-Opened)
+    (sym (readable (goal.at.returns-else-count_within c).After-count_within) ∙ c.if-count_within.false))
 
 pub returns-in-Refused : goal.returns-in-Refused
 returns-in-Refused c =

@@ -26,7 +26,8 @@ try_copy-first-requires c =
 
 pub accept-requires : goal.accept-requires
 accept-requires c =
-    passed_fits ((card_of c.args.image.now)).blocks (copy_in ((card_of c.args.image.now)) 0) (first_tried (goal.at.accept-requires c).After-try_copy-first) c.requires.most c.in-Passed.is
+    passed_fits (card_of c.args.image.now).blocks (copy_in (card_of c.args.image.now) 0) (first_tried (goal.at.accept-requires c).After-try_copy-first)
+    c.requires.most c.in-Passed.is
 
 pub try_copy-second-requires : goal.try_copy-second-requires
 try_copy-second-requires c =
@@ -34,7 +35,8 @@ try_copy-second-requires c =
 
 pub accept-requires-in-Passed-second : goal.accept-requires-in-Passed-second
 accept-requires-in-Passed-second c =
-    passed_fits ((card_of c.args.image.now)).blocks (copy_in ((card_of c.args.image.now)) 1) (second_tried (goal.at.accept-requires-in-Passed-second c).After-try_copy-second) c.requires.most c.in-Passed-second.is
+    passed_fits (card_of c.args.image.now).blocks (copy_in (card_of c.args.image.now) 1)
+    (second_tried (goal.at.accept-requires-in-Passed-second c).After-try_copy-second) c.requires.most c.in-Passed-second.is
 
 pub returns-in-Passed : goal.returns-in-Passed
 returns-in-Passed c =
