@@ -12,7 +12,7 @@ fn main() {
         println!("cargo:rerun-if-changed={}", archive.display());
         if !archive.is_file() {
             eprintln!("target/staticlib/lib{name}.a is missing");
-            eprintln!("run `rt staticlib {name}` at the repository's root");
+            eprintln!("run `.ci/archive {name}` at the repository's root");
             std::process::exit(1);
         }
     }

@@ -1,6 +1,6 @@
 -- Which pack is chosen, in the order in which the code tests: the pack that wins by its version first, so that usually one
 -- pack's checksums are computed and not two. And what a chosen pack is: one of the two that passes.
-use Rattle.std.proofs.Common.{◌≡◌, ℕ, ◌≤◌, Bool, true, false, ◌&&◌, ◌⊎◌, sym, refl, ◌∙◌, ⊎_elim, arith}
+use Rattle.std.proofs.Common.{◌≡◌, ℕ, ◌≤◌, Bool, true, false, ◌&&◌, sym, refl, ◌∙◌, ⊎_elim, arith}
 use Rattle.field.specs.Card.{Card}
 use Rattle.field.specs.Choice.{choose}
 use Rattle.field.proofs.Choosing.{either}

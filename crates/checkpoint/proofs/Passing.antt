@@ -1,5 +1,5 @@
 -- A pack's first block passes, in the order in which the code tests; and what a pack that passes says of its total.
-use Rattle.std.proofs.Common.{◌≡◌, ℕ, ◌≤◌, Bool, true, ◌&&◌, leb, List, refl, ◌∙◌}
+use Rattle.std.proofs.Common.{◌≡◌, ℕ, ◌≤◌, true, ◌&&◌, leb, List, ◌∙◌}
 use mathlib.Core.Bool.{and_assoc, and_comm, and-false}
 use Rattle.field.specs.Card.{Card}
 use Rattle.field.proofs.Choosing.{needed, needed_le}

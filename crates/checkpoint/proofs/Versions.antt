@@ -1,6 +1,6 @@
 -- Which of two packs wins by its version: the laws of the rule, for versions of 64 bits. `ahead` and `behind` decide every pair: 1 to
 -- 2 ^ 63 - 1 versions on, wrapped, wins from either side. Less than 2 ^ 63 apart as numbers, the greater wins.
-use Rattle.std.proofs.Common.{◌≡◌, ℕ, ◌+◌, ◌%◌, ◌^◌, ◌<◌, ◌≤◌, Bool, true, false, ◌&&◌, ltb, ◌⊎◌, List, get_or, ⊎_elim, arith, ltb-false, ltb-true, le-ltb, lt-ltb}
+use Rattle.std.proofs.Common.{◌≡◌, ℕ, ◌+◌, ◌%◌, ◌^◌, ◌<◌, ◌≤◌, Bool, true, false, ◌&&◌, ltb, List, get_or, ⊎_elim, arith, ltb-false, ltb-true, le-ltb, lt-ltb}
 use mathlib.Core.Bool.{and-false}
 use Rattle.field.specs.Card.{Card}
 use Rattle.field.proofs.Choosing.{either, needed}

@@ -1,5 +1,5 @@
-// The C boundary: what the rig's host calls. Each call takes numbers and lent bytes, asks nothing of them, and answers with a
-// struct of 32-bit numbers; host/include/harptimber.h declares the same for C.
+// The calls that the rig's host makes. Each takes numbers and lent bytes, asks nothing of them, and answers with a struct of
+// 32-bit numbers. crates/harptimber_c exports them to C under the same names; host/include/harptimber.h declares them there.
 #![tactic(auto)]
 
 ghost use Rattle.std.specs.Prelude.{◌≡◌};
@@ -25,8 +25,7 @@ pub struct NameHash {
     pub hash: u32,
 }
 
-#[unsafe(no_mangle)]
-pub extern "C" fn harptimber_name_hash(name: &[u8]) -> NameHash
+pub fn harptimber_name_hash(name: &[u8]) -> NameHash
     ensures { result ≡ name_hash (hashed name.now) }
 {
     match name_hash::hash_answer(name) {
@@ -84,8 +83,7 @@ fn placed_by(way: place::Way) -> FilePlace
     }
 }
 
-#[unsafe(no_mangle)]
-pub extern "C" fn harptimber_file_place(addresses: u32, index: u32) -> FilePlace
+pub fn harptimber_file_place(addresses: u32, index: u32) -> FilePlace
     ensures { result ≡ file_place addresses index }
 {
     if (addresses == 873) | (addresses == 923) {
@@ -112,8 +110,7 @@ fn table_numbers(said: nat::TableAnswer) -> nat::Lookup
     }
 }
 
-#[unsafe(no_mangle)]
-pub extern "C" fn harptimber_node_lookup(image: &[u8], number: u32) -> nat::Lookup
+pub fn harptimber_node_lookup(image: &[u8], number: u32) -> nat::Lookup
     ensures { result ≡ lookup_of image.now number }
 {
     match checkpoint::open(image) {
@@ -126,8 +123,7 @@ pub extern "C" fn harptimber_node_lookup(image: &[u8], number: u32) -> nat::Look
     }
 }
 
-#[unsafe(no_mangle)]
-pub extern "C" fn harptimber_pull(
+pub fn harptimber_pull(
     image: &[u8],
     path: &[u8],
     index: u32,
@@ -141,8 +137,7 @@ pub extern "C" fn harptimber_pull(
     pull::pull(image, path, index, block, nodes, blocks)
 }
 
-#[unsafe(no_mangle)]
-pub extern "C" fn harptimber_pull_run(
+pub fn harptimber_pull_run(
     image: &[u8],
     path: &[u8],
     index: u32,
@@ -158,26 +153,19 @@ pub extern "C" fn harptimber_pull_run(
     pull_run::pull_run(image, path, index, wanted, buffer, nodes, blocks)
 }
 
-#[unsafe(no_mangle)]
-pub extern "C" fn harptimber_reader_start(
-    card_blocks: u32,
-    path: &[u8],
-    index: u32,
-) -> reader::Reader
+pub fn harptimber_reader_start(card_blocks: u32, path: &[u8], index: u32) -> reader::Reader
     ensures { Started card_blocks path.now index result }
 {
     reader::start(card_blocks, path, index)
 }
 
-#[unsafe(no_mangle)]
-pub extern "C" fn harptimber_reader_step(reader: reader::Reader, bytes: &[u8]) -> reader::Reader
+pub fn harptimber_reader_step(reader: reader::Reader, bytes: &[u8]) -> reader::Reader
     ensures { Stepped reader bytes.now result }
 {
     reader.step(bytes)
 }
 
-#[unsafe(no_mangle)]
-pub extern "C" fn harptimber_reader_result(
+pub fn harptimber_reader_result(
     reader: reader::Reader,
     block: &mut [u8],
     nodes: &mut [u8],
@@ -189,8 +177,7 @@ pub extern "C" fn harptimber_reader_result(
     reader_result::read_out(reader, block, nodes, blocks)
 }
 
-#[unsafe(no_mangle)]
-pub extern "C" fn harptimber_compare(
+pub fn harptimber_compare(
     kept: &[u8],
     fresh: &[u8],
     nodes: &[u8],
@@ -205,37 +192,25 @@ pub extern "C" fn harptimber_compare(
     compare::compare(kept, fresh, nodes, node_count, blocks, block_count)
 }
 
-#[unsafe(no_mangle)]
-pub extern "C" fn harptimber_segment_report(
-    image: &[u8],
-    list: &mut [u8],
-) -> segment_report::Segments
+pub fn harptimber_segment_report(image: &[u8], list: &mut [u8]) -> segment_report::Segments
     ensures { reported result list.new ≡ segment_report image.now list.old }
 {
     segment_report::report(image, list)
 }
 
-#[unsafe(no_mangle)]
-pub extern "C" fn harptimber_keep(
-    image: &[u8],
-    path: &[u8],
-    index: u32,
-    room: &mut [u8],
-) -> keep::Written
+pub fn harptimber_keep(image: &[u8], path: &[u8], index: u32, room: &mut [u8]) -> keep::Written
     ensures { writing result room.new ≡ keep_written image.now path.now index room.old }
 {
     keep::keep(image, path, index, room)
 }
 
-#[unsafe(no_mangle)]
-pub extern "C" fn harptimber_keep_read(file: &[u8]) -> keep_file::Fields
+pub fn harptimber_keep_read(file: &[u8]) -> keep_file::Fields
     ensures { result ≡ fields_read (read_keep file.now) }
 {
     keep_file::read(file)
 }
 
-#[unsafe(no_mangle)]
-pub extern "C" fn harptimber_keep_compare(file: &[u8], fresh: &[u8]) -> compare::Compared
+pub fn harptimber_keep_compare(file: &[u8], fresh: &[u8]) -> compare::Compared
     ensures { result ≡ keep_compared file.now fresh.now }
 {
     keep_compare::keep_compare(file, fresh)

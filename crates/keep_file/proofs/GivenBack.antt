@@ -16,7 +16,7 @@ use Rattle.keep_file.proofs.Refusing.{readable_exactly, read_readable}
 use Rattle.keep_file.proofs.Entries.{each_value, entries_read}
 use Rattle.keep_file.proofs.Values.{Three, three_read, answer_stands, answer_read, block_read}
 use Rattle.keep_file.proofs.Parts.{head_numbers, bound_numbers, behind_bounds, behind_block, behind_result, behind_path}
-use Rattle.keep_file.proofs.Parts.{Laid, answers_sized, laid_out}
+use Rattle.keep_file.proofs.Parts.{Laid, answers_sized, laid_out_lem}
 
 module _ (k : Keep) (file : List ℕ) (laid : Laid k file) where
   abbrev p : ℕ
@@ -105,7 +105,7 @@ module _ (k : Keep) (file : List ℕ) (laid : Laid k file) where
 -- ---- the whole
 module _ (k : Keep) (w : Whole k) where
   abbrev laid : Laid k (layout k)
-  laid = laid_out k w.filled
+  laid = laid_out_lem k w.filled
 
   keep_in_layout : keep_in (layout k) ≡ k
   keep_in_layout = keep_back k (layout k) laid w.filled

@@ -4,7 +4,7 @@ use native.Mathlib.Omega.{arith}
 use mathlib.Core.Path.{◌≡◌, refl, sym, ap, ◌∙◌}
 use mathlib.Core.List.{List, ◌++◌, append-nil}
 use lib.ListN.{length, take, drop, length-append, length-drop, drop_of_length-le}
-use lib.Seq.{take_all, take-append_seam}
+use lib.Seq.{take-append_seam}
 use Rattle.ask_open.specs.declared.Keep.{Keep}
 use Rattle.ask_open.specs.declared.Keep.TheVariants as k
 use Rattle.field.specs.Choice.{choose}
@@ -29,20 +29,17 @@ module _ (l : List ℕ) (n x : ℕ) where
       omega arith
 
 -- all of it, where they have one length
-pub copied_whole : (src old : List ℕ) {new : List ℕ} → length old ≡ length src → new ≡ take (length src) src ++ drop (length src) old → new ≡ src
-copied_whole src old e p = p ∙ rw (take_all (length src) src (omega arith), drop_of_length-le old {i = length src} (omega arith), append-nil)
+pub copied_whole : (src old : List ℕ) {new : List ℕ} → length old ≡ length src → new ≡ src ++ drop (length src) old → new ≡ src
+copied_whole src old e p = p ∙ rw (drop_of_length-le old {i = length src} (omega arith), append-nil)
 
 -- .. and over a longer one: they stand at its front, and it keeps its length
-module _ (src old : List ℕ) {new : List ℕ} (room : length src ≤ length old) (p : new ≡ take (length src) src ++ drop (length src) old) where
-  front_of_lem : new ≡ src ++ drop (length src) old
-  front_of_lem = p ∙ ap (λ (l : List ℕ). l ++ drop (length src) old) (take_all (length src) src (omega arith))
-
+module _ (src old : List ℕ) {new : List ℕ} (room : length src ≤ length old) (p : new ≡ src ++ drop (length src) old) where
   pub copied_front : take (length src) new ≡ src
-  copied_front = ap (take (length src)) front_of_lem ∙ take-append_seam src (drop (length src) old)
+  copied_front = ap (take (length src)) p ∙ take-append_seam src (drop (length src) old)
 
   pub copied_length : length new ≡ length old
   copied_length =
-      let a = ap length front_of_lem ∙ length-append src (drop (length src) old) in
+      let a = ap length p ∙ length-append src (drop (length src) old) in
       let b = length-drop (length src) old in
       omega arith
 

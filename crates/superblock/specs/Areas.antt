@@ -1,5 +1,5 @@
 -- Which copy of the superblock is used, and the areas that it names.
-use Rattle.std.specs.Prelude.{◌≡◌, Bool, ◌&&◌, ℕ, ◌+◌, ◌*◌, ◌%◌, ◌≤◌, eqb}
+use Rattle.std.specs.Prelude.{◌≡◌, ◌&&◌, ℕ, ◌+◌, ◌*◌, ◌%◌, ◌≤◌, eqb}
 use Rattle.field.specs.Card.{Card}
 use Rattle.field.specs.Choice.{choose}
 use Rattle.superblock.specs.declared.Superblock.{Superblock}

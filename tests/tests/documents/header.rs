@@ -302,7 +302,16 @@ fn functions(text: &str, before: &str) -> BTreeSet<String> {
     names.filter(is_name).map(str::to_string).collect()
 }
 
-/// Each call that the header declares is exported, and made in `any_bytes` by a function that asks nothing.
+/// Each function's head behind `before` in a text, from its name to its body: parameters, result and clauses, whatever their layout.
+fn heads(text: &str, before: &str) -> BTreeSet<String> {
+    let found = text.split(before).skip(1);
+    let heads = found.map(|rest| rest.split_once("\n{\n").expect("a body").0);
+    let words = heads.map(|head| head.split_whitespace().collect::<String>());
+    words.map(|head| head.replace(",)", ")")).collect()
+}
+
+/// Each call that the header declares is exported, and made in `any_bytes` by a function that asks nothing. What is exported is that
+/// call under the same name, with the same clauses, and asks nothing either.
 #[test]
 fn calls() {
     let read = |path: &str| std::fs::read_to_string(host().join("..").join(path)).unwrap();
@@ -313,12 +322,16 @@ fn calls() {
         .flat_map(|line| functions(line, " harptimber_"))
         .collect();
     assert!(declared.contains("pull") && declared.contains("compare"));
-    let exported = read("crates/harptimber/src/lib.rt");
-    assert_eq!(
-        functions(&exported, "pub extern \"C\" fn harptimber_"),
-        declared
-    );
+    let exported = read("crates/harptimber_c/src/lib.rt");
+    let export = "#[unsafe(no_mangle)]\npub extern \"C\" fn harptimber_";
+    assert_eq!(functions(&exported, export), declared);
     let called = read("crates/any_bytes/src/lib.rt");
-    assert_eq!(functions(&called, "harptimber::harptimber_"), declared);
-    assert!(!called.contains("requires"));
+    for caller in [&exported, &called] {
+        assert_eq!(functions(caller, "harptimber::harptimber_"), declared);
+        assert!(!caller.contains("requires"));
+    }
+    let library = read("crates/harptimber/src/lib.rt");
+    let call = "\npub fn harptimber_";
+    assert_eq!(functions(&library, call), declared);
+    assert_eq!(heads(&exported, export), heads(&library, call));
 }

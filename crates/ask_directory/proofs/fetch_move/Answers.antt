@@ -1,5 +1,4 @@
 -- `fetch_move` meets its contract: where what is wanted leads, with the node that was looked up.
-use borrow.Author.Rules.{rules}
 use Rattle.ask_directory.proofs.fetch_move.Goals as goal
 
 pub returns : goal.returns

@@ -1,5 +1,4 @@
 -- `goes_on` meets its contract: each arm is a case of what is wanted.
-use borrow.Author.Rules.{rules}
 use Rattle.ask_directory.proofs.goes_on.Goals as goal
 
 pub returns-in-Table : goal.returns-in-Table

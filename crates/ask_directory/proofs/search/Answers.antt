@@ -1,16 +1,13 @@
-use Prim.Native.Nat.{◌+◌, ◌-◌, ◌*◌, ◌<◌}
+use Prim.Native.Nat.{◌-◌, ◌<◌}
 use native.Mathlib.Omega.{arith}
 use mathlib.Core.Path.{◌≡◌, sym, subst, ◌∙◌}
 use mathlib.Core.Bool.{true}
-use borrow.Author.Tests.{not-true, not-false}
 use Rattle.inode.specs.declared.Inode.{Inode}
 use Rattle.inode.specs.Inode.{is_directory}
 use Rattle.inode.proofs.DirectoryLevel.{low_level}
-use Rattle.hash_level.specs.Level.{first_of}
 use Rattle.asking.specs.Table.{keeping}
-use Rattle.ask_directory.proofs.Searching.{SearchOn, Turn, turn_few, block_small}
+use Rattle.ask_directory.proofs.Searching.{Turn, turn_few, block_small}
 use Rattle.ask_directory.proofs.Searching.{search_start, search_next, search_end, end_in, search_hole, search_found, found_in}
-use borrow.Author.Rules.{rules}
 use Rattle.ask_directory.proofs.search.Goals as goal
 use Rattle.ask_directory.proofs.search.Goals.{After-inode_of-i, After-level_from-here}
 
@@ -21,9 +18,15 @@ is_directory_lem k = subst (λ (i : Inode). is_directory i ≡ true) (sym k.inod
 has_table : (k : After-inode_of-i) → k.inode_of-i.result.level < 31
 has_table k = low_level k.inode_of-i.result (is_directory_lem k)
 
-here : (k : After-level_from-here) → let a = k.args in Turn (keeping a.v a.first.now a.journal.now) a.inode.now a.ino a.hash a.level a.block k.loop-k.n k.loop-k.k
+here : (k : After-level_from-here) → let a = k.args in
+    Turn (keeping a.v a.first.now a.journal.now) a.inode.now a.ino a.hash a.level a.block k.loop-k.n k.loop-k.k
     k.inode_of-i.result k.level_from-here.result
-here k = record { go = k.loop-k.invariant.1; known = k.inode_of-i.ensures; found = k.level_from-here.ensures }
+here k =
+    record {
+      go = k.loop-k.invariant.1;
+      known = k.inode_of-i.ensures;
+      found = k.level_from-here.ensures;
+    }
 
 pub first_block-start-requires : goal.first_block-start-requires
 first_block-start-requires c =
@@ -51,7 +54,10 @@ returns-then-depth-n c =
     let over = c.if-here-k.true in
     let at = c.args.name_at in
     let last = c.if-depth-n.true in
-    record { by_index = search_end (here (goal.at.returns-then-depth-n c).After-level_from-here) over at last c.go_to.ensures; by_index_2 = end_in (here (goal.at.returns-then-depth-n c).After-level_from-here) over at last c.go_to.ensures }
+    record {
+      by_index = search_end (here (goal.at.returns-then-depth-n c).After-level_from-here) over at last c.go_to.ensures;
+      by_index_2 = end_in (here (goal.at.returns-then-depth-n c).After-level_from-here) over at last c.go_to.ensures;
+    }
 
 pub next_first-start-requires : goal.next_first-start-requires
 next_first-start-requires c =
@@ -65,7 +71,8 @@ loop-k-smaller-then-here-k c = omega (arith, (here (goal.at.loop-k-smaller-then-
 
 pub loop-k-preserved-then-here-k : goal.loop-k-preserved-then-here-k
 loop-k-preserved-then-here-k c =
-    (c.next_first-start.ensures, search_next (here (goal.at.loop-k-preserved-then-here-k c).After-level_from-here) c.if-here-k.true c.requires.inode_len.1 c.if-depth-n.false)
+    let place = goal.at.loop-k-preserved-then-here-k c in
+    (c.next_first-start.ensures, search_next (here place.After-level_from-here) c.if-here-k.true c.requires.inode_len.1 c.if-depth-n.false)
 
 pub overflow_add-here : goal.overflow_add-here
 overflow_add-here c = omega (arith, block_small (here (goal.at.overflow_add-here c).After-level_from-here))
@@ -76,10 +83,15 @@ in_bucket-next-requires c =
 
 pub returns-then-not-is_empty : goal.returns-then-not-is_empty
 returns-then-not-is_empty c =
+    let place = goal.at.returns-then-not-is_empty c in
     let on = c.if-here-k.false in
     let full = sym c.is_empty.ensures ∙ c.if-not-is_empty.true in
-    let inside = found_in (here (goal.at.returns-then-not-is_empty c).After-level_from-here) c.args.name_at on c.in_bucket-next.ensures.value full c.requires.inode_len.1 c.in_bucket-next.ensures.hop_bound in
-    record { by_index = search_found (here (goal.at.returns-then-not-is_empty c).After-level_from-here) c.args.name_at on c.in_bucket-next.ensures.value full; by_index_2 = inside }
+    let inside = found_in (here place.After-level_from-here) c.args.name_at on c.in_bucket-next.ensures.value full c.requires.inode_len.1
+        c.in_bucket-next.ensures.hop_bound in
+    record {
+      by_index = search_found (here place.After-level_from-here) c.args.name_at on c.in_bucket-next.ensures.value full;
+      by_index_2 = inside;
+    }
 
 pub overflow_add-k : goal.overflow_add-k
 overflow_add-k c = omega (arith, (here (goal.at.overflow_add-k c).After-level_from-here).go.few)

@@ -3,11 +3,10 @@ use Prim.Native.Nat.{◌<◌}
 use native.Mathlib.Omega.{arith}
 use mathlib.Core.Path.{sym, ap, ◌∙◌}
 use Rattle.place.proofs.Ways.{slot_at}
-use Rattle.asking.specs.Table.{Kept, keeping}
+use Rattle.asking.specs.Table.{keeping}
 use Rattle.ask_node.specs.declared.Fetch.{Fetch}
 use Rattle.ask_node.specs.Fetch.{no_node}
 use Rattle.ask_node.proofs.Steps.{way_in, inode_slot, number_slot, block_none, block_data, block_node}
-use borrow.Author.Rules.{rules}
 use Rattle.ask_node.proofs.fetch_block.Goals as goal
 use Rattle.ask_node.proofs.fetch_block.Goals.{After-way_to-way, Else-way-eq1}
 

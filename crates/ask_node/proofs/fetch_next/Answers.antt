@@ -2,9 +2,8 @@
 use Prim.Native.Nat.{◌<◌}
 use native.Mathlib.Omega.{arith}
 use Rattle.place.proofs.Ways.{slot_at}
-use Rattle.asking.specs.Table.{Kept, keeping}
+use Rattle.asking.specs.Table.{keeping}
 use Rattle.ask_node.proofs.Steps.{way_in, node_slot, next_node}
-use borrow.Author.Rules.{rules}
 use Rattle.ask_node.proofs.fetch_next.Goals as goal
 use Rattle.ask_node.proofs.fetch_next.Goals.{After-way_to-way}
 

@@ -4,7 +4,6 @@ use mathlib.Core.Path.{sym, ap, ◌∙◌}
 use Rattle.ask_node.specs.declared.Fetch.{Fetch}
 use Rattle.ask_node.specs.Fetch.{no_node}
 use Rattle.ask_node.proofs.Steps.{hop_few, follow_data, follow_hole, follow_node}
-use borrow.Author.Rules.{rules}
 use Rattle.ask_node.proofs.follow.Goals as goal
 
 pub returns-then-way-hop : goal.returns-then-way-hop
@@ -16,7 +15,10 @@ returns-then-way-hop c =
 pub returns-then-number-eq0 : goal.returns-then-number-eq0
 returns-then-number-eq0 c =
     let hop = ap (λ (f : Fetch). f.hop) c.no_node-then-number-eq0.ensures in
-    record { value = c.no_node-then-number-eq0.ensures ∙ sym (follow_hole _ c.requires.way_in _ _ (omega (arith, c.if-way-hop.false)) c.if-number-eq0.true); hop_in = omega arith }
+    record {
+      value = c.no_node-then-number-eq0.ensures ∙ sym (follow_hole _ c.requires.way_in _ _ (omega (arith, c.if-way-hop.false)) c.if-number-eq0.true);
+      hop_in = omega arith;
+    }
 
 pub returns : goal.returns
 returns c =

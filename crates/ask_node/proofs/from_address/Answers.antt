@@ -1,6 +1,5 @@
 -- `from_address` meets its contract: a hole, the block, or 13.
 use Rattle.ask_node.specs.Wants.{data_wants}
-use borrow.Author.Rules.{rules}
 use Rattle.ask_node.proofs.from_address.Goals as goal
 
 pub returns-then-is_hole : goal.returns-then-is_hole

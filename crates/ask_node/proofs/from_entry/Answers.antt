@@ -1,7 +1,6 @@
 -- `from_entry` meets its contract: 9, the node's block, or 10.
 use borrow.Author.Tests.{eq-eqb, ne_eqb}
 use Rattle.ask_node.specs.Wants.{entry_wants}
-use borrow.Author.Rules.{rules}
 use Rattle.ask_node.proofs.from_entry.Goals as goal
 
 pub returns-then-address-eq0 : goal.returns-then-address-eq0

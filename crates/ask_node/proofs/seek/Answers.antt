@@ -1,13 +1,11 @@
 -- `seek` meets its contract: out of range, by the journal's entry, or the table's block.
 use mathlib.Core.Path.{◌≡◌, sym, ap, ◌∙◌}
 use mathlib.Core.Bool.{true}
-use borrow.Author.Tests.{not-true, not-false}
 use Rattle.nat.specs.Table.{in_range}
 use Rattle.nat.proofs.Range.{block_in_range}
 use Rattle.asking.specs.Table.{address_for}
 use Rattle.ask_node.specs.declared.Wants.TheVariants.{Table}
 use Rattle.ask_node.specs.Wants.{seek_wants}
-use borrow.Author.Rules.{rules}
 use Rattle.ask_node.proofs.seek.Goals as goal
 use Rattle.ask_node.proofs.seek.Goals.{Else-not-in_range}
 
@@ -21,7 +19,11 @@ returns-then-not-in_range c = rw (← c.in_range.ensures, c.if-not-in_range.true
 pub table_address-requires : goal.table_address-requires
 table_address-requires c =
     let kept = c.requires in
-    record { first_len = (kept.first_size, kept.map_inside); ssa_value = (kept.table_ends, kept.nat_even); b_bound = block_in_range _ _ (in_range_here (goal.at.table_address-requires c).Else-not-in_range) }
+    record {
+      first_len = (kept.first_size, kept.map_inside);
+      ssa_value = (kept.table_ends, kept.nat_even);
+      b_bound = block_in_range _ _ (in_range_here (goal.at.table_address-requires c).Else-not-in_range);
+    }
 
 pub returns-in-Held : goal.returns-in-Held
 unfolding seek_wants

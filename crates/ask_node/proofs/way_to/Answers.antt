@@ -4,7 +4,6 @@ use mathlib.Core.Path.{ap, ◌∙◌}
 use Rattle.place.specs.Place.{place_of}
 use Rattle.place.specs.Way.{way_of, in_array}
 use Rattle.inode.specs.Inode.{addresses_in}
-use borrow.Author.Rules.{rules}
 use Rattle.ask_node.proofs.way_to.Goals as goal
 
 pub returns : goal.returns

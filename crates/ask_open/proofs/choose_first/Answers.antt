@@ -2,11 +2,9 @@
 use native.Mathlib.Omega.{arith}
 use mathlib.Core.Path.{◌≡◌, refl, sym, ◌∙◌}
 use mathlib.Core.Bool.{true}
-use borrow.Author.Tests.{not-true, not-false}
 use Rattle.ask_open.proofs.Cases.{none_passes, first_alone}
 use Rattle.ask_open.proofs.Going.{goes_refused}
 use Rattle.ask_open.proofs.Knowing.{has_passed, knows_refused}
-use borrow.Author.Rules.{rules}
 use Rattle.ask_open.proofs.choose_first.Goals as goal
 use Rattle.ask_open.proofs.choose_first.Goals.{Else-not-passed}
 
@@ -29,6 +27,12 @@ choose_pack-requires c =
 
 pub returns : goal.returns
 returns c =
+    let here = goal.at.returns c in
     let a = c.args in
-    let first = a.first.now in record { result_value = (λ k blocks second bytes.
-          c.choose_pack.ensures.result_value k blocks first second bytes refl ∙ sym (first_alone k a.areas first first a.passed (passed_by (goal.at.returns c).Else-not-passed))); by_index = (λ second bytes. c.choose_pack.ensures.by_index first second bytes) }
+    let first = a.first.now in
+    record {
+      result_value = λ k blocks second bytes.
+          c.choose_pack.ensures.result_value k blocks first second bytes refl
+          ∙ sym (first_alone k a.areas first first a.passed (passed_by here.Else-not-passed));
+      by_index = λ second bytes. c.choose_pack.ensures.by_index first second bytes;
+    }

@@ -9,7 +9,6 @@ use Rattle.checkpoint.proofs.Negated.{fails, holds}
 use Rattle.ask_open.proofs.Cases.{header_refuses}
 use Rattle.ask_open.proofs.Going.{goes_refused, to_journal}
 use Rattle.ask_open.proofs.Knowing.{knows_refused, knows_journal}
-use borrow.Author.Rules.{rules}
 use Rattle.ask_open.proofs.choose_pack.Goals as goal
 use Rattle.ask_open.proofs.choose_pack.Goals.{After-checkpoint_of-cp, Else-not-header_readable}
 
@@ -28,16 +27,31 @@ returns-then-not-header_readable c =
     let a = c.args in
     let o = c.refuse.result in
     let refused = c.refuse.ensures.0 in
-    let fails-here = rw c.checkpoint_of-cp.ensures at (fails c.header_readable.ensures c.if-not-header_readable.true) in record { result_value = (λ k blocks one second bytes kept.
-          goes_refused k blocks one second bytes o 8 refused ∙ sym (header_refuses k a.areas a.start a.first.now fails-here)); by_index = (λ one second bytes. knows_refused one second bytes o refused) }
+    let fails-here = rw c.checkpoint_of-cp.ensures at (fails c.header_readable.ensures c.if-not-header_readable.true) in
+    record {
+      result_value = λ k blocks one second bytes kept.
+          goes_refused k blocks one second bytes o 8 refused ∙ sym (header_refuses k a.areas a.start a.first.now fails-here);
+      by_index = λ one second bytes. knows_refused one second bytes o refused;
+    }
 
 pub volume_of-volume-requires : goal.volume_of-volume-requires
 volume_of-volume-requires c =
-    record { cp_pack_total_block_count_bound = omega (arith, total (goal.at.volume_of-volume-requires c).After-checkpoint_of-cp, c.requires.areas_fit.1, c.requires.areas_fit.0.packs); cp_value = readable_maps _ _ (readable c) }
+    let here = goal.at.volume_of-volume-requires c in
+    record {
+      cp_pack_total_block_count_bound = omega (arith, total here.After-checkpoint_of-cp, c.requires.areas_fit.1, c.requires.areas_fit.0.packs);
+      cp_value = readable_maps _ _ (readable c);
+    }
 
 pub returns : goal.returns
 returns c =
+    let here = goal.at.returns c in
     let a = c.args in
     let cp = c.checkpoint_of-cp.result in
-    let v = c.volume_of-volume.result in record { result_value = (λ k blocks one second bytes kept.
-          to_journal k blocks one second bytes v a.areas a.start a.keep kept c.checkpoint_of-cp.ensures c.volume_of-volume.ensures (readable (goal.at.returns c).Else-not-header_readable)); by_index = (λ one second bytes. knows_journal a.areas a.start cp c.volume_of-volume.ensures c.requires.areas_fit.0 (readable_maps _ _ (readable (goal.at.returns c).Else-not-header_readable))) }
+    let v = c.volume_of-volume.result in
+    record {
+      result_value = λ k blocks one second bytes kept.
+          to_journal k blocks one second bytes v a.areas a.start a.keep kept c.checkpoint_of-cp.ensures c.volume_of-volume.ensures
+          (readable here.Else-not-header_readable);
+      by_index = λ one second bytes. knows_journal a.areas a.start cp c.volume_of-volume.ensures c.requires.areas_fit.0
+          (readable_maps _ _ (readable here.Else-not-header_readable));
+    }

@@ -1,8 +1,6 @@
 -- A copy that passes gives its areas; if it fails, the second copy is asked for, or the answer is 5.
 use mathlib.Core.Path.{◌≡◌, ap, sym, ◌∙◌}
 use mathlib.Core.Bool.{true, false}
-use mathlib.Core.List.{List}
-use Prim.Native.Nat.{ℕ}
 use Rattle.superblock.specs.Superblock.{copy_of, superblock_of, passes}
 use Rattle.superblock.specs.Areas.{accepted}
 use Rattle.superblock.proofs.Finding.{passed, failed}
@@ -10,7 +8,6 @@ use Rattle.asking.specs.Open.{areas_ask}
 use Rattle.ask_open.proofs.Cases.{copy_passes_lem, second_fails}
 use Rattle.ask_open.proofs.Going.{goes_refused, to_second_copy}
 use Rattle.ask_open.proofs.Knowing.{copy_fields, knows_refused}
-use borrow.Author.Rules.{rules}
 use Rattle.ask_open.proofs.copy_came.Goals as goal
 use Rattle.ask_open.proofs.copy_came.Goals.{In-Failed, In-Passed}
 
@@ -33,19 +30,32 @@ returns-then-second_copy c =
     let a = c.args in
     let bytes = c.args.bytes.now in
     let o = c.refuse.result in
-    let refused = c.refuse.ensures.0 in record { result_value = (λ k first second.
+    let refused = c.refuse.ensures.0 in
+    record {
+      result_value = λ k first second.
           goes_refused k a.blocks first second bytes o 5 refused
-          ∙ sym (second_fails k a.blocks bytes a.second_copy c.if-second_copy.true (failed_by (goal.at.returns-then-second_copy c).In-Failed))); by_index = (λ first second. knows_refused first second bytes o refused) }
+          ∙ sym (second_fails k a.blocks bytes a.second_copy c.if-second_copy.true (failed_by (goal.at.returns-then-second_copy c).In-Failed));
+      by_index = λ first second. knows_refused first second bytes o refused;
+    }
 
 pub returns-in-Passed : goal.returns-in-Passed
 returns-in-Passed c =
     let a = c.args in
     let bytes = c.args.bytes.now in
-    let same = passed_by (goal.at.returns-in-Passed c).In-Passed in record { result_value = (λ k first second.
+    let same = passed_by (goal.at.returns-in-Passed c).In-Passed in
+    record {
+      result_value = λ k first second.
           c.copy_passed.ensures.result_value k first second bytes
-          ∙ ap (λ s. areas_ask k (accepted s)) same.1 ∙ sym (copy_passes_lem k a.blocks bytes a.second_copy same.0)); by_index = (λ first second. c.copy_passed.ensures.by_index first second bytes) }
+          ∙ ap (λ s. areas_ask k (accepted s)) same.1 ∙ sym (copy_passes_lem k a.blocks bytes a.second_copy same.0);
+      by_index = λ first second. c.copy_passed.ensures.by_index first second bytes;
+    }
 
 pub returns-else-second_copy : goal.returns-else-second_copy
 returns-else-second_copy c =
-    let a = c.args in record { result_value = (λ k first second.
-          to_second_copy k a.blocks first second c.args.bytes.now c.no_volume.result a.second_copy c.if-second_copy.false (failed_by (goal.at.returns-else-second_copy c).In-Failed)); by_index = (λ first second. tt) }
+    let here = goal.at.returns-else-second_copy c in
+    let a = c.args in
+    record {
+      result_value = λ k first second.
+          to_second_copy k a.blocks first second c.args.bytes.now c.no_volume.result a.second_copy c.if-second_copy.false (failed_by here.In-Failed);
+      by_index = λ first second. tt;
+    }

@@ -5,7 +5,6 @@ use Rattle.superblock.specs.Areas.{accepted}
 use Rattle.ask_open.proofs.Cases.{areas_refused}
 use Rattle.ask_open.proofs.Going.{goes_refused, to_areas}
 use Rattle.ask_open.proofs.Knowing.{end_fits, accepted_fit, knows_refused}
-use borrow.Author.Rules.{rules}
 use Rattle.ask_open.proofs.copy_passed.Goals as goal
 use Rattle.ask_open.proofs.copy_passed.Goals.{In-At, In-Refused}
 
@@ -21,12 +20,22 @@ accept-requires c = end_fits c.args.blocks c.ranges.blocks.fits c.args.s c.requi
 
 pub returns-in-At : goal.returns-in-At
 returns-in-At c =
+    let here = goal.at.returns-in-At c in
     let areas = c.with_areas.ensures in
-    let fit = accepted_fit c.args.blocks c.ranges.blocks.fits c.args.s c.requires (areas_by (goal.at.returns-in-At c).In-At) in record { result_value = (λ k first second bytes. to_areas k c.args.blocks first second bytes c.with_areas.result c.args.s areas (areas_by (goal.at.returns-in-At c).In-At)); by_index = (λ first second bytes. rw areas fit) }
+    let fit = accepted_fit c.args.blocks c.ranges.blocks.fits c.args.s c.requires (areas_by here.In-At) in
+    record {
+      result_value = λ k first second bytes. to_areas k c.args.blocks first second bytes c.with_areas.result c.args.s areas (areas_by here.In-At);
+      by_index = λ first second bytes. rw areas fit;
+    }
 
 pub returns-in-Refused : goal.returns-in-Refused
 returns-in-Refused c =
+    let here = goal.at.returns-in-Refused c in
     let a = c.args in
     let o = c.refuse.result in
-    let refused = c.refuse.ensures.0 in record { result_value = (λ k first second bytes.
-          goes_refused k a.blocks first second bytes o c.in-Refused.number refused ∙ sym (areas_refused k a.s (number_by (goal.at.returns-in-Refused c).In-Refused))); by_index = (λ first second bytes. knows_refused first second bytes o refused) }
+    let refused = c.refuse.ensures.0 in
+    record {
+      result_value = λ k first second bytes.
+          goes_refused k a.blocks first second bytes o c.in-Refused.number refused ∙ sym (areas_refused k a.s (number_by here.In-Refused));
+      by_index = λ first second bytes. knows_refused first second bytes o refused;
+    }

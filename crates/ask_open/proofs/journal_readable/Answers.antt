@@ -1,6 +1,5 @@
 -- The journal is what lies behind its start in the block.
 use borrow.Author.Rules.{part_to_end}
-use borrow.Author.Rules.{rules}
 use Rattle.ask_open.proofs.journal_readable.Goals as goal
 
 pub returns : goal.returns

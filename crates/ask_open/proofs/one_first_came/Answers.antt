@@ -7,7 +7,6 @@ use Rattle.checkpoint.specs.Pack.{first_passes}
 use Rattle.checkpoint.proofs.Passing.{first_total}
 use Rattle.ask_open.specs.Came.{PackFits}
 use Rattle.ask_open.proofs.Going.{one_to_last, one_to_second}
-use borrow.Author.Rules.{rules}
 use Rattle.ask_open.proofs.one_first_came.Goals as goal
 use Rattle.ask_open.proofs.one_first_came.Goals.{Then-first_passes}
 
@@ -31,8 +30,17 @@ overflow_add-result c =
 
 pub returns-then-first_passes : goal.returns-then-first_passes
 returns-then-first_passes c =
-    record { result_value = (λ k blocks first second. one_to_last k blocks first second c.args.bytes.now c.args.v c.checkpoint_of-cp.ensures (passes (goal.at.returns-then-first_passes c).Then-first_passes)); by_index = (λ first second. (c.requires.0, fits (goal.at.returns-then-first_passes c).Then-first_passes)) }
+    let here = goal.at.returns-then-first_passes c in
+    record {
+      result_value = λ k blocks first second. one_to_last k blocks first second c.args.bytes.now c.args.v c.checkpoint_of-cp.ensures
+          (passes here.Then-first_passes);
+      by_index = λ first second. (c.requires.0, fits here.Then-first_passes);
+    }
 
 pub returns : goal.returns
 returns c =
-    let fails = sym c.first_passes.ensures ∙ c.if-first_passes.false in record { result_value = (λ k blocks first second. one_to_second k blocks first second c.args.bytes.now c.args.v c.second_pack.ensures fails); by_index = (λ first second. (c.requires.0, tt)) }
+    let fails = sym c.first_passes.ensures ∙ c.if-first_passes.false in
+    record {
+      result_value = λ k blocks first second. one_to_second k blocks first second c.args.bytes.now c.args.v c.second_pack.ensures fails;
+      by_index = λ first second. (c.requires.0, tt);
+    }

@@ -10,7 +10,6 @@ use Rattle.asking.specs.Open.{tried_by}
 use Rattle.ask_open.specs.Came.{PackFits}
 use Rattle.ask_open.proofs.Cases.{two_fails}
 use Rattle.ask_open.proofs.Going.{two_to_last}
-use borrow.Author.Rules.{rules}
 use Rattle.ask_open.proofs.two_first_came.Goals as goal
 use Rattle.ask_open.proofs.two_first_came.Goals.{Else-not-first_passes}
 
@@ -30,8 +29,12 @@ returns-then-not-first_passes c =
     let a = c.args in
     let first = a.first.now in
     let bytes = a.bytes.now in
-    let fails-here = fails c.first_passes.ensures c.if-not-first_passes.true in record { result_value = (λ k blocks second.
-          c.choose_first.ensures.result_value k blocks second bytes ∙ sym (two_fails k a.v.areas bytes (tried_by a.passed first) fails-here)); by_index = (λ second. c.choose_first.ensures.by_index second bytes) }
+    let fails-here = fails c.first_passes.ensures c.if-not-first_passes.true in
+    record {
+      result_value = λ k blocks second.
+          c.choose_first.ensures.result_value k blocks second bytes ∙ sym (two_fails k a.v.areas bytes (tried_by a.passed first) fails-here);
+      by_index = λ second. c.choose_first.ensures.by_index second bytes;
+    }
 
 pub overflow_sub-result : goal.overflow_sub-result
 overflow_sub-result c = omega (arith, total (goal.at.overflow_sub-result c).Else-not-first_passes)
@@ -43,5 +46,9 @@ overflow_add-result c =
 pub returns : goal.returns
 returns c =
     let a = c.args in
-    let read = c.checkpoint_of-cp.ensures in record { result_value = (λ k blocks second.
-          two_to_last k blocks a.first.now second a.bytes.now a.v c.second_pack.ensures a.passed read (passes (goal.at.returns c).Else-not-first_passes)); by_index = (λ second. (c.requires.areas_fit.0, c.requires.areas_fit.1, fits (goal.at.returns c).Else-not-first_passes)) }
+    let read = c.checkpoint_of-cp.ensures in
+    record {
+      result_value = λ k blocks second.
+          two_to_last k blocks a.first.now second a.bytes.now a.v c.second_pack.ensures a.passed read (passes (goal.at.returns c).Else-not-first_passes);
+      by_index = λ second. (c.requires.areas_fit.0, c.requires.areas_fit.1, fits (goal.at.returns c).Else-not-first_passes);
+    }

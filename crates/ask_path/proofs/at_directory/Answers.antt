@@ -5,20 +5,18 @@ use mathlib.Core.Path.{◌≡◌, refl, sym, ◌∙◌}
 use mathlib.Core.Bool.{true, false}
 use mathlib.Core.List.{◌∷◌}
 use lib.ListN.{length, take, drop}
-use borrow.Author.Tests.{not-true, not-false}
 use Rattle.path.proofs.Parts.{part_inside}
 use Rattle.walk.specs.Walk.{Seen, done, stop}
 use Rattle.inode.specs.Inode.{has_inline_dentry, is_directory}
 use Rattle.dentry.specs.Scan.{sought_of}
 use Rattle.directory.specs.Find.{after_slots}
-use Rattle.asking.specs.Table.{Kept, keeping, asking}
+use Rattle.asking.specs.Table.{keeping, asking}
 use Rattle.asking.specs.Pull.{came}
 use Rattle.ask_directory.specs.declared.Spot.{Spot}
 use Rattle.ask_directory.specs.Left.{question, names_from, inode_then}
 use Rattle.ask_path.proofs.Names.{names_from_lem}
 use Rattle.ask_path.proofs.Directories.{then_names, stopped, turn_found, turn_malformed, turn_on}
 use Rattle.ask_path.proofs.Directories.{other_came, empty_came, slots_came, no_levels, levels_came}
-use borrow.Author.Rules.{rules}
 use Rattle.ask_path.proofs.at_directory.Goals as goal
 use Rattle.ask_path.proofs.at_directory.Goals.{After-part_end-end, After-scan-turn, Else-has_inline_dentry, Else-not-is_directory}
 
@@ -26,13 +24,13 @@ use Rattle.ask_path.proofs.at_directory.Goals.{After-part_end-end, After-scan-tu
 is_directory_lem : (k : Else-not-is_directory) → is_directory k.inode_of-i.result ≡ true
 is_directory_lem k = sym k.is_directory.ensures ∙ k.if-not-is_directory.false
 
-inside : (k : After-part_end-end) → let a = k.args in (a.name-at ≤ k.part_end-end.result) × (k.part_end-end.result ≤ length a.path.now)
+inside : (k : After-part_end-end) → let a = k.args in (a.name_at ≤ k.part_end-end.result) × (k.part_end-end.result ≤ length a.path.now)
 inside k = part_inside _ _ _ k.requires.bytes_len.1 k.part_end-end.ensures
 
 -- the name, and those behind it
 names : (k : After-part_end-end) → let a = k.args in
-    names_from a.path.now a.name-at
-    ≡ take (k.part_end-end.result - a.name-at) (drop a.name-at a.path.now) ∷ names_from a.path.now (k.part_end-end.result + 1)
+    names_from a.path.now a.name_at
+    ≡ take (k.part_end-end.result - a.name_at) (drop a.name_at a.path.now) ∷ names_from a.path.now (k.part_end-end.result + 1)
 names k = names_from_lem _ _ k.requires.bytes_len.1 k.part_end-end.ensures
 
 is_inline : (k : After-scan-turn) → has_inline_dentry k.inode_of-i.result ≡ true
@@ -43,30 +41,41 @@ has_blocks k = sym k.has_inline_dentry.ensures ∙ k.if-has_inline_dentry.false
 
 -- the slots of an inline directory
 slots : (k : After-scan-turn) → (index : ℕ) (seen : Seen) → let a = k.args in
-    let q = question ((keeping k.args.v k.args.first.now k.args.journal.now)) a.path.now index in
-    asking q.kept came seen (inode_then q a.ino (names_from a.path.now a.name-at) a.bytes.now)
+    let q = question (keeping k.args.v k.args.first.now k.args.journal.now) a.path.now index in
+    asking q.kept came seen (inode_then q a.ino (names_from a.path.now a.name_at) a.bytes.now)
     ≡ then_names q seen (names_from a.path.now (k.part_end-end.result + 1)) (after_slots (done (stop 2)) (sought_of k.scan-turn.result))
 slots k index seen =
-    let q = question ((keeping k.args.v k.args.first.now k.args.journal.now)) k.args.path.now index in
-    slots_came q _ _ seen _ _ ((let it : let a = k.args in
-    names_from a.path.now a.name-at
-    ≡ take (k.part_end-end.result - a.name-at) (drop a.name-at a.path.now) ∷ names_from a.path.now (k.part_end-end.result + 1) = names_from_lem _ _ k.requires.bytes_len.1 k.part_end-end.ensures in it)) k.inode_of-i.ensures ((let it : is_directory k.inode_of-i.result ≡ true = sym k.is_directory.ensures ∙ k.if-not-is_directory.false in it)) k.if-i-eq0.false k.scan-turn.result (is_inline k)
+    let q = question (keeping k.args.v k.args.first.now k.args.journal.now) k.args.path.now index in
+    let left = names_from_lem _ _ k.requires.bytes_len.1 k.part_end-end.ensures in
+    let directory = sym k.is_directory.ensures ∙ k.if-not-is_directory.false in
+    slots_came q _ _ seen _ _ left k.inode_of-i.ensures directory k.if-i-eq0.false k.scan-turn.result (is_inline k)
     k.hash-hash.ensures k.scan-turn.ensures
 
 pub returns-then-not-is_directory : goal.returns-then-not-is_directory
 returns-then-not-is_directory c =
+    let p : Spot = record { ino = c.args.ino; name_at = c.args.name_at; level = 0; block = 0 } in
     let a = c.args in
-    let other = sym c.is_directory.ensures ∙ c.if-not-is_directory.true in record { by_index = (λ index seen.
-          let q = question ((keeping c.args.v c.args.first.now c.args.journal.now)) a.path.now index in
-          let e = names_from_lem a.path.now a.name-at c.requires.bytes_len.1 refl in
-          rw c.go_to.ensures (other_came q _ _ _ _ _ e c.inode_of-i.ensures ((record { ino = c.args.ino; name_at = c.args.name_at; level = 0; block = 0 })) other)); by_index_2 = (λ index. rw c.go_to.ensures tt) }
+    let other = sym c.is_directory.ensures ∙ c.if-not-is_directory.true in
+    record {
+      by_index = λ index seen.
+          let q = question (keeping c.args.v c.args.first.now c.args.journal.now) a.path.now index in
+          let e = names_from_lem a.path.now a.name_at c.requires.bytes_len.1 refl in
+          rw c.go_to.ensures (other_came q _ _ _ _ _ e c.inode_of-i.ensures p other);
+      by_index_2 = λ index. rw c.go_to.ensures tt;
+    }
 
 pub returns-then-i-eq0 : goal.returns-then-i-eq0
 returns-then-i-eq0 c =
-    let a = c.args in record { by_index = (λ index seen.
-          let q = question ((keeping c.args.v c.args.first.now c.args.journal.now)) a.path.now index in
-          let e = names_from_lem a.path.now a.name-at c.requires.bytes_len.1 refl in
-          rw c.go_to-then-i-eq0.ensures (empty_came q _ _ _ _ _ e c.inode_of-i.ensures (is_directory_lem (goal.at.returns-then-i-eq0 c).Else-not-is_directory) ((record { ino = c.args.ino; name_at = c.args.name_at; level = 0; block = 0 })) c.if-i-eq0.true)); by_index_2 = (λ index. rw c.go_to-then-i-eq0.ensures tt) }
+    let here = goal.at.returns-then-i-eq0 c in
+    let p : Spot = record { ino = c.args.ino; name_at = c.args.name_at; level = 0; block = 0 } in
+    let a = c.args in
+    record {
+      by_index = λ index seen.
+          let q = question (keeping c.args.v c.args.first.now c.args.journal.now) a.path.now index in
+          let e = names_from_lem a.path.now a.name_at c.requires.bytes_len.1 refl in
+          rw c.go_to-then-i-eq0.ensures (empty_came q _ _ _ _ _ e c.inode_of-i.ensures (is_directory_lem here.Else-not-is_directory) p c.if-i-eq0.true);
+      by_index_2 = λ index. rw c.go_to-then-i-eq0.ensures tt;
+    }
 
 pub slice_bounds-hash-end : goal.slice_bounds-hash-end
 slice_bounds-hash-end c = let known = inside c in omega arith
@@ -89,32 +98,54 @@ overflow_add-end c =
 
 pub returns-in-Found : goal.returns-in-Found
 returns-in-Found c =
+    let here = goal.at.returns-in-Found c in
     let a = c.args in
-    let found = c.in-Found.is in record { by_index = (λ index seen.
-          let q = question ((keeping c.args.v c.args.first.now c.args.journal.now)) a.path.now index in
-          c.enter.ensures.by_index a.path.now index a.bytes.now seen ∙ sym (slots (goal.at.returns-in-Found c).After-scan-turn index seen ∙ turn_found q seen _ (done (stop 2)) _ _ found)); by_index_2 = (λ index. c.enter.ensures.by_index_2 a.path.now index a.bytes.now) }
+    let found = c.in-Found.is in
+    record {
+      by_index = λ index seen.
+          let q = question (keeping c.args.v c.args.first.now c.args.journal.now) a.path.now index in
+          c.enter.ensures.by_index a.path.now index a.bytes.now seen
+          ∙ sym (slots here.After-scan-turn index seen ∙ turn_found q seen _ (done (stop 2)) _ _ found);
+      by_index_2 = λ index. c.enter.ensures.by_index_2 a.path.now index a.bytes.now;
+    }
 
 pub returns-in-Malformed : goal.returns-in-Malformed
 returns-in-Malformed c =
-    record { by_index = (λ index seen.
-          let q = question ((keeping c.args.v c.args.first.now c.args.journal.now)) c.args.path.now index in
-          let malformed = turn_malformed q seen _ (done (stop 2)) _ c.args.bytes.now ((record { ino = c.args.ino; name_at = c.args.name_at; level = 0; block = 0 })) c.in-Malformed.is in
-          rw c.go_to-in-Malformed.ensures (malformed ∙ sym (slots (goal.at.returns-in-Malformed c).After-scan-turn index seen))); by_index_2 = (λ index. rw c.go_to-in-Malformed.ensures tt) }
+    let here = goal.at.returns-in-Malformed c in
+    let p : Spot = record { ino = c.args.ino; name_at = c.args.name_at; level = 0; block = 0 } in
+    record {
+      by_index = λ index seen.
+          let q = question (keeping c.args.v c.args.first.now c.args.journal.now) c.args.path.now index in
+          let malformed = turn_malformed q seen _ (done (stop 2)) _ c.args.bytes.now p c.in-Malformed.is in
+          rw c.go_to-in-Malformed.ensures (malformed ∙ sym (slots here.After-scan-turn index seen));
+      by_index_2 = λ index. rw c.go_to-in-Malformed.ensures tt;
+    }
 
 pub returns-in-On : goal.returns-in-On
 returns-in-On c =
-    record { by_index = (λ index seen.
-          let q = question ((keeping c.args.v c.args.first.now c.args.journal.now)) c.args.path.now index in
+    let here = goal.at.returns-in-On c in
+    let p : Spot = record { ino = c.args.ino; name_at = c.args.name_at; level = 0; block = 0 } in
+    record {
+      by_index = λ index seen.
+          let q = question (keeping c.args.v c.args.first.now c.args.journal.now) c.args.path.now index in
           let absent = turn_on q seen _ (done (stop 2)) _ c.in-On.is in
-          rw c.go_to-in-On.ensures (stopped q seen _ 2 c.args.bytes.now ((record { ino = c.args.ino; name_at = c.args.name_at; level = 0; block = 0 })) ∙ sym (slots (goal.at.returns-in-On c).After-scan-turn index seen ∙ absent))); by_index_2 = (λ index. rw c.go_to-in-On.ensures tt) }
+          rw c.go_to-in-On.ensures (stopped q seen _ 2 c.args.bytes.now p ∙ sym (slots here.After-scan-turn index seen ∙ absent));
+      by_index_2 = λ index. rw c.go_to-in-On.ensures tt;
+    }
 
 pub returns-then-i-eq0-2 : goal.returns-then-i-eq0-2
 returns-then-i-eq0-2 c =
-    record { by_index = (λ index seen.
-          let q = question ((keeping c.args.v c.args.first.now c.args.journal.now)) c.args.path.now index in
+    let here = goal.at.returns-then-i-eq0-2 c in
+    let p : Spot = record { ino = c.args.ino; name_at = c.args.name_at; level = 0; block = 0 } in
+    record {
+      by_index = λ index seen.
+          let q = question (keeping c.args.v c.args.first.now c.args.journal.now) c.args.path.now index in
           rw c.go_to-then-i-eq0-2.ensures
-          (no_levels q _ _ _ _ _ (names (goal.at.returns-then-i-eq0-2 c).After-part_end-end) c.inode_of-i.ensures (is_directory_lem (goal.at.returns-then-i-eq0-2 c).Else-not-is_directory) c.if-i-eq0.false (has_blocks (goal.at.returns-then-i-eq0-2 c).Else-has_inline_dentry)
-          ((record { ino = c.args.ino; name_at = c.args.name_at; level = 0; block = 0 })) c.if-i-eq0-2.true)); by_index_2 = (λ index. rw c.go_to-then-i-eq0-2.ensures tt) }
+          (no_levels q _ _ _ _ _ (names here.After-part_end-end) c.inode_of-i.ensures (is_directory_lem here.Else-not-is_directory) c.if-i-eq0.false
+          (has_blocks here.Else-has_inline_dentry)
+          p c.if-i-eq0-2.true);
+      by_index_2 = λ index. rw c.go_to-then-i-eq0-2.ensures tt;
+    }
 
 pub search-requires : goal.search-requires
 search-requires c =
@@ -123,8 +154,14 @@ search-requires c =
 
 pub returns : goal.returns
 returns c =
-    let a = c.args in record { by_index = (λ index seen.
-          let q = question ((keeping c.args.v c.args.first.now c.args.journal.now)) a.path.now index in
-          c.search.ensures.by_index a.path.now index _ _ seen c.hash-hash.ensures (names (goal.at.returns c).After-part_end-end)
-          ∙ sym (levels_came q _ _ _ _ _ (names (goal.at.returns c).After-part_end-end) c.inode_of-i.ensures (is_directory_lem (goal.at.returns c).Else-not-is_directory) c.if-i-eq0.false (has_blocks (goal.at.returns c).Else-has_inline_dentry)
-          c.if-i-eq0-2.false)); by_index_2 = (λ index. c.search.ensures.by_index_2 a.path.now index c.requires.bytes_len.1) }
+    let here = goal.at.returns c in
+    let a = c.args in
+    record {
+      by_index = λ index seen.
+          let q = question (keeping c.args.v c.args.first.now c.args.journal.now) a.path.now index in
+          c.search.ensures.by_index a.path.now index _ _ seen c.hash-hash.ensures (names here.After-part_end-end)
+          ∙ sym (levels_came q _ _ _ _ _ (names here.After-part_end-end) c.inode_of-i.ensures (is_directory_lem here.Else-not-is_directory) c.if-i-eq0.false
+          (has_blocks here.Else-has_inline_dentry)
+          c.if-i-eq0-2.false);
+      by_index_2 = λ index. c.search.ensures.by_index_2 a.path.now index c.requires.bytes_len.1;
+    }

@@ -9,12 +9,11 @@ use Rattle.walk.specs.Walk.{Seen}
 use Rattle.node.specs.Block.{held}
 use Rattle.dentry.specs.Scan.{sought_of}
 use Rattle.directory.specs.Find.{after_slots}
-use Rattle.asking.specs.Table.{Kept, keeping, asking}
+use Rattle.asking.specs.Table.{keeping, asking}
 use Rattle.asking.specs.Pull.{came}
 use Rattle.ask_directory.specs.Left.{question, names_from, data_then}
 use Rattle.ask_path.proofs.Names.{names_from_lem}
 use Rattle.ask_path.proofs.Directories.{then_names, turn_found, turn_malformed, turn_on, search_from, block_came_lem}
-use borrow.Author.Rules.{rules}
 use Rattle.ask_path.proofs.at_slots.Goals as goal
 use Rattle.ask_path.proofs.at_slots.Goals.{After-part_end-end, After-scan-turn}
 
@@ -31,16 +30,15 @@ names k = names_from_lem _ _ k.requires.inode_len.2 k.part_end-end.ensures
 
 -- the slots of the block
 slots : (k : After-scan-turn) → (index : ℕ) (seen : Seen) → let a = k.args in
-    let q = question ((keeping k.args.v k.args.first.now k.args.journal.now)) a.path.now index in
+    let q = question (keeping k.args.v k.args.first.now k.args.journal.now) a.path.now index in
     let at = a.spot.name_at in
     asking q.kept came seen (data_then q a.spot a.inode.now (names_from a.path.now at) (held a.bytes.now))
     ≡ then_names q seen (names_from a.path.now (k.part_end-end.result + 1))
     (after_slots (search_from q a.spot a.inode.now (take (k.part_end-end.result - at) (drop at a.path.now))) (sought_of k.scan-turn.result))
 slots k index seen =
-    let q = question ((keeping k.args.v k.args.first.now k.args.journal.now)) k.args.path.now index in
-    block_came_lem q k.args.spot _ seen _ _ ((let it : let a = k.args in
-    let at = a.spot.name_at in
-    names_from a.path.now at ≡ take (k.part_end-end.result - at) (drop at a.path.now) ∷ names_from a.path.now (k.part_end-end.result + 1) = names_from_lem _ _ k.requires.inode_len.2 k.part_end-end.ensures in it)) _ k.scan-turn.result k.hash-hash.ensures k.scan-turn.ensures
+    let q = question (keeping k.args.v k.args.first.now k.args.journal.now) k.args.path.now index in
+    let left = names_from_lem _ _ k.requires.inode_len.2 k.part_end-end.ensures in
+    block_came_lem q k.args.spot _ seen _ _ left _ k.scan-turn.result k.hash-hash.ensures k.scan-turn.ensures
 
 pub slice_bounds-hash-end : goal.slice_bounds-hash-end
 slice_bounds-hash-end c = let known = inside c in omega arith
@@ -68,21 +66,35 @@ search-requires c =
 
 pub returns-in-Found : goal.returns-in-Found
 returns-in-Found c =
+    let here = goal.at.returns-in-Found c in
     let a = c.args in
-    let found = c.in-Found.is in record { by_index = (λ index seen.
-          let q = question ((keeping c.args.v c.args.first.now c.args.journal.now)) a.path.now index in
-          c.enter.ensures.by_index a.path.now index a.inode.now seen ∙ sym (slots (goal.at.returns-in-Found c).After-scan-turn index seen ∙ turn_found q seen _ _ _ _ found)); by_index_2 = (λ index. c.enter.ensures.by_index_2 a.path.now index a.inode.now) }
+    let found = c.in-Found.is in
+    record {
+      by_index = λ index seen.
+          let q = question (keeping c.args.v c.args.first.now c.args.journal.now) a.path.now index in
+          c.enter.ensures.by_index a.path.now index a.inode.now seen ∙ sym (slots here.After-scan-turn index seen ∙ turn_found q seen _ _ _ _ found);
+      by_index_2 = λ index. c.enter.ensures.by_index_2 a.path.now index a.inode.now;
+    }
 
 pub returns-in-Malformed : goal.returns-in-Malformed
 returns-in-Malformed c =
-    record { by_index = (λ index seen.
-          let q = question ((keeping c.args.v c.args.first.now c.args.journal.now)) c.args.path.now index in
+    record {
+      by_index = λ index seen.
+          let q = question (keeping c.args.v c.args.first.now c.args.journal.now) c.args.path.now index in
           let malformed = turn_malformed q seen _ _ _ c.args.inode.now c.args.spot c.in-Malformed.is in
-          rw c.go_to.ensures (malformed ∙ sym (slots (goal.at.returns-in-Malformed c).After-scan-turn index seen))); by_index_2 = (λ index. rw c.go_to.ensures tt) }
+          rw c.go_to.ensures (malformed ∙ sym (slots (goal.at.returns-in-Malformed c).After-scan-turn index seen));
+      by_index_2 = λ index. rw c.go_to.ensures tt;
+    }
 
 pub returns-in-On : goal.returns-in-On
 returns-in-On c =
+    let here = goal.at.returns-in-On c in
     let a = c.args in
-    let absent = c.in-On.is in record { by_index = (λ index seen.
-          let q = question ((keeping c.args.v c.args.first.now c.args.journal.now)) a.path.now index in
-          c.search.ensures.by_index a.path.now index _ _ seen c.hash-hash.ensures (names (goal.at.returns-in-On c).After-part_end-end) ∙ sym (slots (goal.at.returns-in-On c).After-scan-turn index seen ∙ turn_on q seen _ _ _ absent)); by_index_2 = (λ index. c.search.ensures.by_index_2 a.path.now index c.requires.inode_len.2) }
+    let absent = c.in-On.is in
+    record {
+      by_index = λ index seen.
+          let q = question (keeping c.args.v c.args.first.now c.args.journal.now) a.path.now index in
+          c.search.ensures.by_index a.path.now index _ _ seen c.hash-hash.ensures (names here.After-part_end-end)
+          ∙ sym (slots here.After-scan-turn index seen ∙ turn_on q seen _ _ _ absent);
+      by_index_2 = λ index. c.search.ensures.by_index_2 a.path.now index c.requires.inode_len.2;
+    }

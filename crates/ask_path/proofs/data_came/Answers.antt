@@ -12,7 +12,6 @@ use Rattle.ask_directory.specs.Left.{question}
 use Rattle.ask_path.proofs.Names.{no_names}
 use Rattle.ask_path.proofs.Spots.{file_has, directory_has}
 use Rattle.ask_path.proofs.Files.{full_came}
-use borrow.Author.Rules.{rules}
 use Rattle.ask_path.proofs.data_came.Goals as goal
 use Rattle.ask_path.proofs.data_came.Goals.{After-count_in-count, Else-path-spot, Then-path-spot}
 
@@ -31,10 +30,16 @@ count_in-count-requires c = rw c.inode_of.ensures (has_index (goal.at.count_in-c
 
 pub returns-then-path-spot : goal.returns-then-path-spot
 returns-then-path-spot c =
+    let here = goal.at.returns-then-path-spot c in
     let a = c.args in
     let behind = c.if-path-spot.true in
     let q = question (keeping a.v a.first.now a.journal.now) a.path.now a.index in
-    let no = no_names a.path.now a.spot.name_at behind in record { result_value = (λ seen. rw (lt-ltb _ _ behind, c.go_to.ensures) (full_came q a.spot a.inode.now seen no a.bytes.now _ (count_is (goal.at.returns-then-path-spot c).After-count_in-count))); move_in = (rw (lt-ltb _ _ behind, c.go_to.ensures) c.count_in-count.ensures.2) }
+    let no = no_names a.path.now a.spot.name_at behind in
+    record {
+      result_value = λ seen. rw (lt-ltb _ _ behind, c.go_to.ensures)
+          (full_came q a.spot a.inode.now seen no a.bytes.now _ (count_is here.After-count_in-count));
+      move_in = rw (lt-ltb _ _ behind, c.go_to.ensures) c.count_in-count.ensures.2;
+    }
 
 pub at_slots-requires : goal.at_slots-requires
 at_slots-requires c =
@@ -45,4 +50,7 @@ pub returns : goal.returns
 returns c =
     let a = c.args in
     let name = named (goal.at.returns c).Else-path-spot in
-    record { result_value = (λ seen. rw (le-ltb _ _ name) (c.at_slots.ensures.by_index a.index seen)); move_in = rw (le-ltb _ _ name) (c.at_slots.ensures.by_index_2 a.index) }
+    record {
+      result_value = λ seen. rw (le-ltb _ _ name) (c.at_slots.ensures.by_index a.index seen);
+      move_in = rw (le-ltb _ _ name) (c.at_slots.ensures.by_index_2 a.index);
+    }

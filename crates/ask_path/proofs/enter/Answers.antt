@@ -1,11 +1,10 @@
 -- `enter` meets its contract: its move is that of an inode which is sought.
 use mathlib.Core.Path.{◌≡◌, ap, ◌∙◌}
-use Rattle.asking.specs.Table.{Kept, keeping}
+use Rattle.asking.specs.Table.{keeping}
 use Rattle.ask_node.specs.Wants.{seek_wants}
 use Rattle.ask_directory.specs.Left.{question}
 use Rattle.ask_directory.specs.Move.{goes_on}
 use Rattle.ask_path.proofs.Entering.{enter_moved, enter_in}
-use borrow.Author.Rules.{rules}
 use Rattle.ask_path.proofs.enter.Goals as goal
 use Rattle.ask_path.proofs.enter.Goals.{After-goes_on-goes}
 
@@ -14,4 +13,8 @@ goes c = c.goes_on-goes.ensures ∙ ap (goes_on 0) c.seek-wants.ensures
 
 pub returns : goal.returns
 returns c =
-    let t = (keeping c.args.v c.args.first.now c.args.journal.now) in record { by_index = (λ path index block seen. rw (goes c) (enter_moved (question t path index) c.args.ino c.args.name_at block seen)); by_index_2 = (λ path index block. rw (goes c) (enter_in t c.args.ino c.args.name_at path index block)) }
+    let t = (keeping c.args.v c.args.first.now c.args.journal.now) in
+    record {
+      by_index = λ path index block seen. rw (goes c) (enter_moved (question t path index) c.args.ino c.args.name_at block seen);
+      by_index_2 = λ path index block. rw (goes c) (enter_in t c.args.ino c.args.name_at path index block);
+    }

@@ -1,6 +1,5 @@
 -- `scan` meets its contract: what the scan of a part comes to is what the slots of its block do.
 use Rattle.ask_path.proofs.Directories.{part_scanned}
-use borrow.Author.Rules.{rules}
 use Rattle.ask_path.proofs.scan.Goals as goal
 
 pub returns : goal.returns

@@ -5,17 +5,24 @@ use Rattle.asking.specs.Table.{keeping}
 use Rattle.ask_directory.specs.Left.{question}
 use Rattle.ask_directory.specs.Move.{goes_on}
 use Rattle.ask_path.proofs.Entering.{entry_moved, no_entry_moved, entry_is_node}
-use borrow.Author.Rules.{rules}
 use Rattle.ask_path.proofs.table_came.Goals as goal
 
 pub returns-in-OutOfRange : goal.returns-in-OutOfRange
 returns-in-OutOfRange c =
     let a = c.args in
-    let said = sym c.table_entry.ensures ∙ c.in-OutOfRange.is in record { by_index = (λ first journal path index inode s. rw said (no_entry_moved (question (keeping a.v first journal) path index) inode a.target a.spot s)); target_value = ((refl, refl, tt)) }
+    let said = sym c.table_entry.ensures ∙ c.in-OutOfRange.is in
+    record {
+      by_index = λ first journal path index inode s. rw said (no_entry_moved (question (keeping a.v first journal) path index) inode a.target a.spot s);
+      target_value = (refl, refl, tt);
+    }
 
 pub returns-in-Entry : goal.returns-in-Entry
 returns-in-Entry c =
     let a = c.args in
     let said = sym c.table_entry.ensures ∙ c.in-Entry.is in
-    let goes = c.goes_on-goes.ensures ∙ ap (goes_on 0) c.from_entry-wants.ensures in record { by_index = (λ first journal path index inode s.
-          rw (said, goes) (entry_moved (question (keeping a.v first journal) path index) inode a.target a.spot s _ _)); target_value = ((refl, refl, rw goes (entry_is_node (bounds_of a.v) _ _))) }
+    let goes = c.goes_on-goes.ensures ∙ ap (goes_on 0) c.from_entry-wants.ensures in
+    record {
+      by_index = λ first journal path index inode s.
+          rw (said, goes) (entry_moved (question (keeping a.v first journal) path index) inode a.target a.spot s _ _);
+      target_value = (refl, refl, rw goes (entry_is_node (bounds_of a.v) _ _));
+    }

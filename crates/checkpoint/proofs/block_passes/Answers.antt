@@ -1,6 +1,5 @@
-use Rattle.std.proofs.Common.{sym, refl, arith, length-take-le, rules, eq-eqb, ne_eqb}
+use Rattle.std.proofs.Common.{sym, arith, length-take-le, eq-eqb, ne_eqb}
 use Rattle.checkpoint.specs.Pack.{block_passes}
-use borrow.Author.Rules.{rules}
 use Rattle.checkpoint.proofs.block_passes.Goals as goal
 
 pub returns-then-cp-ne4092 : goal.returns-then-cp-ne4092

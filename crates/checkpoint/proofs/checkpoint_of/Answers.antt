@@ -1,6 +1,4 @@
 use Rattle.checkpoint.specs.Checkpoint.{checkpoint_of}
-use Rattle.std.proofs.Common.{rules}
-use borrow.Author.Rules.{rules}
 use Rattle.checkpoint.proofs.checkpoint_of.Goals as goal
 
 pub returns : goal.returns

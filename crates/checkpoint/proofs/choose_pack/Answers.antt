@@ -1,10 +1,9 @@
-use Rattle.std.proofs.Common.{◌≡◌, refl, arith, rules}
+use Rattle.std.proofs.Common.{◌≡◌, arith}
 use Rattle.field.specs.Card.{card_of}
 use Rattle.field.proofs.Blocks.{length_of_block}
 use Rattle.checkpoint.specs.Checkpoint.{header_of}
 use Rattle.checkpoint.specs.Pack.{newer, second_pack}
 use Rattle.checkpoint.proofs.Choosing.{chosen_in_order}
-use borrow.Author.Rules.{rules}
 use Rattle.checkpoint.proofs.choose_pack.Goals as goal
 use Rattle.checkpoint.proofs.choose_pack.Goals.{After-is_newer}
 
@@ -26,5 +25,9 @@ pub returns-then-is_newer : goal.returns-then-is_newer
 returns-then-is_newer c = rw (chosen_in_order, ← newer_by (goal.at.returns-then-is_newer c).After-is_newer, c.if-is_newer.true, c.first_passing.ensures)
 
 pub returns-else-is_newer : goal.returns-else-is_newer
-returns-else-is_newer c = rw (chosen_in_order, ← newer_by (goal.at.returns-else-is_newer c).After-is_newer, c.if-is_newer.false,
-    c.first_passing-else-is_newer.ensures)
+returns-else-is_newer c = rw (
+  chosen_in_order,
+  ← newer_by (goal.at.returns-else-is_newer c).After-is_newer,
+  c.if-is_newer.false,
+  c.first_passing-else-is_newer.ensures,
+)

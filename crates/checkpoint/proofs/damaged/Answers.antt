@@ -1,6 +1,4 @@
-use Rattle.std.proofs.Common.{rules}
 use Rattle.checkpoint.specs.Journal.{damaged}
-use borrow.Author.Rules.{rules}
 use Rattle.checkpoint.proofs.damaged.Goals as goal
 
 pub returns : goal.returns

@@ -1,7 +1,6 @@
-use Rattle.std.proofs.Common.{refl, rules, le-leb}
+use Rattle.std.proofs.Common.{le-leb}
 use borrow.Author.Tests.{lt-leb}
 use Rattle.checkpoint.proofs.Passing.{first_in_order}
-use borrow.Author.Rules.{rules}
 use Rattle.checkpoint.proofs.first_passes.Goals as goal
 
 pub returns-then-total-lt2 : goal.returns-then-total-lt2

@@ -1,5 +1,3 @@
-use Rattle.std.proofs.Common.{refl, rules}
-use borrow.Author.Rules.{rules}
 use Rattle.checkpoint.proofs.first_passing.Goals as goal
 
 pub returns-then-pack_passes : goal.returns-then-pack_passes

@@ -1,6 +1,4 @@
-use Rattle.std.proofs.Common.{rules}
 use Rattle.checkpoint.specs.Volume.{header_readable}
-use borrow.Author.Rules.{rules}
 use Rattle.checkpoint.proofs.header_readable.Goals as goal
 
 pub returns : goal.returns

@@ -1,6 +1,4 @@
-use Rattle.std.proofs.Common.{refl, rules}
 use Rattle.checkpoint.specs.Journal.{journal_offset}
-use borrow.Author.Rules.{rules}
 use Rattle.checkpoint.proofs.journal_at.Goals as goal
 
 pub returns-then-flag_set : goal.returns-then-flag_set

@@ -1,5 +1,3 @@
-use Rattle.std.proofs.Common.{refl, rules}
-use borrow.Author.Rules.{rules}
 use Rattle.checkpoint.proofs.journal_back.Goals as goal
 
 pub returns-then-flag_set : goal.returns-then-flag_set

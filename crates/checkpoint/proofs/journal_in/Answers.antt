@@ -1,6 +1,5 @@
-use Rattle.std.proofs.Common.{refl, arith, rules}
+use Rattle.std.proofs.Common.{arith}
 use Rattle.checkpoint.specs.Journal.{journal_in}
-use borrow.Author.Rules.{rules}
 use Rattle.checkpoint.proofs.journal_in.Goals as goal
 
 pub returns-then-flag_set : goal.returns-then-flag_set

@@ -1,7 +1,6 @@
-use Rattle.std.proofs.Common.{refl, arith, rules}
+use Rattle.std.proofs.Common.{arith}
 use borrow.Author.Rules.{part_to_end}
 use Rattle.field.proofs.Blocks.{length_of_block}
-use borrow.Author.Rules.{rules}
 use Rattle.checkpoint.proofs.journal_of.Goals as goal
 
 pub slice_bounds-result-count : goal.slice_bounds-result-count

@@ -1,6 +1,4 @@
-use Rattle.std.proofs.Common.{refl, rules}
 use Rattle.checkpoint.specs.Journal.{journal_placed}
-use borrow.Author.Rules.{rules}
 use Rattle.checkpoint.proofs.journal_placed.Goals as goal
 
 pub returns : goal.returns

@@ -1,8 +1,7 @@
-use Rattle.std.proofs.Common.{◌≤◌, arith, rules, leb-true}
+use Rattle.std.proofs.Common.{◌≤◌, arith, leb-true}
 use Rattle.field.specs.Number.{le16}
 use Rattle.checkpoint.specs.Volume.{journal_readable}
 use Rattle.checkpoint.proofs.Negated.{fails, holds}
-use borrow.Author.Rules.{rules}
 use Rattle.checkpoint.proofs.journal_readable.Goals as goal
 
 pub returns-then-not-count_within : goal.returns-then-not-count_within

@@ -1,7 +1,6 @@
-use Rattle.std.proofs.Common.{refl, rules, eq-eqb, ne_eqb}
+use Rattle.std.proofs.Common.{eq-eqb, ne_eqb}
 use mathlib.Core.Bool.{and-true, and-false}
 use Rattle.checkpoint.specs.Pack.{last_passes}
-use borrow.Author.Rules.{rules}
 use Rattle.checkpoint.proofs.last_passes.Goals as goal
 
 pub returns-then-cp-version : goal.returns-then-cp-version

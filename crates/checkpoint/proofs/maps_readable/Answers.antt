@@ -1,6 +1,4 @@
-use Rattle.std.proofs.Common.{refl, rules}
 use Rattle.checkpoint.specs.Volume.{maps_readable}
-use borrow.Author.Rules.{rules}
 use Rattle.checkpoint.proofs.maps_readable.Goals as goal
 
 pub returns : goal.returns

@@ -1,10 +1,9 @@
-use Rattle.std.proofs.Common.{◌≡◌, true, length, sym, ◌∙◌, rules}
+use Rattle.std.proofs.Common.{◌≡◌, true, length, sym, ◌∙◌}
 use Rattle.superblock.specs.Shape.{in_shape}
 use Rattle.superblock.proofs.Shaped.{shape_card}
 use Rattle.superblock.proofs.Finding.{areas_in_lem}
 use Rattle.checkpoint.proofs.Ways.{shape_refuses, shape_opens, opened_at}
 use Rattle.checkpoint.proofs.Negated.{fails, holds}
-use borrow.Author.Rules.{rules}
 use Rattle.checkpoint.proofs.open.Goals as goal
 use Rattle.checkpoint.proofs.open.Goals.{Else-not-in_shape}
 

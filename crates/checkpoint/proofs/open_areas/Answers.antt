@@ -1,6 +1,5 @@
-use Rattle.std.proofs.Common.{sym, refl, ◌∙◌, arith, rules}
+use Rattle.std.proofs.Common.{sym, ◌∙◌, arith}
 use Rattle.checkpoint.proofs.Choosing.{chosen_passes}
-use borrow.Author.Rules.{rules}
 use Rattle.checkpoint.proofs.open_areas.Goals as goal
 
 pub open_pack-requires : goal.open_pack-requires

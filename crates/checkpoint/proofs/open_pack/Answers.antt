@@ -1,4 +1,4 @@
-use Rattle.std.proofs.Common.{◌≡◌, ◌<◌, ◌≤◌, true, sym, arith, rules}
+use Rattle.std.proofs.Common.{◌≡◌, ◌<◌, ◌≤◌, true, sym, arith}
 use Rattle.field.specs.Card.{card_of}
 use Rattle.field.proofs.Blocks.{length_of_block}
 use Rattle.checkpoint.specs.Checkpoint.{header_of}
@@ -8,7 +8,6 @@ use Rattle.checkpoint.proofs.Reading.{journal_at_most, journal_inside_lem, reada
 use Rattle.checkpoint.proofs.Inside.{journal_room}
 use Rattle.checkpoint.proofs.Ways.{header_refuses, journal_refuses, pack_opens}
 use Rattle.checkpoint.proofs.Negated.{fails, holds}
-use borrow.Author.Rules.{rules}
 use Rattle.checkpoint.proofs.open_pack.Goals as goal
 use Rattle.checkpoint.proofs.open_pack.Goals.{After-checkpoint_of-cp, After-volume_of-volume, Else-not-header_readable}
 
@@ -31,13 +30,17 @@ maps k = readable_maps _ _ (readable k)
 placed : (k : After-volume_of-volume) → let v = k.volume_of-volume.result in
     (v.journal_block < (card_of k.args.image.now).blocks) × (v.journal_at ≤ 3584)
 placed k =
-    rw k.volume_of-volume.ensures
-    (omega (arith, (let it : let cp = k.checkpoint_of-cp.result in
-    (2 ≤ cp.cp_pack_total_block_count) × (cp.cp_pack_total_block_count ≤ 512) = rw (let it : let a = k.args in k.checkpoint_of-cp.result ≡ header_of
-    (card_of a.image.now) a.start = rw k.block_at.ensures at k.checkpoint_of-cp.ensures in it) (passing_total _ _ k.requires.start_value) in it),
-    journal_inside_lem _ _ (let it : maps_readable k.args.areas k.checkpoint_of-cp.result ≡ true = readable_maps _ _
-    (let it : header_readable k.args.areas k.checkpoint_of-cp.result ≡ true = holds k.header_readable.ensures k.if-not-header_readable.false in it) in it)),
-    journal_at_most _)
+    rw k.volume_of-volume.ensures (
+      omega (
+        arith,
+        (let it : let cp = k.checkpoint_of-cp.result in
+            (2 ≤ cp.cp_pack_total_block_count) × (cp.cp_pack_total_block_count ≤ 512) = rw (let it : let a = k.args in k.checkpoint_of-cp.result ≡ header_of
+            (card_of a.image.now) a.start = rw k.block_at.ensures at k.checkpoint_of-cp.ensures in it) (passing_total _ _ k.requires.start_value) in it),
+        journal_inside_lem _ _ (let it : maps_readable k.args.areas k.checkpoint_of-cp.result ≡ true = readable_maps _ _
+            (let it : header_readable k.args.areas k.checkpoint_of-cp.result ≡ true = holds k.header_readable.ensures k.if-not-header_readable.false in it) in it),
+      ),
+      journal_at_most _,
+    )
 
 pub checkpoint_of-cp-requires : goal.checkpoint_of-cp-requires
 checkpoint_of-cp-requires c =

@@ -1,9 +1,8 @@
-use Rattle.std.proofs.Common.{◌≡◌, ◌≤◌, length, refl, arith, rules}
+use Rattle.std.proofs.Common.{◌≡◌, ◌≤◌, length, arith}
 use Rattle.field.proofs.Blocks.{length_of_block}
 use Rattle.checkpoint.specs.Pack.{pack_passes}
 use Rattle.checkpoint.proofs.Passing.{first_total}
 use Rattle.checkpoint.proofs.Negated.{fails, holds}
-use borrow.Author.Rules.{rules}
 use Rattle.checkpoint.proofs.pack_passes.Goals as goal
 use Rattle.checkpoint.proofs.pack_passes.Goals.{After-block_at-first, Else-not-first_passes}
 

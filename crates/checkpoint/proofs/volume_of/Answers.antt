@@ -1,6 +1,5 @@
-use Rattle.std.proofs.Common.{refl, arith, rules}
+use Rattle.std.proofs.Common.{arith}
 use Rattle.checkpoint.proofs.Reading.{map_inside_lem, journal_inside_lem}
-use borrow.Author.Rules.{rules}
 use Rattle.checkpoint.proofs.volume_of.Goals as goal
 
 pub overflow_add-result : goal.overflow_add-result

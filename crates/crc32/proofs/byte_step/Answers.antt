@@ -4,7 +4,6 @@ use Prim.Native.Nat.{ℕ, ◌/◌}
 use native.Mathlib.Omega.{arith}
 use lib.Bits.{bit_xor, xor_lt}
 use Rattle.crc32.proofs.Linear.{one_byte}
-use borrow.Author.Rules.{rules}
 use Rattle.crc32.proofs.byte_step.Goals as goal
 
 pub overflow_cast-v-2 : goal.overflow_cast-v-2

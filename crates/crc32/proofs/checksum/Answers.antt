@@ -2,7 +2,6 @@
 use mathlib.Core.Path.{refl}
 use Rattle.crc32.specs.Checksum.{crc_bit, crc_bits}
 use Rattle.crc32.proofs.EntryTest.{is_table}
-use borrow.Author.Rules.{rules}
 use Rattle.crc32.proofs.checksum.Goals as goal
 
 pub over_bytes-requires : goal.over_bytes-requires

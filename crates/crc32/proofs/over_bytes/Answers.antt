@@ -5,7 +5,6 @@ use native.Mathlib.Omega.{arith}
 use lib.ListN.{length, take, drop, length-drop}
 use lib.Seq.{take_all}
 use Rattle.crc32.specs.Checksum.{crc_from}
-use borrow.Author.Rules.{rules}
 use Rattle.crc32.proofs.over_bytes.Goals as goal
 
 pub returns : goal.returns

@@ -1,10 +1,6 @@
-use mathlib.Core.Path.{◌≡◌, refl, sym, ◌∙◌}
-use Prim.Native.Nat.{◌-◌, ◌≤◌}
+use mathlib.Core.Path.{refl, sym, ◌∙◌}
 use native.Mathlib.Omega.{arith}
-use lib.ListN.{length, drop}
-use Rattle.crc32.specs.Checksum.{crc_from}
 use Rattle.crc32.proofs.Turns.{turn, end}
-use borrow.Author.Rules.{rules}
 use Rattle.crc32.proofs.over_rest.Goals as goal
 
 pub loop-at-init : goal.loop-at-init

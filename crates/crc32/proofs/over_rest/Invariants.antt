@@ -1,10 +1,8 @@
 -- `crc32::over_rest` meets its contract. The invariant: what is left, from the value so far, gives the answer.
-use mathlib.Core.Path.{◌≡◌, refl, sym, ◌∙◌}
+use mathlib.Core.Path.{◌≡◌}
 use Prim.Native.Nat.{◌-◌, ◌≤◌}
-use native.Mathlib.Omega.{arith}
 use lib.ListN.{length, drop}
 use Rattle.crc32.specs.Checksum.{crc_from}
-use Rattle.crc32.proofs.Turns.{turn, end}
 use Rattle.crc32.proofs.over_rest.Given as goal
 
 abbrev pub invariant-loop-at : goal.invariant-loop-at

@@ -1,10 +1,9 @@
 use mathlib.Core.Path.{◌≡◌, refl, ap, ◌∙◌}
-use Prim.Native.Nat.{ℕ, ◌-◌, ◌*◌, ◌/◌, ◌%◌, ◌≤◌}
+use Prim.Native.Nat.{ℕ, ◌*◌, ◌/◌}
 use native.Mathlib.Omega.{arith}
 use lib.ListN.{length, drop}
 use Rattle.crc32.specs.Checksum.{crc_from}
 use Rattle.crc32.proofs.Turns.{group_turn}
-use borrow.Author.Rules.{rules}
 use Rattle.crc32.proofs.over_words.Goals as goal
 
 pub loop-at-init : goal.loop-at-init

@@ -1,11 +1,9 @@
 -- `crc32::over_words` meets its contract. The invariant: what is left, from the value so far, gives the answer, and the
 -- offset is a multiple of eight.
-use mathlib.Core.Path.{◌≡◌, refl, ap, ◌∙◌}
-use Prim.Native.Nat.{ℕ, ◌-◌, ◌*◌, ◌/◌, ◌%◌, ◌≤◌}
-use native.Mathlib.Omega.{arith}
+use mathlib.Core.Path.{◌≡◌}
+use Prim.Native.Nat.{◌-◌, ◌%◌, ◌≤◌}
 use lib.ListN.{length, drop}
 use Rattle.crc32.specs.Checksum.{crc_from}
-use Rattle.crc32.proofs.Turns.{group_turn}
 use Rattle.crc32.proofs.over_words.Given as goal
 
 abbrev pub invariant-loop-at : goal.invariant-loop-at

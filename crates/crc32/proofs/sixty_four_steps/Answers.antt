@@ -3,7 +3,6 @@ use mathlib.Core.Path.{sym}
 use native.Mathlib.Nat.{div-div-eq-div-mul}
 use lib.Bits.{xor_zero_r}
 use Rattle.crc32.proofs.EightBytes.{entries, by_entries}
-use borrow.Author.Rules.{rules}
 use Rattle.crc32.proofs.sixty_four_steps.Goals as goal
 
 pub returns : goal.returns

@@ -1,7 +1,6 @@
 -- `crc32::table_entry` meets its contract: the table's rule at the row and the byte.
 use Prim.Native.Nat.{◌%◌}
 use native.Mathlib.Omega.{arith}
-use borrow.Author.Rules.{rules}
 use Rattle.crc32.proofs.table_entry.Goals as goal
 
 pub returns : goal.returns

@@ -4,7 +4,6 @@ use Prim.Native.Nat.{ℕ}
 use lib.Bits.{bit_xor}
 use Rattle.crc32.specs.Checksum.{crc_bits}
 use Rattle.crc32.proofs.EightBytes.{le64_is, group}
-use borrow.Author.Rules.{rules}
 use Rattle.crc32.proofs.word_step.Goals as goal
 
 pub returns : goal.returns

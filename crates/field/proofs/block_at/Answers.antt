@@ -1,7 +1,6 @@
 use Prim.Native.Nat.{◌*◌}
 use native.Mathlib.Nat.{add-sub_cancel_left}
 use Rattle.field.specs.Card.{block_of}
-use borrow.Author.Rules.{rules}
 use Rattle.field.proofs.block_at.Goals as goal
 
 pub returns : goal.returns

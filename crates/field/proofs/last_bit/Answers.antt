@@ -1,5 +1,4 @@
 use lib.Bits.{and_mask}
-use borrow.Author.Rules.{rules}
 use Rattle.field.proofs.last_bit.Goals as goal
 
 pub returns : goal.returns

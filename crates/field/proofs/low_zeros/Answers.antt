@@ -1,9 +1,7 @@
 use native.Mathlib.Omega.{arith}
-use mathlib.Core.Path.{◌≡◌, refl, sym, ◌∙◌}
-use Prim.Native.Nat.{◌-◌, ◌≤◌}
-use Rattle.field.specs.Map.{zeros_from, low_zeros}
+use mathlib.Core.Path.{refl, sym, ◌∙◌}
+use Rattle.field.specs.Map.{zeros_from}
 use Rattle.field.proofs.Zeros.{run_on, run_end}
-use borrow.Author.Rules.{rules}
 use Rattle.field.proofs.low_zeros.Goals as goal
 
 pub overflow_sub-most : goal.overflow_sub-most

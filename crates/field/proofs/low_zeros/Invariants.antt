@@ -1,9 +1,7 @@
 -- `low_zeros` meets its contract. Where the loop stands, all bits of the run are 0.
-use native.Mathlib.Omega.{arith}
-use mathlib.Core.Path.{◌≡◌, refl, sym, ◌∙◌}
+use mathlib.Core.Path.{◌≡◌}
 use Prim.Native.Nat.{◌-◌, ◌≤◌}
-use Rattle.field.specs.Map.{zeros_from, low_zeros}
-use Rattle.field.proofs.Zeros.{run_on, run_end}
+use Rattle.field.specs.Map.{low_zeros}
 use Rattle.field.proofs.low_zeros.Given as goal
 
 abbrev pub invariant-loop-run : goal.invariant-loop-run

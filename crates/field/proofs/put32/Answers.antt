@@ -2,7 +2,6 @@ use native.Mathlib.Omega.{arith}
 use mathlib.Core.Path.{refl}
 use lib.ListN.{length-set}
 use Rattle.field.specs.Number.{put32_at}
-use borrow.Author.Rules.{rules}
 use Rattle.field.proofs.put32.Goals as goal
 
 pub bounds-bytes-at-2 : goal.bounds-bytes-at-2

@@ -1,11 +1,9 @@
-use mathlib.Core.Path.{◌≡◌, refl, ◌∙◌, sym}
-use Prim.Native.Nat.{◌+◌, ◌-◌, ◌≤◌}
+use mathlib.Core.Path.{◌∙◌, sym}
 use native.Mathlib.Nat.{add-zero}
 use native.Mathlib.Omega.{arith}
-use lib.ListN.{length, drop, drop_of_length-le}
+use lib.ListN.{drop_of_length-le}
 use Rattle.field.specs.Bytes.{same_at}
 use Rattle.field.proofs.Comparing.{same_next, same_stops}
-use borrow.Author.Rules.{rules}
 use Rattle.field.proofs.same_at.Goals as goal
 
 pub loop-i-init : goal.loop-i-init

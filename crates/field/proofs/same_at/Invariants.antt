@@ -1,11 +1,8 @@
 -- The invariant: what is left to compare decides.
-use mathlib.Core.Path.{◌≡◌, refl, ◌∙◌, sym}
+use mathlib.Core.Path.{◌≡◌}
 use Prim.Native.Nat.{◌+◌, ◌-◌, ◌≤◌}
-use native.Mathlib.Nat.{add-zero}
-use native.Mathlib.Omega.{arith}
-use lib.ListN.{length, drop, drop_of_length-le}
+use lib.ListN.{length, drop}
 use Rattle.field.specs.Bytes.{same_at}
-use Rattle.field.proofs.Comparing.{same_next, same_stops}
 use Rattle.field.proofs.same_at.Given as goal
 
 abbrev pub invariant-loop-i : goal.invariant-loop-i

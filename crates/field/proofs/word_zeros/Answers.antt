@@ -1,11 +1,9 @@
 -- A word either has a set bit among those that are counted, or zeros to its end: what the shift brings in behind them is none of the map.
 use native.Mathlib.Omega.{arith}
-use mathlib.Core.List.{List}
 use Prim.Native.Nat.{ℕ, ◌/◌, ◌%◌, ◌^◌, ◌<◌}
 use lib.ListN.{get_or}
 use lib.Count.{trailing_le}
 use Rattle.field.proofs.Zeros.{word_ends, word_one, word_passed}
-use borrow.Author.Rules.{rules}
 use Rattle.field.proofs.word_zeros.Goals as goal
 use Rattle.field.proofs.word_zeros.Goals.{After-get64}
 

@@ -1,4 +1,3 @@
-use borrow.Author.Rules.{rules}
 use Rattle.journal.proofs.count_within.Goals as goal
 
 pub returns : goal.returns

@@ -1,7 +1,6 @@
 use native.Mathlib.Omega.{arith}
 use mathlib.Core.Path.{◌∙◌, sym}
-use Rattle.journal.proofs.Searching.{Searching, search_starts, search_over, entry_inside, search_found, search_passed}
-use borrow.Author.Rules.{rules}
+use Rattle.journal.proofs.Searching.{search_starts, search_over, entry_inside, search_found, search_passed}
 use Rattle.journal.proofs.find_among.Goals as goal
 
 pub loop-left-init : goal.loop-left-init

@@ -1,6 +1,4 @@
-use native.Mathlib.Omega.{arith}
-use mathlib.Core.Path.{◌∙◌, sym}
-use Rattle.journal.proofs.Searching.{Searching, search_starts, search_over, entry_inside, search_found, search_passed}
+use Rattle.journal.proofs.Searching.{Searching}
 use Rattle.journal.proofs.find_among.Given as goal
 
 abbrev pub invariant-loop-left : goal.invariant-loop-left

@@ -1,5 +1,4 @@
 use Rattle.journal.specs.Journal.{journal_find}
-use borrow.Author.Rules.{rules}
 use Rattle.journal.proofs.find_entry.Goals as goal
 
 pub find_among-requires : goal.find_among-requires

@@ -1,6 +1,5 @@
 use mathlib.Core.Path.{◌≡◌, ◌∙◌, sym, ap}
 use Rattle.journal.specs.Journal.{number_of, search_from, is_found}
-use borrow.Author.Rules.{rules}
 use Rattle.journal.proofs.named_before.Goals as goal
 use Rattle.journal.proofs.named_before.Goals.{After-find_among}
 

@@ -1,12 +1,9 @@
 use native.Mathlib.Omega.{arith}
 use native.Mathlib.Nat.{mul-le-mul_left}
-use mathlib.Core.Path.{◌≡◌, ◌∙◌, sym}
-use mathlib.Core.Bool.{false}
-use Prim.Native.Nat.{◌+◌, ◌-◌, ◌*◌, ◌≤◌}
+use mathlib.Core.Path.{◌∙◌, sym}
+use Prim.Native.Nat.{◌+◌, ◌*◌, ◌≤◌}
 use Rattle.field.specs.Number.{le16}
-use Rattle.journal.specs.Journal.{twice_among}
 use Rattle.journal.proofs.Once.{once_starts, once_further, once_over, twice_found}
-use borrow.Author.Rules.{rules}
 use Rattle.journal.proofs.names_twice.Goals as goal
 
 pub loop-i-init : goal.loop-i-init

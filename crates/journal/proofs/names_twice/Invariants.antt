@@ -1,11 +1,8 @@
-use native.Mathlib.Omega.{arith}
-use native.Mathlib.Nat.{mul-le-mul_left}
-use mathlib.Core.Path.{◌≡◌, ◌∙◌, sym}
+use mathlib.Core.Path.{◌≡◌}
 use mathlib.Core.Bool.{false}
-use Prim.Native.Nat.{◌+◌, ◌-◌, ◌*◌, ◌≤◌}
+use Prim.Native.Nat.{◌-◌, ◌≤◌}
 use Rattle.field.specs.Number.{le16}
 use Rattle.journal.specs.Journal.{twice_among}
-use Rattle.journal.proofs.Once.{once_starts, once_further, once_over, twice_found}
 use Rattle.journal.proofs.names_twice.Given as goal
 
 abbrev pub invariant-loop-i : goal.invariant-loop-i

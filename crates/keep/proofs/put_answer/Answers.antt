@@ -1,6 +1,4 @@
 -- A table answer of either kind is three numbers.
-use Prim.Native.Nat.{ℕ}
-use mathlib.Core.List.{List}
 use mathlib.Core.Path.{ap, sym, ◌∙◌}
 use Rattle.nat.specs.declared.TableAnswer.{TableAnswer}
 use Rattle.buffer.specs.Laid.{laid_at}
@@ -10,8 +8,10 @@ use Rattle.keep.proofs.put_answer.Goals as goal
 
 pub returns-in-OutOfRange : goal.returns-in-OutOfRange
 returns-in-OutOfRange c =
-    c.put_three.ensures ∙ ap ((laid_at c.args.at (answer_bytes t) c.args.room.now)) (sym c.in-OutOfRange.is)
+    let laid = λ (t : TableAnswer). laid_at c.args.at (answer_bytes t) c.args.room.now in
+    c.put_three.ensures ∙ ap laid (sym c.in-OutOfRange.is)
 
 pub returns-in-Entry : goal.returns-in-Entry
 returns-in-Entry c =
-    c.put_three-in-Entry.ensures ∙ ap ((laid_at c.args.at (answer_bytes t) c.args.room.now)) (sym c.in-Entry.is)
+    let laid = λ (t : TableAnswer). laid_at c.args.at (answer_bytes t) c.args.room.now in
+    c.put_three-in-Entry.ensures ∙ ap laid (sym c.in-Entry.is)

@@ -27,13 +27,13 @@ loop-i-preserved c =
     let loop = c.loop-i in
     let read = c.get32 in
     let place = c.args.at + 4100 * loop.i in
-    let here = listed_next _ _ _ _ c.loop-i-test.true read.ensures loop.inv.2 in
+    let here = listed_next _ _ _ _ c.loop-i-test.true read.ensures loop.invariant.2 in
     let size = block_size c.args.image.now _ here.0 in
     let on =
     turn _ _ c.args.blocks.now loop.i c.args.count c.loop-i-test.true read.ensures place 4100
     loop.room size (omega arith) c.put_block.ensures in
     let next : c.args.at + 4100 * (loop.i + 1) ≡ place + 4100 = omega arith in
-    (omega arith, omega arith, here.1, rw next (on ∙ loop.inv.3))
+    (omega arith, omega arith, here.1, rw next (on ∙ loop.invariant.3))
 
 pub returns : goal.returns
 returns c =

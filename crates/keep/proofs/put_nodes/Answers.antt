@@ -27,7 +27,7 @@ loop-i-preserved c =
     turn _ _ c.args.nodes.now loop.i c.args.count c.loop-i-test.true c.get32.ensures place 16
     loop.room size (omega arith) c.put_node.ensures in
     let next : c.args.at + 16 * (loop.i + 1) ≡ place + 16 = omega arith in
-    (omega arith, omega arith, rw next (on ∙ loop.inv.2))
+    (omega arith, omega arith, rw next (on ∙ loop.invariant.2))
 
 pub returns : goal.returns
 returns c =

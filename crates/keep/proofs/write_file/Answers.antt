@@ -13,15 +13,25 @@ use borrow.Author.Rules.{rules}
 use Rattle.keep.proofs.write_file.Goals as goal
 use Rattle.keep.proofs.write_file.Goals.{After-file_end-end}
 
+-- ---- what is found, and the file of it
+abbrev result_at : (k : After-file_end-end) → Result
+result_at k = let a = k.args in result_in a.pulled (lending a.block.now a.nodes.now a.blocks.now)
+
+abbrev file_at : (k : After-file_end-end) → List ℕ
+file_at k = let a = k.args in layout (keep_found (card_of a.image.now) a.v a.path.now a.index (result_at k))
+
 -- its length is the end that was reckoned
-file_size : (k : After-file_end-end) → length ((layout (keep_found (card_of k.args.image.now) k.args.v k.args.path.now k.args.index ((result_in k.args.pulled (lending k.args.block.now k.args.nodes.now k.args.blocks.now)))))) ≡ k.file_end-end.result
+file_size : (k : After-file_end-end) → length (file_at k) ≡ k.file_end-end.result
 file_size k =
-    found_length k.args.image.now k.args.v k.args.path.now k.args.index ((result_in k.args.pulled (lending k.args.block.now k.args.nodes.now k.args.blocks.now))) k.requires ∙ sym k.file_end-end.ensures
+    let a = k.args in
+    found_length a.image.now a.v a.path.now a.index (result_at k) k.requires ∙ sym k.file_end-end.ensures
 
 pub returns-then-room-end : goal.returns-then-room-end
 returns-then-room-end c =
-    room_short ((layout (keep_found (card_of c.args.image.now) c.args.v c.args.path.now c.args.index ((result_in c.args.pulled (lending c.args.block.now c.args.nodes.now c.args.blocks.now)))))) c.args.room.now (file_size (goal.at.returns-then-room-end c).After-file_end-end) (omega (arith, c.if-room-end.true))
+    let k = (goal.at.returns-then-room-end c).After-file_end-end in
+    room_short (file_at k) c.args.room.now (file_size k) (omega (arith, c.if-room-end.true))
 
 pub returns : goal.returns
 returns c =
-    room_enough ((layout (keep_found (card_of c.args.image.now) c.args.v c.args.path.now c.args.index ((result_in c.args.pulled (lending c.args.block.now c.args.nodes.now c.args.blocks.now)))))) c.args.room.now (file_size (goal.at.returns c).After-file_end-end) (omega (arith, c.if-room-end.false)) c.put_file.ensures
+    let k = (goal.at.returns c).After-file_end-end in
+    room_enough (file_at k) c.args.room.now (file_size k) (omega (arith, c.if-room-end.false)) c.put_file.ensures

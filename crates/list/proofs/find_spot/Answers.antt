@@ -1,9 +1,9 @@
 use native.Mathlib.Omega.{arith}
-use Prim.Native.Nat.{ℕ, ◌-◌, ◌*◌, ◌≤◌, ◌<◌}
+use Prim.Native.Nat.{◌-◌, ◌*◌, ◌≤◌, ◌<◌}
 use mathlib.Core.Path.{sym, ◌∙◌}
 use lib.ListN.{length}
 use Rattle.list.proofs.Entries.{holds_inside}
-use Rattle.list.proofs.Between.{Between, between_start, between_low, between_high, between_there, between_end}
+use Rattle.list.proofs.Between.{between_start, between_low, between_high, between_there, between_end}
 use borrow.Author.Rules.{rules}
 use Rattle.list.proofs.find_spot.Goals as goal
 use Rattle.list.proofs.find_spot.Goals.{After-least-gap}

@@ -1,6 +1,4 @@
-use Prim.Native.Nat.{◌+◌, ◌-◌}
-use Rattle.list.proofs.Entries.{Shifting, shift_again, shift_end}
-use borrow.Author.Rules.{rules}
+use Rattle.list.proofs.Entries.{shift_again, shift_end}
 use Rattle.list.proofs.shift_in.Goals as goal
 
 pub loop-i-preserved : goal.loop-i-preserved

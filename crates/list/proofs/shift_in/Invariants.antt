@@ -1,7 +1,7 @@
 -- `shift_in` meets its contract. The invariant: with `carry` put before entry i, the numbers are those that are wanted.
 -- The measure: how many stores are left.
 use Prim.Native.Nat.{◌+◌, ◌-◌}
-use Rattle.list.proofs.Entries.{Shifting, shift_again, shift_end}
+use Rattle.list.proofs.Entries.{Shifting}
 use Rattle.list.proofs.shift_in.Given as goal
 
 abbrev pub invariant-loop-i : goal.invariant-loop-i

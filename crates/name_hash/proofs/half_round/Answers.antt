@@ -1,7 +1,5 @@
 -- The half round is its definition, term for term.
-use Rattle.std.proofs.Common.{rules}
 use Rattle.name_hash.specs.Hash.{half_round}
-use borrow.Author.Rules.{rules}
 use Rattle.name_hash.proofs.half_round.Goals as goal
 
 pub returns : goal.returns

@@ -1,8 +1,6 @@
-use Rattle.std.proofs.Common.{◌≡◌, ◌-◌, ◌≤◌, length, drop, sym, ◌∙◌, arith, length-drop, rules}
+use Rattle.std.proofs.Common.{◌≤◌, length, drop, sym, ◌∙◌, arith, length-drop}
 use native.Mathlib.Nat.{sub-zero}
-use Rattle.name_hash.specs.Hash.{absorb, start_state}
-use Rattle.name_hash.proofs.Turns.{absorb_from, absorb_next, absorb_last, rest_part, hash_dots, hash_other}
-use borrow.Author.Rules.{rules}
+use Rattle.name_hash.proofs.Turns.{absorb_next, absorb_last, rest_part, hash_dots, hash_other}
 use Rattle.name_hash.proofs.hash.Goals as goal
 
 pub is_dots-requires : goal.is_dots-requires

@@ -1,8 +1,7 @@
 -- The loop's invariant: the hash's state at the end is what the rest of the name makes of the state reached.
-use Rattle.std.proofs.Common.{◌≡◌, ◌-◌, ◌≤◌, length, drop, sym, ◌∙◌, arith, length-drop, rules}
-use native.Mathlib.Nat.{sub-zero}
+use Rattle.std.proofs.Common.{◌≡◌, ◌-◌, ◌≤◌, length}
 use Rattle.name_hash.specs.Hash.{absorb, start_state}
-use Rattle.name_hash.proofs.Turns.{absorb_from, absorb_next, absorb_last, rest_part, hash_dots, hash_other}
+use Rattle.name_hash.proofs.Turns.{absorb_from}
 use Rattle.name_hash.proofs.hash.Given as goal
 
 abbrev pub invariant-loop-at : goal.invariant-loop-at

@@ -1,6 +1,5 @@
 -- Both arms by what `is_name` and `hash` ensure.
-use Rattle.std.proofs.Common.{sym, ◌∙◌, rules}
-use borrow.Author.Rules.{rules}
+use Rattle.std.proofs.Common.{sym, ◌∙◌}
 use Rattle.name_hash.proofs.hash_answer.Goals as goal
 
 pub returns-then-is_name : goal.returns-then-is_name

@@ -1,7 +1,6 @@
 -- The three lengths, each by its law.
-use Rattle.std.proofs.Common.{sym, rules}
+use Rattle.std.proofs.Common.{sym}
 use Rattle.name_hash.proofs.Dots.{dots_one, dots_two, dots_none}
-use borrow.Author.Rules.{rules}
 use Rattle.name_hash.proofs.is_dots.Goals as goal
 
 pub returns-then-n-eq1 : goal.returns-then-n-eq1

@@ -1,7 +1,6 @@
 -- The length's test decides whether the bytes are looked at.
-use Rattle.std.proofs.Common.{◌≡◌, true, false, length, rules}
+use Rattle.std.proofs.Common.{◌≡◌, true, false, length}
 use Rattle.name_hash.specs.Name.{name_length}
-use borrow.Author.Rules.{rules}
 use Rattle.name_hash.proofs.is_name.Goals as goal
 
 pub returns-then-n : goal.returns-then-n

@@ -1,7 +1,5 @@
 -- The key is its definition: four words over one pad.
 use Rattle.name_hash.specs.Hash.{key_of}
-use Rattle.std.proofs.Common.{rules}
-use borrow.Author.Rules.{rules}
 use Rattle.name_hash.proofs.key_of.Goals as goal
 
 pub returns : goal.returns

@@ -1,7 +1,5 @@
-use Rattle.std.proofs.Common.{◌≡◌, ◌-◌, ◌≤◌, sym, ◌∙◌, add-zero, arith}
-use Rattle.name_hash.specs.Hash.{key_word}
-use Rattle.name_hash.proofs.Words.{word_from, word_next, word_short, word_full}
-use borrow.Author.Rules.{rules}
+use Rattle.std.proofs.Common.{sym, ◌∙◌, add-zero, arith}
+use Rattle.name_hash.proofs.Words.{word_next, word_short, word_full}
 use Rattle.name_hash.proofs.key_word.Goals as goal
 
 pub loop-j-init : goal.loop-j-init

@@ -1,7 +1,7 @@
 -- The loop's invariant: the key word is what the bytes that are left make of the word reached.
-use Rattle.std.proofs.Common.{◌≡◌, ◌-◌, ◌≤◌, sym, ◌∙◌, add-zero, arith}
+use Rattle.std.proofs.Common.{◌≡◌, ◌-◌, ◌≤◌}
 use Rattle.name_hash.specs.Hash.{key_word}
-use Rattle.name_hash.proofs.Words.{word_from, word_next, word_short, word_full}
+use Rattle.name_hash.proofs.Words.{word_from}
 use Rattle.name_hash.proofs.key_word.Given as goal
 
 abbrev pub invariant-loop-j : goal.invariant-loop-j

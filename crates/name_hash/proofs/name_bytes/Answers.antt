@@ -1,7 +1,6 @@
-use Rattle.std.proofs.Common.{◌≡◌, ◌-◌, ◌≤◌, true, false, not, length, get_or, drop, sym, refl, ap, ◌∙◌, arith}
-use Rattle.name_hash.specs.Name.{name_byte, name_bytes}
+use Rattle.std.proofs.Common.{◌≡◌, true, false, not, get_or, sym, refl, ap, ◌∙◌, arith}
+use Rattle.name_hash.specs.Name.{name_byte}
 use Rattle.name_hash.proofs.Bytes.{bytes_next, bytes_end}
-use borrow.Author.Rules.{rules}
 use Rattle.name_hash.proofs.name_bytes.Goals as goal
 
 pub loop-i-init : goal.loop-i-init

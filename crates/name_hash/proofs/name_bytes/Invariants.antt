@@ -1,7 +1,6 @@
 -- The loop's invariant: the name's bytes are good exactly if those that are left are.
-use Rattle.std.proofs.Common.{◌≡◌, ◌-◌, ◌≤◌, true, false, not, length, get_or, drop, sym, refl, ap, ◌∙◌, arith}
-use Rattle.name_hash.specs.Name.{name_byte, name_bytes}
-use Rattle.name_hash.proofs.Bytes.{bytes_next, bytes_end}
+use Rattle.std.proofs.Common.{◌≡◌, ◌-◌, ◌≤◌, length, drop}
+use Rattle.name_hash.specs.Name.{name_bytes}
 use Rattle.name_hash.proofs.name_bytes.Given as goal
 
 abbrev pub invariant-loop-i : goal.invariant-loop-i

@@ -1,7 +1,5 @@
 -- The round is its definition: each new word is the old one and a half round, by what `add` and `half_round` ensure.
-use Rattle.std.proofs.Common.{rules}
 use Rattle.name_hash.specs.Hash.{round}
-use borrow.Author.Rules.{rules}
 use Rattle.name_hash.proofs.tea_round.Goals as goal
 
 pub returns : goal.returns

@@ -1,7 +1,6 @@
-use Rattle.std.proofs.Common.{◌≡◌, ◌-◌, ◌≤◌, refl, ◌∙◌, arith}
-use Rattle.name_hash.specs.Hash.{rounds, tea}
+use Rattle.std.proofs.Common.{refl, ◌∙◌, arith}
+use Rattle.name_hash.specs.Hash.{tea}
 use Rattle.name_hash.proofs.Rounds.{rounds_next, rounds_end}
-use borrow.Author.Rules.{rules}
 use Rattle.name_hash.proofs.tea_step.Goals as goal
 
 pub loop-init : goal.loop-init

@@ -1,7 +1,6 @@
 -- The loop's invariant: the sixteen rounds of the start are those that are left of the state and the sum reached.
-use Rattle.std.proofs.Common.{◌≡◌, ◌-◌, ◌≤◌, refl, ◌∙◌, arith}
-use Rattle.name_hash.specs.Hash.{rounds, tea}
-use Rattle.name_hash.proofs.Rounds.{rounds_next, rounds_end}
+use Rattle.std.proofs.Common.{◌≡◌, ◌-◌, ◌≤◌}
+use Rattle.name_hash.specs.Hash.{rounds}
 use Rattle.name_hash.proofs.tea_step.Given as goal
 
 abbrev pub invariant-loop : goal.invariant-loop

@@ -6,7 +6,6 @@ use Rattle.journal.specs.declared.Sought.TheVariants.{At}
 use Rattle.journal.specs.Journal.{journal_find}
 use Rattle.journal.proofs.Searching.{found_inside}
 use Rattle.nat.specs.Entry.{held_at, in_journal}
-use borrow.Author.Rules.{rules}
 use Rattle.nat.proofs.journal_entry.Goals as goal
 use Rattle.nat.proofs.journal_entry.Goals.{In-At}
 

@@ -1,5 +1,4 @@
 use Rattle.checkpoint.proofs.Inside.{journal_room, journal_start}
-use borrow.Author.Rules.{rules}
 use Rattle.nat.proofs.journal_says.Goals as goal
 
 pub journal_of-requires : goal.journal_of-requires

@@ -1,12 +1,11 @@
 use native.Mathlib.Omega.{arith}
 use mathlib.Core.Path.{◌≡◌}
 use Prim.Native.Nat.{◌<◌}
-use Rattle.field.specs.Card.{Card, card_of}
+use Rattle.field.specs.Card.{card_of}
 use Rattle.field.proofs.Blocks.{length_of_block}
 use Rattle.nat.specs.Table.{table_block, table_address, in_table}
 use Rattle.nat.proofs.Range.{block_in_range}
 use Rattle.nat.proofs.Addresses.{address_on_card}
-use borrow.Author.Rules.{rules}
 use Rattle.nat.proofs.or_table.Goals as goal
 use Rattle.nat.proofs.or_table.Goals.{After-table_address-address}
 

@@ -1,6 +1,5 @@
 use borrow.Author.Rules.{part_to_end}
 use Rattle.field.proofs.Maps.{top_bit_lem}
-use borrow.Author.Rules.{rules}
 use Rattle.nat.proofs.table_address.Goals as goal
 
 pub copy_address-requires : goal.copy_address-requires

@@ -1,8 +1,6 @@
-use borrow.Author.Tests.{not-true, not-false}
 use mathlib.Core.Path.{◌≡◌, ◌∙◌, sym}
 use mathlib.Core.Bool.{true}
 use Rattle.nat.specs.Table.{in_range, table_answer}
-use borrow.Author.Rules.{rules}
 use Rattle.nat.proofs.table_answer.Goals as goal
 use Rattle.nat.proofs.table_answer.Goals.{Else-not-in_range}
 

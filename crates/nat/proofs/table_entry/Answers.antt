@@ -1,6 +1,4 @@
 use Rattle.nat.specs.Table.{entry_in}
-use mathlib.Core.Path.{refl}
-use borrow.Author.Rules.{rules}
 use Rattle.nat.proofs.table_entry.Goals as goal
 
 pub returns : goal.returns

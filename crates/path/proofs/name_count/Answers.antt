@@ -1,15 +1,14 @@
-use Prim.Native.Nat.{ℕ, ◌+◌, ◌-◌, ◌≤◌}
+use Prim.Native.Nat.{◌+◌, ◌-◌, ◌≤◌}
 use native.Mathlib.Omega.{arith}
 use mathlib.Core.Path.{◌≡◌, sym, ap, ◌∙◌}
 use mathlib.Core.Bool.{true}
-use mathlib.Core.List.{List, ◌∷◌}
+use mathlib.Core.List.{◌∷◌}
 use lib.ListN.{length, drop, take}
-use borrow.Author.Tests.{eq-eqb, ne_eqb, not-true, not-false}
+use borrow.Author.Tests.{eq-eqb, ne_eqb}
 use Rattle.name_hash.specs.Name.{is_name}
-use Rattle.path.specs.Path.{names_most, parts_of, name_count}
+use Rattle.path.specs.Path.{parts_of, name_count}
 use Rattle.path.proofs.Parts.{parts_behind, part_inside, parts_from, some_part}
 use Rattle.path.proofs.Counting.{count_on, count_start, count_none, count_next, count_all, count_ninth}
-use borrow.Author.Rules.{rules}
 use Rattle.path.proofs.name_count.Goals as goal
 use Rattle.path.proofs.name_count.Goals.{After-part_end-end, Else-not-is_name}
 

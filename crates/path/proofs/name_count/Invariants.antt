@@ -1,15 +1,9 @@
 -- The loop's invariant: as many names are counted, and the rest of the path decides on the parts from here.
-use Prim.Native.Nat.{ℕ, ◌+◌, ◌-◌, ◌≤◌}
-use native.Mathlib.Omega.{arith}
-use mathlib.Core.Path.{◌≡◌, sym, ap, ◌∙◌}
-use mathlib.Core.Bool.{true}
-use mathlib.Core.List.{List, ◌∷◌}
-use lib.ListN.{length, drop, take}
-use borrow.Author.Tests.{eq-eqb, ne_eqb, not-true, not-false}
-use Rattle.name_hash.specs.Name.{is_name}
+use Prim.Native.Nat.{◌-◌, ◌≤◌}
+use mathlib.Core.Path.{◌≡◌}
+use lib.ListN.{length, drop}
 use Rattle.path.specs.Path.{names_most, parts_of, name_count}
-use Rattle.path.proofs.Parts.{parts_behind, part_inside, parts_from, some_part}
-use Rattle.path.proofs.Counting.{count_on, count_start, count_none, count_next, count_all, count_ninth}
+use Rattle.path.proofs.Counting.{count_on}
 use Rattle.path.proofs.name_count.Given as goal
 
 abbrev pub invariant-loop-count : goal.invariant-loop-count

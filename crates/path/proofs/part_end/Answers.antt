@@ -1,12 +1,8 @@
-use Prim.Native.Nat.{ℕ, ◌+◌, ◌-◌, ◌≤◌}
 use native.Mathlib.Omega.{arith}
-use mathlib.Core.Path.{◌≡◌, refl, ap}
-use mathlib.Core.List.{List}
-use lib.ListN.{length, drop}
+use mathlib.Core.Path.{refl, ap}
+use lib.ListN.{length}
 use borrow.Author.Tests.{eq-eqb, ne_eqb}
-use Rattle.path.specs.Path.{first_part}
 use Rattle.path.proofs.Parts.{first_on, first_slash, first_end}
-use borrow.Author.Rules.{rules}
 use Rattle.path.proofs.part_end.Goals as goal
 
 -- ---- the needs

@@ -1,7 +1,5 @@
 use borrow.Author.Tests.{lt-ltb, le-ltb}
-use mathlib.Core.Path.{refl}
 use Rattle.place.specs.Place.{place_of}
-use borrow.Author.Rules.{rules}
 use Rattle.place.proofs.find_place.Goals as goal
 
 pub returns-then-index-addresses : goal.returns-then-index-addresses

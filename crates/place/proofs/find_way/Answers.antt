@@ -4,7 +4,6 @@ use Rattle.place.specs.Place.{NodesIn}
 use Rattle.place.specs.Way.{way_of, in_array}
 use Rattle.place.specs.declared.Place.{Place}
 use Rattle.place.proofs.Inverse.{nodes_in_lem}
-use borrow.Author.Rules.{rules}
 use Rattle.place.proofs.find_way.Goals as goal
 
 pub way_to-requires : goal.way_to-requires

@@ -1,5 +1,3 @@
-use mathlib.Core.Path.{refl}
-use borrow.Author.Rules.{rules}
 use Rattle.place.proofs.no_way.Goals as goal
 
 pub returns : goal.returns

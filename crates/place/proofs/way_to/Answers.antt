@@ -3,7 +3,6 @@ use mathlib.Core.Path.{subst}
 use Prim.Native.Nat.{◌<◌}
 use native.Mathlib.Omega.{arith}
 use Rattle.place.specs.Place.{NodesIn}
-use borrow.Author.Rules.{rules}
 use Rattle.place.proofs.way_to.Goals as goal
 use Rattle.place.proofs.way_to.Goals.{In-Direct, In-Double, In-Indirect}
 

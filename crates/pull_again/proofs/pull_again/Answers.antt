@@ -6,7 +6,7 @@ use Rattle.pull_again.proofs.Steps.{same_pulls}
 use Rattle.pull_again.proofs.Demand.{whenever_same}
 use borrow.Author.Rules.{rules}
 use Rattle.pull_again.proofs.pull_again.Goals as goal
-use Rattle.pull_again.proofs.pull_again.Goals.{After-compare-compared, After-pull-arg-2-1, After-pull-second}
+use Rattle.pull_again.proofs.pull_again.Goals.{After-compare-compared}
 
 -- Compare was given what the first pull left
 says : (k : After-compare-compared) → let a = k.args in
@@ -19,11 +19,12 @@ says k =
 
 pub returns : goal.returns
 returns c =
+    let said_so = says (goal.at.returns c).After-compare-compared in
     record {
-      (goal.at.returns c).After-pull-arg-2-1 = c.pull-first.ensures;
-      compared = says (goal.at.returns c).After-compare-compared;
-      (goal.at.returns c).After-pull-second = c.pull-second.ensures;
+      first = c.pull-first.ensures;
+      compared = said_so;
+      second = c.pull-second.ensures;
       same = λ takes e.
           same_pulls c.pull-first.ensures c.pull-second.ensures
-          (whenever_same _ _ _ _ _ _ takes (ap (λ (x : Compared). x.answer) (sym (says (goal.at.returns c).After-compare-compared)) ∙ e));
+          (whenever_same _ _ _ _ _ _ takes (ap (λ (x : Compared). x.answer) (sym said_so) ∙ e));
     }

@@ -1,10 +1,8 @@
 -- `decide` meets its contract: bytes of another length and a state that doesn't fit are refused, else it is decided.
 use mathlib.Core.Path.{sym, ◌∙◌}
 use mathlib.Core.Logic.{inl, inr}
-use borrow.Author.Tests.{not-true, not-false}
-use Rattle.reader_state.specs.Resume.{Memory, memory}
+use Rattle.reader_state.specs.Resume.{memory}
 use Rattle.reader.proofs.Advancing.{sound_fits}
-use borrow.Author.Rules.{rules}
 use Rattle.reader.proofs.decide.Goals as goal
 
 pub returns-then-bytes-ne4096 : goal.returns-then-bytes-ne4096
@@ -16,8 +14,9 @@ returns-then-not-is_sound c =
 
 pub decide-requires : goal.decide-requires
 decide-requires c =
+    let mem = memory c.args.path.now c.args.first.now c.args.held.now c.args.journal.now in
     let sound = sym (c.is_sound.ensures c.args.path.now) ∙ c.if-not-is_sound.false in
-    (sound_fits c.args.at ((memory c.args.path.now c.args.first.now c.args.held.now c.args.journal.now)) c.args.nodes.now c.args.blocks.now sound, c.if-bytes-ne4096.false)
+    (sound_fits c.args.at mem c.args.nodes.now c.args.blocks.now sound, c.if-bytes-ne4096.false)
 
 pub returns : goal.returns
 returns c =

@@ -1,7 +1,6 @@
 -- `is_sound` meets its contract: each test is the definition's.
 use borrow.Author.Tests.{le-leb, lt-leb}
 use Rattle.reader.specs.Reading.{sound_by}
-use borrow.Author.Rules.{rules}
 use Rattle.reader.proofs.is_sound.Goals as goal
 
 pub returns-then-at-gt-NODES_MOST : goal.returns-then-at-gt-NODES_MOST
@@ -21,5 +20,5 @@ returns c =
       le-leb _ _ c.if-at-gt-BLOCKS_MOST.false,
       c.nodes_rise.ensures,
       c.blocks_rise.ensures,
-      c.NOFIELD-fits2.ensures.0 path,
+      c.fits.ensures.by_index path,
     )

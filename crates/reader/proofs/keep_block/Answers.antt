@@ -19,4 +19,4 @@ returns-then-keeps c =
     let into = c.args.into.now in
     let taken = c.if-keeps.true in
     let whole : length into ≡ 4096 = search rules in
-    copied_whole from into (whole ∙ sym (c.requires taken)) c.copy.ensures.1 ∙ ap (λ (t : Bool). choose t from into) (sym taken)
+    copied_whole from into (whole ∙ sym (c.requires taken)) c.copy.ensures ∙ ap (λ (t : Bool). choose t from into) (sym taken)

@@ -8,9 +8,6 @@ use lib.Seq.{length-take-le}
 use Rattle.field.specs.Choice.{choose}
 use Rattle.asking.specs.Table.{journal_in}
 use Rattle.reader.proofs.Listing.{copied_whole}
-use Rattle.reader.proofs.keep_journal.Reads as reads
-use Rattle.reader.proofs.keep_journal.Lts as lts
-use Rattle.bytes.proofs.copy.Reads as copy-reads
 use borrow.Author.Rules.{rules}
 use Rattle.reader.proofs.keep_journal.Goals as goal
 
@@ -28,6 +25,6 @@ returns-then-keeps c =
     rw size (length-take-le 512 (drop at block) (rw (length-drop at block) (omega (arith, (c.requires taken).0, (c.requires taken).1))))
     in
     let room : length old ≡ 512 = search rules in
-    copied_whole (take (at + 512 - at) (drop at block)) old (room ∙ sym whole) c.copy.ensures.1
+    copied_whole (take (at + 512 - at) (drop at block)) old (room ∙ sym whole) c.copy.ensures
     ∙ ap (λ (n : ℕ). take n (drop at block)) size
     ∙ ap (λ (t : Bool). choose t (journal_in at block) old) (sym taken)

@@ -13,4 +13,4 @@ returns c =
     let into = c.args.into.now in
     let whole : length into ≡ 2048 = search rules in
     let room : length from ≤ length into = omega arith in
-    (copied_front from into room c.copy.ensures.1, copied_length from into room c.copy.ensures.1 ∙ whole)
+    (copied_front from into room c.copy.ensures, copied_length from into room c.copy.ensures ∙ whole)

@@ -12,4 +12,4 @@ returns-then-keeps c =
     let from = c.args.from.now in
     let into = c.args.into.now in
     let whole : length into ≡ length from = search rules in
-    copied_whole from into whole c.copy.ensures.1 ∙ ap (λ (t : Bool). choose t from into) (sym c.if-keeps.true)
+    copied_whole from into whole c.copy.ensures ∙ ap (λ (t : Bool). choose t from into) (sym c.if-keeps.true)

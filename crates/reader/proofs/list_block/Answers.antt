@@ -1,10 +1,7 @@
 -- `list_block` meets its contract.
-use Prim.Native.Nat.{ℕ}
 use native.Mathlib.Omega.{arith}
 use mathlib.Core.Path.{sym, ap, ◌∙◌}
 use mathlib.Core.Bool.{Bool}
-use mathlib.Core.List.{List}
-use borrow.Author.Tests.{not-true, not-false}
 use Rattle.field.specs.Choice.{choose}
 use Rattle.list.specs.Lists.{insert, numbers}
 use Rattle.reader.proofs.Listing.{one_more, inserted_few}
@@ -12,8 +9,9 @@ use borrow.Author.Rules.{rules}
 use Rattle.reader.proofs.list_block.Goals as goal
 
 pub returns-then-not-reads : goal.returns-then-not-reads
-returns-then-not-reads c = ap ((let l = numbers c.args.list.now 0 c.args.count in
-    choose t (insert c.args.block l) l)) (sym c.if-not-reads.true)
+returns-then-not-reads c =
+    let l = numbers c.args.list.now 0 c.args.count in
+    ap (λ (t : Bool). choose t (insert c.args.block l) l) (sym c.if-not-reads.true)
 
 pub insert-requires : goal.insert-requires
 insert-requires c =
@@ -26,5 +24,5 @@ overflow_cast-result c =
 
 pub returns : goal.returns
 returns c =
-    c.insert.ensures.list ∙ ap ((let l = numbers c.args.list.now 0 c.args.count in
-    choose t (insert c.args.block l) l)) (sym c.if-not-reads.false)
+    let l = numbers c.args.list.now 0 c.args.count in
+    c.insert.ensures.list ∙ ap (λ (t : Bool). choose t (insert c.args.block l) l) (sym c.if-not-reads.false)

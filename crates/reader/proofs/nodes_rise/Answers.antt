@@ -2,7 +2,6 @@
 use mathlib.Core.Path.{sym, ap, ◌∙◌}
 use Rattle.list.proofs.Columns.{numbers_column}
 use Rattle.compare.specs.Lists.{is_rising}
-use borrow.Author.Rules.{rules}
 use Rattle.reader.proofs.nodes_rise.Goals as goal
 
 pub returns : goal.returns

@@ -1,5 +1,4 @@
 -- `refusal` meets its contract.
-use borrow.Author.Rules.{rules}
 use Rattle.reader.proofs.refusal.Goals as goal
 
 pub returns : goal.returns

@@ -1,7 +1,6 @@
 -- `refuse` meets its contract.
 use mathlib.Core.Path.{ap}
 use Rattle.reader.specs.Reading.{with_numbers}
-use borrow.Author.Rules.{rules}
 use Rattle.reader.proofs.refuse.Goals as goal
 
 pub returns : goal.returns

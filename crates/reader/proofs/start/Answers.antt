@@ -8,14 +8,12 @@ use lib.Dec.{eqb, leb}
 use Rattle.reader_state.specs.Resume.{Memory, memory}
 use Rattle.reader_state.specs.Fits.{Sized, EndIn}
 use Rattle.field.proofs.Choosing.{clash}
-use borrow.Author.Tests.{not-true, not-false}
 use Rattle.asking.specs.Pull.{start_in_shape, read_ask}
 use Rattle.reader_state.specs.Decision.{refuses_at}
 use Rattle.reader.specs.Reading.{memory_in, resume, with_numbers, Kept, Started}
 use Rattle.reader.proofs.Starting.{start_resumes, start_fits, starts_with, none_rise, refusal_left, refused_start, shape_tested, path_room}
-use borrow.Author.Rules.{rules}
 use Rattle.reader.proofs.start.Goals as goal
-use Rattle.reader.proofs.start.Goals.{After-keep_path, After-name_count}
+use Rattle.reader.proofs.start.Goals.{After-name_count}
 
 tested : (k : After-name_count) → (leb 2 k.args.card_blocks && leb k.args.card_blocks 4194304 && not (eqb k.name_count.result 0))
     ≡ start_in_shape k.args.card_blocks k.args.path.now
@@ -59,7 +57,7 @@ returns c =
     let given = c.blank-t.ensures in
     let shape = sym (tested (goal.at.returns c).After-name_count) ∙ c.if-not-in_shape.false in
     let starts = starts_with (length path) given.0 in
-    let m : Memory = memory c.keep_path.new.0 b.first b.held b.journal in
+    let m : Memory = memory c.keep_path.new.into b.first b.held b.journal in
     let sized : Sized m =
     record { path = c.keep_path.ensures.1; first = given.2; held = given.3; journal = given.4 }
     in
@@ -67,7 +65,7 @@ returns c =
     let fit = start_fits starts m front sized (path_room c.args.card_blocks path shape) in
     record {
       left = start_resumes starts m front b.nodes b.blocks shape;
-      (goal.at.returns c).After-keep_path = record {
+      kept = record {
         fit = fit;
         path = path_room c.args.card_blocks path shape;
         form = inr starts.asked;

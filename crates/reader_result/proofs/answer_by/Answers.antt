@@ -1,6 +1,7 @@
 -- The answer's number by its kind.
+use native.Mathlib.Omega.{arith}
+use mathlib.Core.Path.{◌≡◌}
 use borrow.Author.Tests.{eq-eqb, ne_eqb}
-use borrow.Author.Rules.{rules}
 use Rattle.reader_result.proofs.answer_by.Goals as goal
 
 pub returns-in-1 : goal.returns-in-1
@@ -10,4 +11,7 @@ pub returns-in-2 : goal.returns-in-2
 returns-in-2 c = rw c.in-2.is
 
 pub returns-in_default : goal.returns-in_default
-returns-in_default c = rw (ne_eqb _ _ c.in_default.ARM-match.rest.0.1, ne_eqb _ _ c.in_default.ARM-match.rest.1)
+returns-in_default c =
+    let not-none : c.args.stage ≡ 1 → ⊥ = omega arith in
+    let not-hole : c.args.stage ≡ 2 → ⊥ = omega arith in
+    rw (ne_eqb _ _ not-none, ne_eqb _ _ not-hole)

@@ -1,5 +1,4 @@
 -- `bytes_fit` meets its contract: the bytes end inside the block.
-use borrow.Author.Rules.{rules}
 use Rattle.reader_result.proofs.bytes_fit.Goals as goal
 
 pub returns : goal.returns

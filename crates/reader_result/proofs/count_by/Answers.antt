@@ -1,6 +1,5 @@
 -- The byte count by the answer's kind.
 use borrow.Author.Tests.{eq-eqb, ne_eqb}
-use borrow.Author.Rules.{rules}
 use Rattle.reader_result.proofs.count_by.Goals as goal
 
 pub returns-then-stage-eq1 : goal.returns-then-stage-eq1

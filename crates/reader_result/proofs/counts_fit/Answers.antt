@@ -1,6 +1,5 @@
 -- `counts_fit` meets its contract: each of the tests is the definition's.
 use Rattle.reader_result.specs.Result.{counts_fit_in}
-use borrow.Author.Rules.{rules}
 use Rattle.reader_result.proofs.counts_fit.Goals as goal
 
 pub returns : goal.returns

@@ -2,7 +2,6 @@
 use native.Mathlib.Omega.{arith}
 use mathlib.Core.Path.{sym}
 use lib.Seq.{length-take-le}
-use borrow.Author.Rules.{rules}
 use Rattle.reader_result.proofs.names_in.Goals as goal
 
 pub slice_bounds-name_count-end : goal.slice_bounds-name_count-end

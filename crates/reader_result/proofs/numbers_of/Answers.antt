@@ -1,5 +1,4 @@
 -- `numbers_of` meets its contract: two numbers go by the answer's kind, two as they are.
-use borrow.Author.Rules.{rules}
 use Rattle.reader_result.proofs.numbers_of.Goals as goal
 
 pub returns : goal.returns

@@ -1,7 +1,7 @@
 -- `put_answer` meets its contract: the buffer is left, cleared or filled.
-use mathlib.Core.Path.{◌∙◌}
+use native.Mathlib.Omega.{arith}
+use mathlib.Core.Path.{◌≡◌, ◌∙◌}
 use borrow.Author.Tests.{eq-eqb, ne_eqb}
-use borrow.Author.Rules.{rules}
 use Rattle.reader_result.proofs.put_answer.Goals as goal
 
 pub returns-in-1 : goal.returns-in-1
@@ -13,5 +13,6 @@ returns-in-2 c =
 
 pub returns-in_default : goal.returns-in_default
 returns-in_default c =
-    let none = c.in_default.ARM-match.rest in
-    rw (ne_eqb _ _ none.0.1, ne_eqb _ _ none.1) (c.put_block.ensures ∙ rw c.start_in.ensures.0)
+    let not-none : c.args.stage ≡ 1 → ⊥ = omega arith in
+    let not-hole : c.args.stage ≡ 2 → ⊥ = omega arith in
+    rw (ne_eqb _ _ not-none, ne_eqb _ _ not-hole) (c.put_block.ensures ∙ rw c.start_in.ensures.0)

@@ -2,7 +2,6 @@
 use native.Mathlib.Omega.{arith}
 use mathlib.Core.Path.{refl}
 use borrow.Author.Tests.{lt-ltb, le-ltb}
-use borrow.Author.Rules.{rules}
 use Rattle.reader_result.proofs.start_in.Goals as goal
 
 pub returns-then-stage-gt3 : goal.returns-then-stage-gt3

@@ -1,7 +1,6 @@
 -- `areas_fit` meets its contract.
 use mathlib.Core.Path.{refl}
 use Rattle.reader_state.specs.Fits.{areas_fit}
-use borrow.Author.Rules.{rules}
 use Rattle.reader_state.proofs.areas_fit.Goals as goal
 
 pub returns : goal.returns

@@ -1,9 +1,8 @@
 -- `decide_in` meets its contract: in the walk, at the journal, or before it.
 use Prim.Native.Nat.{◌<◌}
 use native.Mathlib.Omega.{arith}
-use Rattle.reader_state.specs.Resume.{Memory, memory}
+use Rattle.reader_state.specs.Resume.{memory}
 use Rattle.reader_state.proofs.Opened.{opening_state, open_decided}
-use borrow.Author.Rules.{rules}
 use Rattle.reader_state.proofs.decide_in.Goals as goal
 use Rattle.reader_state.proofs.decide_in.Goals.{Else-at-eq8}
 
@@ -21,6 +20,8 @@ open_next-requires c =
 
 pub returns : goal.returns
 returns c =
+    let here = goal.at.returns c in
+    let mem = memory c.args.path.now c.args.first.now c.args.held.now c.args.journal.now in
     rw c.open_on.ensures
-    (open_decided c.args.at ((memory c.args.path.now c.args.first.now c.args.held.now c.args.journal.now)) c.args.bytes.now c.requires.0 (in_opening (goal.at.returns c).Else-at-eq8) c.requires.1 c.open_next.result
+    (open_decided c.args.at mem c.args.bytes.now c.requires.0 (in_opening here.Else-at-eq8) c.requires.1 c.open_next.result
     c.open_next.ensures.result_value c.open_next.ensures.opening_in)

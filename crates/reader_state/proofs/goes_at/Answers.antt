@@ -1,5 +1,4 @@
 -- `goes_at` meets its contract: one arm for each way to go.
-use borrow.Author.Rules.{rules}
 use Rattle.reader_state.proofs.goes_at.Goals as goal
 
 pub returns-in-Table : goal.returns-in-Table

@@ -1,7 +1,6 @@
 -- `map_fits` meets its contract.
 use mathlib.Core.Path.{refl}
 use Rattle.reader_state.specs.Fits.{map_fits}
-use borrow.Author.Rules.{rules}
 use Rattle.reader_state.proofs.map_fits.Goals as goal
 
 pub returns : goal.returns

@@ -1,6 +1,5 @@
 -- `open_fits` meets its contract.
 use Rattle.reader_state.specs.Fits.{open_fits}
-use borrow.Author.Rules.{rules}
 use Rattle.reader_state.proofs.open_fits.Goals as goal
 
 pub returns : goal.returns

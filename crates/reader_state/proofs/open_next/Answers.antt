@@ -1,10 +1,10 @@
 -- `open_next` meets its contract: one arm for each stage.
+use native.Mathlib.Omega.{arith}
 use Prim.Native.Nat.{ℕ}
 use mathlib.Core.Path.{◌≡◌}
 use Rattle.ask_open.specs.Came.{open_came, StageIn}
 use Rattle.reader_state.specs.Resume.{stage_of}
-use Rattle.reader_state.proofs.Opened.{known_in, past_three, last_stage}
-use borrow.Author.Rules.{rules}
+use Rattle.reader_state.proofs.Opened.{known_in}
 use Rattle.reader_state.proofs.open_next.Goals as goal
 use Rattle.reader_state.proofs.open_next.Goals.{After-v-1, In_default}
 
@@ -14,11 +14,7 @@ known k n e = known_in k.args.at.volume k.args.first.now k.args.held.now k.args.
 
 -- the last stage before the journal's
 last : (k : In_default) → k.args.at.stage ≡ 7
-last k =
-    let high = ? in
-    let low = high.0.0.0 in
-    let past = past_three _ low.0.0.0.1 low.0.0.1 low.0.1 low.1 in
-    last_stage _ k.requires.stage_bound.0 past high.0.0.1 high.0.1 high.1
+last k = omega (arith, k.requires.stage_bound.0)
 
 pub one_first_came-requires : goal.one_first_came-requires
 one_first_came-requires c = (known (goal.at.one_first_came-requires c).After-v-1 2 c.in-2.is, c.requires.first_len.2)
@@ -40,36 +36,63 @@ pub two_last_came-requires : goal.two_last_came-requires
 two_last_came-requires c = record { areas_fit = known (goal.at.two_last_came-requires c).After-v-1 6 c.in-6.is; first_len = c.requires.first_len }
 
 pub two_last_came-requires-in_default : goal.two_last_came-requires-in_default
-two_last_came-requires-in_default c = record { areas_fit = known (goal.at.two_last_came-requires-in_default c).After-v-1 7 (last c); first_len = c.requires.first_len }
+two_last_came-requires-in_default c =
+    record { areas_fit = known (goal.at.two_last_came-requires-in_default c).After-v-1 7 (last c); first_len = c.requires.first_len }
 
 pub returns-in-0 : goal.returns-in-0
 unfolding open_came
-returns-in-0 c = record { result_value = (λ k. rw c.in-0.is (c.copy_came.ensures.result_value k _ _)); opening_in = c.copy_came.ensures.by_index _ _ }
+returns-in-0 c =
+    record { result_value = λ k. rw c.in-0.is (c.copy_came.ensures.result_value k _ _); opening_in = c.copy_came.ensures.by_index _ _ }
 
 pub returns-in-1 : goal.returns-in-1
 unfolding open_came
-returns-in-1 c = record { result_value = (λ k. rw c.in-1.is (c.copy_came-in-1.ensures.result_value k _ _)); opening_in = c.copy_came-in-1.ensures.by_index _ _ }
+returns-in-1 c =
+    record {
+      result_value = λ k. rw c.in-1.is (c.copy_came-in-1.ensures.result_value k _ _);
+      opening_in = c.copy_came-in-1.ensures.by_index _ _;
+    }
 
 pub returns-in-2 : goal.returns-in-2
 unfolding open_came
-returns-in-2 c = record { result_value = (λ k. rw c.in-2.is (c.one_first_came.ensures.result_value k _ _ _)); opening_in = c.one_first_came.ensures.by_index _ _ }
+returns-in-2 c =
+    record {
+      result_value = λ k. rw c.in-2.is (c.one_first_came.ensures.result_value k _ _ _);
+      opening_in = c.one_first_came.ensures.by_index _ _;
+    }
 
 pub returns-in-3 : goal.returns-in-3
 unfolding open_came
-returns-in-3 c = record { result_value = (λ k. rw c.in-3.is (c.one_last_came.ensures.result_value k _ _)); opening_in = c.one_last_came.ensures.by_index _ }
+returns-in-3 c =
+    record {
+      result_value = λ k. rw c.in-3.is (c.one_last_came.ensures.result_value k _ _);
+      opening_in = c.one_last_came.ensures.by_index _;
+    }
 
 pub returns-in-4 : goal.returns-in-4
 unfolding open_came
-returns-in-4 c = record { result_value = (λ k. rw c.in-4.is (c.two_first_came.ensures.result_value k _ _)); opening_in = c.two_first_came.ensures.by_index _ }
+returns-in-4 c =
+    record {
+      result_value = λ k. rw c.in-4.is (c.two_first_came.ensures.result_value k _ _);
+      opening_in = c.two_first_came.ensures.by_index _;
+    }
 
 pub returns-in-5 : goal.returns-in-5
 unfolding open_came
-returns-in-5 c = record { result_value = (λ k. rw c.in-5.is (c.two_first_came-in-5.ensures.result_value k _ _)); opening_in = c.two_first_came-in-5.ensures.by_index _ }
+returns-in-5 c =
+    record {
+      result_value = λ k. rw c.in-5.is (c.two_first_came-in-5.ensures.result_value k _ _);
+      opening_in = c.two_first_came-in-5.ensures.by_index _;
+    }
 
 pub returns-in-6 : goal.returns-in-6
 unfolding open_came
-returns-in-6 c = record { result_value = (λ k. rw c.in-6.is (c.two_last_came.ensures.result_value k _)); opening_in = c.two_last_came.ensures.opening_in }
+returns-in-6 c =
+    record { result_value = λ k. rw c.in-6.is (c.two_last_came.ensures.result_value k _); opening_in = c.two_last_came.ensures.opening_in }
 
 pub returns-in_default : goal.returns-in_default
 unfolding open_came
-returns-in_default c = record { result_value = (λ k. rw (last (goal.at.returns-in_default c).In_default) (c.two_last_came-in_default.ensures.result_value k _)); opening_in = c.two_last_came-in_default.ensures.opening_in }
+returns-in_default c =
+    record {
+      result_value = λ k. rw (last (goal.at.returns-in_default c).In_default) (c.two_last_came-in_default.ensures.result_value k _);
+      opening_in = c.two_last_came-in_default.ensures.opening_in;
+    }

@@ -1,5 +1,4 @@
 -- `open_on` meets its contract.
-use borrow.Author.Rules.{rules}
 use Rattle.reader_state.proofs.open_on.Goals as goal
 
 pub returns : goal.returns

@@ -5,7 +5,6 @@ use mathlib.Core.Path.{◌≡◌, refl}
 use mathlib.Core.Bool.{Bool, true, false}
 use mir.Val.{bool_byte}
 use Rattle.field.specs.Choice.{choose}
-use borrow.Author.Rules.{rules}
 use Rattle.reader_state.proofs.opens_at.Goals as goal
 
 -- a test as a number

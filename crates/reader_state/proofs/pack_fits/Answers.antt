@@ -1,7 +1,6 @@
 -- `pack_fits` meets its contract.
 use Rattle.reader_state.specs.Fits.{pack_fits}
 use Rattle.checkpoint.proofs.checkpoint_of.Reads as checkpoint-of-reads
-use borrow.Author.Rules.{rules}
 use Rattle.reader_state.proofs.pack_fits.Goals as goal
 
 pub returns : goal.returns

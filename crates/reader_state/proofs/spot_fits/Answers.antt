@@ -1,7 +1,6 @@
 -- `spot_fits` meets its contract: a directory with its search, or a file with its index.
 use borrow.Author.Tests.{le-leb, lt-leb}
 use Rattle.reader_state.specs.Fits.{spot_fits}
-use borrow.Author.Rules.{rules}
 use Rattle.reader_state.proofs.spot_fits.Goals as goal
 
 pub returns-then-p-path_length : goal.returns-then-p-path_length

@@ -1,7 +1,6 @@
 -- `state_fits` meets its contract: in opening, or in the walk.
 use borrow.Author.Tests.{lt-leb, le-leb, lt-ltb, le-ltb}
 use Rattle.reader_state.specs.Fits.{fits}
-use borrow.Author.Rules.{rules}
 use Rattle.reader_state.proofs.state_fits.Goals as goal
 
 pub returns-then-at-gt2048 : goal.returns-then-at-gt2048

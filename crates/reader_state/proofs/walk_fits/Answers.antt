@@ -1,7 +1,6 @@
 -- `walk_fits` meets its contract: a data block is asked for, or a table block or a node.
 use borrow.Author.Tests.{lt-ltb, le-ltb}
 use Rattle.reader_state.specs.Fits.{walk_fits}
-use borrow.Author.Rules.{rules}
 use Rattle.reader_state.proofs.walk_fits.Goals as goal
 
 pub returns-then-at-gt10 : goal.returns-then-at-gt10

@@ -1,5 +1,4 @@
 -- `walk_on` meets its contract.
-use borrow.Author.Rules.{rules}
 use Rattle.reader_state.proofs.walk_on.Goals as goal
 
 pub returns : goal.returns

@@ -1,6 +1,5 @@
 use native.Mathlib.Omega.{arith}
 use borrow.Author.Tests.{eq-eqb, ne_eqb}
-use borrow.Author.Rules.{rules}
 use Rattle.sit.proofs.copy_address.Goals as goal
 
 pub returns-then-bit-eq1 : goal.returns-then-bit-eq1

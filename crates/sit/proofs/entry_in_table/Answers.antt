@@ -1,11 +1,10 @@
 use native.Mathlib.Omega.{arith}
 use mathlib.Core.Path.{◌≡◌}
 use Prim.Native.Nat.{◌+◌, ◌-◌, ◌*◌, ◌%◌, ◌<◌}
-use Rattle.field.specs.Card.{Card, card_of}
+use Rattle.field.specs.Card.{card_of}
 use Rattle.field.proofs.Blocks.{length_of_block}
 use Rattle.sit.specs.Table.{table_block, table_address, in_table}
 use Rattle.sit.proofs.Inside.{block_in_table, address_on_card}
-use borrow.Author.Rules.{rules}
 use Rattle.sit.proofs.entry_in_table.Goals as goal
 use Rattle.sit.proofs.entry_in_table.Goals.{After-table_address-address}
 
@@ -34,8 +33,11 @@ pub block_at-block-requires : goal.block_at-block-requires
 block_at-block-requires c = on_card_lem c
 
 pub slice_bounds-result-end : goal.slice_bounds-result-end
-slice_bounds-result-end c = omega (arith, length_of_block _ _ (on_card_lem (goal.at.slice_bounds-result-end c).After-table_address-address)
-    c.block_at-block.ensures)
+slice_bounds-result-end c = omega (
+  arith,
+  length_of_block _ _ (on_card_lem (goal.at.slice_bounds-result-end c).After-table_address-address)
+      c.block_at-block.ensures,
+)
 
 pub returns : goal.returns
 unfolding in_table

@@ -1,13 +1,11 @@
 use native.Mathlib.Omega.{arith}
 use mathlib.Core.Path.{◌≡◌, sym, ◌∙◌}
-use mathlib.Core.List.{List}
-use Prim.Native.Nat.{ℕ, ◌+◌, ◌-◌, ◌≤◌}
+use Prim.Native.Nat.{◌+◌, ◌-◌, ◌≤◌}
 use lib.ListN.{length}
 use Rattle.field.specs.Card.{card_of}
 use Rattle.journal.specs.Journal.{journal_find}
 use Rattle.sit.specs.Table.{sit_journal_of, sit_entry}
 use Rattle.sit.proofs.Inside.{journal_holds, journaled_inside}
-use borrow.Author.Rules.{rules}
 use Rattle.sit.proofs.entry_of.Goals as goal
 use Rattle.sit.proofs.entry_of.Goals.{After-find_entry, In-At}
 

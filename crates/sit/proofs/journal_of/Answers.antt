@@ -8,7 +8,6 @@ use Rattle.field.specs.Card.{card_of}
 use Rattle.field.proofs.Blocks.{length_of_block}
 use Rattle.checkpoint.specs.Volume.{is_compact}
 use Rattle.sit.specs.Table.{sit_journal_of}
-use borrow.Author.Rules.{rules}
 use Rattle.sit.proofs.journal_of.Goals as goal
 use Rattle.sit.proofs.journal_of.Goals.{After-block_at-cold, After-block_at-compact, Else-flag_set, Then-flag_set}
 

@@ -1,10 +1,6 @@
-use native.Mathlib.Omega.{arith}
-use mathlib.Core.Path.{◌≡◌, refl, sym}
-use mathlib.Core.List.{List}
-use Prim.Native.Nat.{ℕ, ◌+◌, ◌-◌, ◌*◌, ◌≤◌}
-use lib.Count.{ones}
+use mathlib.Core.Path.{◌≡◌}
+use Prim.Native.Nat.{◌-◌, ◌*◌, ◌≤◌}
 use Rattle.sit.specs.Entry.{ones_below}
-use Rattle.sit.proofs.Counting.{ones_most, ones_word}
 use Rattle.sit.proofs.ones.Given as goal
 
 abbrev pub invariant-loop-i : goal.invariant-loop-i

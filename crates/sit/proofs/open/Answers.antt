@@ -8,7 +8,6 @@ use Rattle.sit.specs.Table.{sit_journal_of}
 use Rattle.sit.specs.Opening.{sit_journal_readable}
 use Rattle.sit.proofs.Inside.{journal_room}
 use Rattle.sit.proofs.Openings.{still_refused, journal_refuses, journal_opens}
-use borrow.Author.Rules.{rules}
 use Rattle.sit.proofs.open.Goals as goal
 use Rattle.sit.proofs.open.Goals.{After-count_within, In-Opened}
 

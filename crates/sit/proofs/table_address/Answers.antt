@@ -1,5 +1,4 @@
 use borrow.Author.Rules.{part_to_end}
-use borrow.Author.Rules.{rules}
 use Rattle.sit.proofs.table_address.Goals as goal
 
 pub returns : goal.returns

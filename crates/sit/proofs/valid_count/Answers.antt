@@ -1,5 +1,4 @@
 use Rattle.sit.specs.Entry.{valid_count}
-use borrow.Author.Rules.{rules}
 use Rattle.sit.proofs.valid_count.Goals as goal
 
 pub returns : goal.returns

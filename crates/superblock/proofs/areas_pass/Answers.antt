@@ -1,5 +1,4 @@
 use Rattle.superblock.specs.Superblock.{areas_pass}
-use borrow.Author.Rules.{rules}
 use Rattle.superblock.proofs.areas_pass.Goals as goal
 
 pub returns : goal.returns

@@ -1,5 +1,4 @@
 use Rattle.superblock.proofs.Copies.{copy_length, copy_is}
-use borrow.Author.Rules.{rules}
 use Rattle.superblock.proofs.copy_of.Goals as goal
 
 pub returns : goal.returns

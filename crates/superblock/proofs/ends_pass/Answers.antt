@@ -1,5 +1,4 @@
 use Rattle.superblock.specs.Superblock.{ends_pass}
-use borrow.Author.Rules.{rules}
 use Rattle.superblock.proofs.ends_pass.Goals as goal
 
 pub returns : goal.returns

@@ -1,13 +1,12 @@
 use native.Mathlib.Omega.{arith}
 use mathlib.Core.Path.{◌≡◌, ◌∙◌, ap, sym}
-use Rattle.field.specs.Card.{Card, card_of}
+use Rattle.field.specs.Card.{card_of}
 use Rattle.field.specs.Choice.{choose}
 use Rattle.field.proofs.Blocks.{length_of_block}
 use Rattle.superblock.specs.declared.Tried.TheVariants.{Passed, Failed}
 use Rattle.superblock.specs.Superblock.{copy_in, superblock_of, copy_passes}
 use Rattle.superblock.specs.Areas.{accepted}
 use Rattle.superblock.proofs.Finding.{passed, failed, passed_fits, found_first, found_second, found_none}
-use borrow.Author.Rules.{rules}
 use Rattle.superblock.proofs.find_superblock.Goals as goal
 use Rattle.superblock.proofs.find_superblock.Goals.{After-try_copy-first, After-try_copy-second}
 

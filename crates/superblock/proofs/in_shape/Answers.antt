@@ -1,6 +1,5 @@
 use mathlib.Core.Path.{refl}
 use Rattle.superblock.specs.Shape.{in_shape}
-use borrow.Author.Rules.{rules}
 use Rattle.superblock.proofs.in_shape.Goals as goal
 
 pub returns : goal.returns

@@ -1,6 +1,5 @@
 use mathlib.Core.Path.{refl}
 use Rattle.superblock.specs.Superblock.{logs_pass}
-use borrow.Author.Rules.{rules}
 use Rattle.superblock.proofs.logs_pass.Goals as goal
 
 pub returns : goal.returns

@@ -1,6 +1,5 @@
 use native.Mathlib.Omega.{arith}
 use Rattle.superblock.specs.Superblock.{superblock_of}
-use borrow.Author.Rules.{rules}
 use Rattle.superblock.proofs.read_fields.Goals as goal
 
 pub get32-requires-19 : goal.get32-requires-19

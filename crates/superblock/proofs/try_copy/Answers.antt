@@ -1,9 +1,6 @@
-use mathlib.Core.Path.{◌≡◌, refl}
+use mathlib.Core.Path.{◌≡◌}
 use mathlib.Core.Bool.{◌&&◌}
-use mathlib.Core.List.{List}
-use Prim.Native.Nat.{ℕ}
 use Rattle.superblock.specs.Superblock.{copy_of, superblock_of, passes}
-use borrow.Author.Rules.{rules}
 use Rattle.superblock.proofs.try_copy.Goals as goal
 use Rattle.superblock.proofs.try_copy.Goals.{After-fields_pass}
 
@@ -18,8 +15,11 @@ passes_by k =
     rw (k.has_mark.ensures, k.fields_pass.ensures, k.copy_of-copy.ensures.0, fields_by k)
 
 pub returns-then-has_mark-fields_pass : goal.returns-then-has_mark-fields_pass
-returns-then-has_mark-fields_pass c = rw (← passes_by (goal.at.returns-then-has_mark-fields_pass c).After-fields_pass, c.if-has_mark-fields_pass.true,
-    ← fields_by (goal.at.returns-then-has_mark-fields_pass c).After-fields_pass)
+returns-then-has_mark-fields_pass c = rw (
+  ← passes_by (goal.at.returns-then-has_mark-fields_pass c).After-fields_pass,
+  c.if-has_mark-fields_pass.true,
+  ← fields_by (goal.at.returns-then-has_mark-fields_pass c).After-fields_pass,
+)
 
 pub returns-else-has_mark-fields_pass : goal.returns-else-has_mark-fields_pass
 returns-else-has_mark-fields_pass c = rw (← passes_by (goal.at.returns-else-has_mark-fields_pass c).After-fields_pass, c.if-has_mark-fields_pass.false)

@@ -1,14 +1,10 @@
 -- `step` meets its contract: after the answer the state is handed back, else what was decided is kept and listed.
 use mathlib.Core.Path.{sym, ap, ◌∙◌}
 use mathlib.Core.Bool.{Bool}
-use mathlib.Core.List.{List}
-use Prim.Native.Nat.{ℕ}
 use Rattle.field.specs.Choice.{choose}
-use Rattle.reader.specs.declared.Reader.{Reader}
 use Rattle.reader.specs.Reading.{takes_first}
 use Rattle.reader.proofs.Stepping.{repeats_stepped}
 use Rattle.reader.proofs.Advancing.{first_whole, held_whole, journal_whole, nodes_ready, blocks_ready, step_stepped}
-use borrow.Author.Rules.{rules}
 use Rattle.reader.proofs.Reader.step.Goals as goal
 
 pub returns-then-at-eq0 : goal.returns-then-at-eq0
@@ -39,7 +35,7 @@ returns c =
     let r = c.args.self in
     let bytes = c.args.bytes.now in
     let d = c.decide-d.result in
-    let f = c.keep_block.ensures ∙ ap (λ (t : Bool). choose t bytes c.keep_second.last.0) c.takes_first.ensures
+    let f = c.keep_block.ensures ∙ ap (λ (t : Bool). choose t bytes c.keep_second.new.into) c.takes_first.ensures
     ∙ ap (choose (takes_first d.keep) bytes)
     (c.keep_second.ensures ∙ ap (λ (t : Bool). choose t r.held r.first) c.takes_second.ensures)
     in
