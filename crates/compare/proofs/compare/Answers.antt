@@ -30,7 +30,9 @@ returns-then-not-in_shape c =
 
 pub returns-in-Refused : goal.returns-in-Refused
 returns-in-Refused c =
-    c.numbers_of-in-Refused.ensures ∙ sym (kept_refused_lem _ _ _ _ (in_shape_lem (goal.at.returns-in-Refused c).Else-not-in_shape) _ (sym c.open.ensures ∙ c.in-Refused.is))
+    let refuses = sym c.open.ensures ∙ c.in-Refused.is in
+    c.numbers_of-in-Refused.ensures
+    ∙ sym (kept_refused_lem _ _ _ _ (in_shape_lem (goal.at.returns-in-Refused c).Else-not-in_shape) _ refuses)
 
 pub returns-in-Refused-open : goal.returns-in-Refused-open
 returns-in-Refused-open c =

@@ -10,7 +10,11 @@ returns-then-not-lists_in_shape c =
 
 pub first_difference-requires : goal.first_difference-requires
 first_difference-requires c =
-    record { volume_in = c.requires.volume_in; volume_in_2 = c.requires.volume_in_2; block_count_value = sym c.lists_in_shape.ensures ∙ c.if-not-lists_in_shape.false }
+    record {
+      volume_in = c.requires.volume_in;
+      volume_in_2 = c.requires.volume_in_2;
+      block_count_value = sym c.lists_in_shape.ensures ∙ c.if-not-lists_in_shape.false;
+    }
 
 pub returns : goal.returns
 returns c =

@@ -25,7 +25,11 @@ returns-then-not-same_bounds c =
 
 pub nodes_differ-first-requires : goal.nodes_differ-first-requires
 nodes_differ-first-requires c =
-    record { volume_in = c.requires.volume_in; volume_in_2 = c.requires.volume_in_2; count_in_bounds = (fit (goal.at.nodes_differ-first-requires c).Start).nodes_held }
+    record {
+      volume_in = c.requires.volume_in;
+      volume_in_2 = c.requires.volume_in_2;
+      count_in_bounds = (fit (goal.at.nodes_differ-first-requires c).Start).nodes_held;
+    }
 
 pub blocks_differ-requires : goal.blocks_differ-requires
 blocks_differ-requires c =

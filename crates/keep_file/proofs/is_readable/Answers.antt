@@ -1,7 +1,6 @@
 -- `is_readable` meets its contract: by the offsets and the length first, then by the lists.
 use mathlib.Core.Path.{◌≡◌, sym, ◌∙◌}
 use mathlib.Core.Bool.{true}
-use borrow.Author.Tests.{not-true, not-false}
 use Rattle.keep_file.specs.Reading.{measured, readable}
 use borrow.Author.Rules.{rules}
 use Rattle.keep_file.proofs.is_readable.Goals as goal

@@ -1,7 +1,6 @@
 -- `read` meets its contract: refused, or the fields of what the file holds.
 use mathlib.Core.Path.{◌≡◌, sym, ap, ◌∙◌}
 use mathlib.Core.Bool.{true}
-use borrow.Author.Tests.{not-true, not-false}
 use Rattle.keep_file.specs.Reading.{readable, fields_read}
 use Rattle.keep_file.proofs.Refusing.{readable_measured, read_readable, read_refused}
 use borrow.Author.Rules.{rules}
