@@ -49,7 +49,8 @@ module _ (image : List ℕ) (n : ℕ) (refuses : opened_image image ≡ Refused 
       → keep_written image path index room ≡ refused_keep n room
   keep_refused path index room shaped = keep.call_opens image path index room (Refused n) shaped refuses
 
-  pub keep_compare_refused : (file : List ℕ) {k : Keep} → read_keep file ≡ reading.kept k → in_shape (length image) ≡ true → keep_compared file image ≡ refused n 2
+  pub keep_compare_refused : (file : List ℕ) {k : Keep} → read_keep file ≡ reading.kept k → in_shape (length image) ≡ true → keep_compared file image
+      ≡ refused n 2
   keep_compare_refused file reads shaped = keep_compare.fresh_refused_lem file image reads shaped n refuses
 
   -- whatever was listed, Compare doesn't say "same" of it: the kept image is looked at first

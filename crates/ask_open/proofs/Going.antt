@@ -15,7 +15,8 @@ use Rattle.checkpoint.specs.Checkpoint.{checkpoint_of}
 use Rattle.checkpoint.specs.Pack.{first_passes, last_passes, second_pack}
 use Rattle.checkpoint.specs.Volume.{header_readable, volume_of}
 use Rattle.asking.specs.Asking.{Asking, ask}
-use Rattle.asking.specs.Open.{Opens, refuses, tried_by, last_of, areas_ask, first_copy_after, second_copy_after, one_first, one_last, two_first, two_last, journal_came, journal_ask}
+use Rattle.asking.specs.Open.{Opens, refuses, tried_by, last_of, areas_ask, first_copy_after}
+use Rattle.asking.specs.Open.{second_copy_after, one_first, one_last, two_first, two_last, journal_came, journal_ask}
 use Rattle.asking.specs.Pull.{Ending}
 use Rattle.ask_open.specs.declared.Stage.{Stage}
 use Rattle.ask_open.specs.declared.Stage.TheVariants.{SecondCopy, OneFirst, OneLast, TwoFirst, TwoLast, Journal, Refused}

@@ -9,7 +9,8 @@ ghost use Rattle.superblock.specs.Areas.{accepted};
 ghost use Rattle.checkpoint.specs.Pack.{second_pack};
 ghost use Rattle.checkpoint.specs.Volume.{journal_readable};
 ghost use Rattle.asking.specs.Asking.{Asking};
-ghost use Rattle.asking.specs.Open.{Opens, tried_by, failed, first_copy_after, second_copy_after, areas_ask, one_first, one_last, two_first, two_last, choose_pack, journal_ask};
+ghost use Rattle.asking.specs.Open.{Opens, tried_by, failed, first_copy_after, second_copy_after, areas_ask, one_first, one_last};
+ghost use Rattle.asking.specs.Open.{two_first, two_last, choose_pack, journal_ask};
 ghost use Rattle.asking.specs.Pull.{Ending};
 ghost use Rattle.ask_open.specs.Came.{open_goes, first_after, AreasFit, PackFits, IfPassed, OpeningIn};
 

@@ -397,6 +397,7 @@ scan_rules_lem = refl
 pub pull_rules_lem : Holds pull_rules
 unfolding le16 le32 le64 bytes_of place_of insert run bind onward and_then in_main belongs at_block at_entry node_walk is_hole data_walk follow_walk
     way_walk block_walk inode_of has_inline_data has_inline_dentry has_extra_attr data_room is_directory is_regular addresses_in is_past count_in
-    content_walk at_file file_walk fetch_from levels_walk find_walk at_directory directory_walk lent_in_shape first_of bucket_of bucket_walk after_block low_bit slot_at
+    content_walk at_file file_walk fetch_from levels_walk find_walk at_directory directory_walk lent_in_shape first_of bucket_of bucket_walk after_block
+    low_bit slot_at
     slots_from hash_of same_at
 pull_rules_lem = refl

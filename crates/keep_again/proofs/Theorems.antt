@@ -115,7 +115,8 @@ module _ (image path : List ℕ) (index : ℕ) (room : List ℕ) (wrote : (keep_
         go true h (Opened u) e =
             fresh_opened file fresh reads_back u e
             ∙ ap verdict (difference_kept image v path index fresh u
-            ∙ sym (ap₂ (difference (bounds_of v) (bounds_of u) (view_of (card_of image) v) (view_of (card_of fresh) u)) (nodes_of_run came) (blocks_of_run came)))
+            ∙ sym (ap₂ (difference (bounds_of v) (bounds_of u) (view_of (card_of image) v) (view_of (card_of fresh) u)) (nodes_of_run came)
+            (blocks_of_run came)))
             ∙ sym (compared_opened image fresh _ _ v u image_opened e
             ∙ lists_compared (card_of image) v (card_of fresh) u _ _ (lists_fit image path index lent came))
 
@@ -167,7 +168,8 @@ said_wrote image path index room fresh e =
     ⊎_elim (λ a. a) (λ none. absurd (nothing_same fresh (rw none at e))) (no_file (ends image path index room))
 
 pub again_holds : (image fresh path : List ℕ) (index : ℕ) (room : List ℕ) (lent : Lent) {w : Written} {room' : List ℕ} {c : Compared} {p : Pulled} {left : Lent}
-    → writing w room' ≡ keep_written image path index room → c ≡ keep_compared (file_of (writing w room')) fresh → result_in p left ≡ pulled fresh path index lent
+    → writing w room' ≡ keep_written image path index room → c ≡ keep_compared (file_of (writing w room')) fresh → result_in p left ≡ pulled fresh path index
+    lent
     → KeptAgain image fresh path index room room' lent left (record { kept = w; compared = c; second = p })
 unfolding keep_run
 again_holds image fresh path index room lent {w} {room'} {c} {p} {left} wrote compared second = record {

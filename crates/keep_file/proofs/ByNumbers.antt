@@ -10,7 +10,8 @@ use Rattle.field.specs.Number.{le32}
 use Rattle.list.specs.Lists.{column}
 use Rattle.compare.specs.Lists.{is_rising, all_in_main}
 use Rattle.keep_file.specs.Layout.{path_start, block_start, nodes_start, blocks_start, file_end}
-use Rattle.keep_file.specs.Reading.{kept_nodes_at, kept_blocks_at, are_answers, path_length_in, node_count_in, block_count_in, keep_in, lists_readable, fields_of}
+use Rattle.keep_file.specs.Reading.{kept_nodes_at, kept_blocks_at, are_answers, path_length_in}
+use Rattle.keep_file.specs.Reading.{node_count_in, block_count_in, keep_in, lists_readable, fields_of}
 use Rattle.keep_file.specs.Readable.{Measured}
 use Rattle.keep_file.proofs.Lengths.{path_length_lem, nodes_length, blocks_length, node_numbers, block_numbers}
 

@@ -1,6 +1,7 @@
 -- The hash from a place of the name on: what one turn of the loop over its sixteens goes by, and the hash by whether the
 -- name is dots.
-use Rattle.std.proofs.Common.{◌≡◌, ℕ, zero, suc, ◌+◌, ◌-◌, ◌/◌, ◌<◌, ◌≤◌, true, false, List, length, take, drop, refl, arith, length-drop, take_all, drop-drop, le-ltb, lt-ltb}
+use Rattle.std.proofs.Common.{◌≡◌, ℕ, zero, suc, ◌+◌, ◌-◌, ◌/◌, ◌<◌, ◌≤◌, true, false}
+use Rattle.std.proofs.Common.{List, length, take, drop, refl, arith, length-drop, take_all, drop-drop, le-ltb, lt-ltb}
 use Rattle.name_hash.specs.declared.State.{State}
 use Rattle.name_hash.specs.Hash.{tea, key_of, absorb, start_state, is_dots, hash_of}
 

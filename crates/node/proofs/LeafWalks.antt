@@ -79,7 +79,8 @@ module _ (m : Bounds) (ino : ℕ) where
       unfolding block_walk and_then
       block_through = way_leaf (place_of A index)
 
-      pub block_leaf : block_walk m ino inode A index ≡ and_then (leaf_walk m ino inode (leaf_of (place_of A index))) (at_leaf m (address_at (place_of A index)))
+      pub block_leaf : block_walk m ino inode A index ≡ and_then (leaf_walk m ino inode (leaf_of (place_of A index)))
+          (at_leaf m (address_at (place_of A index)))
       unfolding block_walk
       block_leaf =
           way_leaf (place_of A index)

@@ -16,8 +16,10 @@ use Rattle.path_lookup.specs.Lookup.{at_directory}
 use Rattle.path_lookup.proofs.Cases.{directory_empty, directory_find}
 
 -- its slots are scanned, whatever its depth and its directory level are
-module _ (m : Bounds) (name : List ℕ) (ino : ℕ) (inode : List ℕ) (is : is_directory (inode_of inode) ≡ true) (own : has_inline_dentry (inode_of inode) ≡ true) where
-  pub inline_directory : ((inode_of inode).size ≡ 0 → ⊥) → at_directory m name ino inode ≡ after_slots (done (stop 2)) (in_inode inode (wanted (hash_of name) name))
+module _ (m : Bounds) (name : List ℕ) (ino : ℕ) (inode : List ℕ) (is : is_directory (inode_of inode) ≡ true)
+    (own : has_inline_dentry (inode_of inode) ≡ true) where
+  pub inline_directory : ((inode_of inode).size ≡ 0 → ⊥) → at_directory m name ino inode ≡ after_slots (done (stop 2))
+      (in_inode inode (wanted (hash_of name) name))
   inline_directory some = directory_find m name ino inode refl _ _ true is some refl refl (sym own) ∙ inline_search _ _ _ refl
 
   -- so what was seen when its inode was read is what the search leaves

@@ -93,7 +93,8 @@ module _ (image path : List ℕ) (index : ℕ) (lent : Lent) where
   unfolding call_in_shape
   lent_shape = needed (λ e. rw (e, and-false) refl)
 
-  pub call_in_shape_lem : in_shape (length image) ≡ true → is_path path ≡ true → lent_in_shape (part_count path) lent ≡ true → call_in_shape image path lent ≡ true
+  pub call_in_shape_lem : in_shape (length image) ≡ true → is_path path ≡ true → lent_in_shape (part_count path) lent ≡ true → call_in_shape image path lent
+      ≡ true
   unfolding call_in_shape
   call_in_shape_lem p q r = rw (p, q, r)
 

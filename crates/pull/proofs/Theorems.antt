@@ -114,7 +114,8 @@ module _ (image path : List ℕ) (index : ℕ) (lent : Lent) where
   pub ends : PullEnds image path index lent (pulled image path index lent)
   ends = go (call_in_shape image path lent) refl (opened_image image) refl
     where
-      go : (b : Bool) → call_in_shape image path lent ≡ b → (o : Opening) → opened_image image ≡ o → PullEnds image path index lent (pulled image path index lent)
+      go : (b : Bool) → call_in_shape image path lent ≡ b → (o : Opening) → opened_image image ≡ o → PullEnds image path index lent
+          (pulled image path index lent)
       go false e o f = refusal 4 (omega arith) (omega arith) (call_refused image path index lent e)
       go true e (Refused answer) f =
           let few = refusals image answer f in
@@ -143,7 +144,8 @@ module _ (image path : List ℕ) (index : ℕ) (lent : Lent) where
           rw (e, numbers_over runs.nodes lent.nodes, numbers_over runs.blocks lent.blocks) (run_rises (card_of image) v path index)
 
   -- ".. the main-area blocks read": each listed block lies in the main area of the card that was opened
-  pub in_main_lem : (v : Volume) → opened_image image ≡ Opened v → AllOf (λ b. in_main (bounds_of v) b ≡ true) (entries (blocks_left (pulled image path index lent)))
+  pub in_main_lem : (v : Volume) → opened_image image ≡ Opened v → AllOf (λ b. in_main (bounds_of v) b ≡ true)
+      (entries (blocks_left (pulled image path index lent)))
   unfolding numbers
   in_main_lem v opens = go ends
     where

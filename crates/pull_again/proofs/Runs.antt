@@ -134,7 +134,8 @@ module _ (image path : List ℕ) (index wanted : ℕ) (lent : Lent) (v : Volume)
         listed = run_root (card_of image) v path _;
       }))
 
-  lists_fit : lists_in_shape (bounds_of v) (run_nodes_left (run_pulled image path index wanted lent)) (run_blocks_left (run_pulled image path index wanted lent)) ≡ true
+  lists_fit : lists_in_shape (bounds_of v) (run_nodes_left (run_pulled image path index wanted lent))
+      (run_blocks_left (run_pulled image path index wanted lent)) ≡ true
   unfolding runs
   lists_fit = rw (run_wrote came) (lists_in_shape_lem _ _ _ fit)
     where

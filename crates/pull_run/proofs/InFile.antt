@@ -70,7 +70,8 @@ module _ (v : View) (m : Bounds) (index n : ℕ) (few : n ≤ 512) where
         → AllAsked P Q v (at_file m j ino inode)
     unfolding at_file content_walk
     file_asks P Q j f =
-        asked_choose P Q v (is_regular (inode_of inode)) _ _ (asked_choose P Q v (is_past (inode_of inode) j) _ _ (asked_done P Q v _) asks) (asked_done P Q v _)
+        asked_choose P Q v (is_regular (inode_of inode)) _ _ (asked_choose P Q v (is_past (inode_of inode) j) _ _ (asked_done P Q v _) asks)
+        (asked_done P Q v _)
       where
         asks : AllAsked P Q v (and_then (content_walk m j ino inode) (counted (count_in (inode_of inode) j)))
         asks =

@@ -41,12 +41,14 @@ module _ {blocks : ℕ} {path : List ℕ} {index : ℕ} {r : Reader} (s : Starte
   few_start : Few (λ b. b < blocks) (EndingIn (name_count path)) (blocks_asked (name_count path)) (read_ask blocks path index)
   few_start = ⊎_elim whole refusal (either (start_in_shape blocks path))
     where
-      whole : start_in_shape blocks path ≡ true → Few (λ b. b < blocks) (EndingIn (name_count path)) (blocks_asked (name_count path)) (read_ask blocks path index)
+      whole : start_in_shape blocks path ≡ true → Few (λ b. b < blocks) (EndingIn (name_count path)) (blocks_asked (name_count path))
+          (read_ask blocks path index)
       whole shape =
           let names = sym (count_parts path (shaped_path blocks path shape)) in
           subst (λ (k : ℕ). Few (λ b. b < blocks) (EndingIn k) (blocks_asked k) (read_ask blocks path index)) names (few_read blocks path index)
 
-      refusal : start_in_shape blocks path ≡ false → Few (λ b. b < blocks) (EndingIn (name_count path)) (blocks_asked (name_count path)) (read_ask blocks path index)
+      refusal : start_in_shape blocks path ≡ false → Few (λ b. b < blocks) (EndingIn (name_count path)) (blocks_asked (name_count path))
+          (read_ask blocks path index)
       refusal shape =
           subst (Few (λ b. b < blocks) (EndingIn (name_count path)) (blocks_asked (name_count path))) (sym (refused_start blocks path index shape))
           (ends {a = refused 4} (omega arith, omega arith))

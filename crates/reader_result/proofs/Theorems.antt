@@ -100,7 +100,8 @@ module _ (k : ℕ) (at : At) (m : Memory) (nodes blocks : List ℕ) where
       go false false u v e f c = late (eqb-false at.stage 0 e) (eqb-false at.stage 1 f)
 
 -- ---- pulls that are refused with 4
-pulled_unfit : (image path : List ℕ) (index : ℕ) (lent : Lent) → lent_in_shape (part_count path) lent ≡ false → pulled image path index lent ≡ refused_pull 4 lent
+pulled_unfit : (image path : List ℕ) (index : ℕ) (lent : Lent) → lent_in_shape (part_count path) lent ≡ false → pulled image path index lent ≡ refused_pull 4
+    lent
 unfolding pulled call_in_shape
 pulled_unfit image path index lent h = rw (h, and-false)
 

@@ -67,5 +67,6 @@ keep_rules =
     ∷ []
 
 pub keep_rules_lem : Holds keep_rules
-unfolding le16 le32 bytes_of searched in_main rising_after is_rising numbers_of answer_at is_answer bytes_at kept_at are_answers keep_in measured lists_readable readable
+unfolding le16 le32 bytes_of searched in_main rising_after is_rising numbers_of answer_at is_answer bytes_at kept_at are_answers keep_in measured
+    lists_readable readable
 keep_rules_lem = refl

@@ -69,7 +69,8 @@ path_rules =
     ∷ []
 
 pub path_rules_lem : Holds path_rules
-unfolding le16 le32 le64 bytes_of low_bit same_at insert run bind onward and_then place_of in_main belongs at_block at_entry node_walk is_hole data_walk way_walk
+unfolding le16 le32 le64 bytes_of low_bit same_at insert run bind onward and_then place_of in_main belongs at_block at_entry node_walk is_hole data_walk
+    way_walk
     block_walk inode_of has_inline_data has_inline_dentry has_extra_attr data_room is_directory is_regular addresses_in is_past count_in
     well_formed matches slot_at slots_from find_walk name_bytes hash_of parts_of part_count are_names is_path name_count
     at_directory directory_walk names_walk content_walk at_file file_walk named_file_walk pull_walk lent_in_shape

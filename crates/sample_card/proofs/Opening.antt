@@ -19,7 +19,8 @@ use Rattle.sample_card.specs.Volume.{areas, volume}
 use Rattle.sample_card.proofs.Checksum.{pack_sum}
 
 areas_found : found card ≡ At areas
-unfolding runs block_in superblock filled bytes_of le16 le32 le64 same_at superblock_of logs_pass units_pass counts_pass areas_pass ends_pass fields_pass passes found
+unfolding runs block_in superblock filled bytes_of le16 le32 le64 same_at superblock_of logs_pass units_pass counts_pass areas_pass ends_pass fields_pass
+    passes found
 areas_found = refl
 
 -- ---- the packs
@@ -48,7 +49,8 @@ first_chosen = rw (first_passes_lem, second_fails)
 
 -- ---- the volume
 pack_opens : open_pack card areas 512 ≡ Opened volume
-unfolding runs block_in pack journal filled bytes_of le16 le32 checkpoint_of search_from twice_among names_twice journal_in journal_placed journal_offset damaged
+unfolding runs block_in pack journal filled bytes_of le16 le32 checkpoint_of search_from twice_among names_twice journal_in journal_placed journal_offset
+    damaged
     maps_readable header_readable journal_readable open_pack
 pack_opens = refl
 

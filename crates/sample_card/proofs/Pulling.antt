@@ -31,7 +31,8 @@ use Rattle.sample_card.specs.Volume.{volume}
 
 -- the root's from the journal, that of "brake.log" from the table
 pub table_entries : (table_answer card volume 3 ≡ Entry 3 4193792) × (table_answer card volume 4 ≡ Entry 4 4193794)
-unfolding runs block_in pack journal nat_block filled bytes_of le16 le32 top_bit search_from journal_find in_journal in_range table_address entry_in in_table table_answer
+unfolding runs block_in pack journal nat_block filled bytes_of le16 le32 top_bit search_from journal_find in_journal in_range table_address entry_in in_table
+    table_answer
 table_entries = (refl, refl)
 
 -- block 1 of "brake.log"; its block 0, a hole; block 2, past its end; a name that isn't there; block 0 of the inline file. Of two
@@ -44,7 +45,8 @@ pub walks :
     × (pull_run card volume name 2 ≡ ran (stop 3) (record { nodes = 3 ∷ 4 ∷ []; blocks = 4193792 ∷ 4193793 ∷ 4193794 ∷ [] }))
     × (pull_run card volume missing 0 ≡ ran (stop 2) (record { nodes = 3 ∷ []; blocks = 4193792 ∷ 4193793 ∷ [] }))
     × (pull_run card volume inline_name 0
-    ≡ ran (ok (record { count = 9; content = held (drop inline_start inline_inode) })) (record { nodes = 3 ∷ 5 ∷ []; blocks = 4193792 ∷ 4193793 ∷ 4193796 ∷ [] }))
+    ≡ ran (ok (record { count = 9; content = held (drop inline_start inline_inode) }))
+    (record { nodes = 3 ∷ 5 ∷ []; blocks = 4193792 ∷ 4193793 ∷ 4193796 ∷ [] }))
     × (pull_run card volume inner_path 0
     ≡ ran (ok (record { count = 4; content = held inner_block }))
     (record { nodes = 3 ∷ 6 ∷ 7 ∷ []; blocks = 4193792 ∷ 4193793 ∷ 4193797 ∷ 4193798 ∷ 4193799 ∷ [] }))

@@ -20,6 +20,7 @@ sit_journal_readable_lem = refl
 
 -- the segments that are off, and the ones in all maps
 pub segments : (segments_off (sit_entry card volume) 1 ≡ []) × (ones_in_all (sit_entry card volume) 1 ≡ 9)
-unfolding runs block_in pack journal sit_block filled bytes_of le16 le32 top_bit search_from journal_find valid_count ones_below sit_journal_of table_address in_table
+unfolding runs block_in pack journal sit_block filled bytes_of le16 le32 top_bit search_from journal_find valid_count ones_below sit_journal_of table_address
+    in_table
     sit_entry is_off segments_off ones_in_all
 segments = (refl, refl)

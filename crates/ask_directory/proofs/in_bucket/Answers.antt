@@ -15,7 +15,7 @@ pub returns-then-last-index : goal.returns-then-last-index
 returns-then-last-index c =
     let here = goal.at.returns-then-last-index c in
     let none = past_last (keeping c.args.v c.args.first.now c.args.journal.now) c.args.inode.now c.args.spot c.args.index
-        (omega (arith, c.if-last-index.true, held here.After-addresses_in)) in
+    (omega (arith, c.if-last-index.true, held here.After-addresses_in)) in
     let hop = ap (λ (m : Move). m.target.hop) c.go_to.ensures in
     record {
       value = none c.go_to.ensures;
@@ -26,7 +26,7 @@ pub returns : goal.returns
 returns c =
     let here = goal.at.returns c in
     let some = up_to_last (keeping c.args.v c.args.first.now c.args.journal.now) c.args.inode.now c.args.spot c.args.index
-        (omega (arith, c.if-last-index.false, held here.After-addresses_in)) in
+    (omega (arith, c.if-last-index.false, held here.After-addresses_in)) in
     let hop = ap (λ (m : Move). m.target.hop) c.fetch_move.ensures in
     record {
       value = some c.fetch_block-f.ensures.value c.fetch_move.ensures;

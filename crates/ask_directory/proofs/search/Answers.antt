@@ -87,7 +87,7 @@ returns-then-not-is_empty c =
     let on = c.if-here-k.false in
     let full = sym c.is_empty.ensures ∙ c.if-not-is_empty.true in
     let inside = found_in (here place.After-level_from-here) c.args.name_at on c.in_bucket-next.ensures.value full c.requires.inode_len.1
-        c.in_bucket-next.ensures.hop_bound in
+    c.in_bucket-next.ensures.hop_bound in
     record {
       by_index = search_found (here place.After-level_from-here) c.args.name_at on c.in_bucket-next.ensures.value full;
       by_index_2 = inside;

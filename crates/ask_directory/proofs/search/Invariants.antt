@@ -1,17 +1,10 @@
 -- `search` meets its contract. The invariant: what is left of the search is what it was begun for, and `start` is where level n starts.
 -- The measure: in each level that is left at most four blocks, and the step to the next level.
-use Prim.Native.Nat.{◌+◌, ◌-◌, ◌*◌, ◌<◌}
-use native.Mathlib.Omega.{arith}
-use mathlib.Core.Path.{◌≡◌, sym, subst, ◌∙◌}
-use mathlib.Core.Bool.{true}
-use borrow.Author.Tests.{not-true, not-false}
-use Rattle.inode.specs.declared.Inode.{Inode}
-use Rattle.inode.specs.Inode.{is_directory}
-use Rattle.inode.proofs.DirectoryLevel.{low_level}
+use Prim.Native.Nat.{◌+◌, ◌-◌, ◌*◌}
+use mathlib.Core.Path.{◌≡◌}
 use Rattle.hash_level.specs.Level.{first_of}
 use Rattle.asking.specs.Table.{keeping}
-use Rattle.ask_directory.proofs.Searching.{SearchOn, Turn, turn_few, block_small}
-use Rattle.ask_directory.proofs.Searching.{search_start, search_next, search_end, end_in, search_hole, search_found, found_in}
+use Rattle.ask_directory.proofs.Searching.{SearchOn}
 use Rattle.ask_directory.proofs.search.Given as goal
 
 abbrev pub invariant-loop-k : goal.invariant-loop-k

@@ -52,5 +52,5 @@ follow-requires c =
 pub returns : goal.returns
 returns c =
     let steps = c.if-way-eq0.false in
-    let left = block_node _ _ c.way_to-way.ensures ((keeping c.args.v c.args.first.now c.args.journal.now)) steps c.if-way-eq1.false c.get32-number.ensures in
+    let left = block_node _ _ c.way_to-way.ensures (keeping c.args.v c.args.first.now c.args.journal.now) steps c.if-way-eq1.false c.get32-number.ensures in
     record { value = rw left c.follow.ensures.value; hop_in = c.follow.ensures.hop_in }

@@ -24,5 +24,5 @@ follow-requires c =
 
 pub returns : goal.returns
 returns c =
-    let left = next_node _ _ c.way_to-way.ensures ((keeping c.args.v c.args.first.now c.args.journal.now)) _ _ c.requires.inode_len.3 c.get32-number.ensures in
+    let left = next_node _ _ c.way_to-way.ensures (keeping c.args.v c.args.first.now c.args.journal.now) _ _ c.requires.inode_len.3 c.get32-number.ensures in
     record { value = rw left c.follow.ensures.value; hop_in = c.follow.ensures.hop_in }

@@ -17,9 +17,13 @@ returns-then-not-passed c =
     let a = c.args in
     let first = a.first.now in
     let o = c.refuse.result in
-    let refused = c.refuse.ensures.0 in record { result_value = (λ k blocks second bytes.
+    let refused = c.refuse.ensures.0 in
+    record {
+      result_value = (λ k blocks second bytes.
           goes_refused k blocks first second bytes o 7 refused
-          ∙ sym (none_passes k a.areas first first a.passed c.if-not-passed.true)); by_index = (λ second bytes. knows_refused first second bytes o refused) }
+          ∙ sym (none_passes k a.areas first first a.passed c.if-not-passed.true));
+      by_index = (λ second bytes. knows_refused first second bytes o refused);
+    }
 
 pub choose_pack-requires : goal.choose_pack-requires
 choose_pack-requires c =

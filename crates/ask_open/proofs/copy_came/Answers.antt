@@ -12,12 +12,12 @@ use Rattle.ask_open.proofs.copy_came.Goals as goal
 use Rattle.ask_open.proofs.copy_came.Goals.{In-Failed, In-Passed}
 
 -- the copy passes, with these fields
-passed_by : (k : In-Passed) → (passes k.args.blocks (copy_of (k.args.bytes.now)) ≡ true) × (k.in-Passed.s ≡ superblock_of (copy_of (k.args.bytes.now)))
+passed_by : (k : In-Passed) → (passes k.args.blocks (copy_of k.args.bytes.now) ≡ true) × (k.in-Passed.s ≡ superblock_of (copy_of k.args.bytes.now))
 passed_by k =
     passed k.args.blocks (copy_of k.args.bytes.now) k.try_copy.ensures k.in-Passed.is
 
 -- or it fails
-failed_by : (k : In-Failed) → passes k.args.blocks (copy_of (k.args.bytes.now)) ≡ false
+failed_by : (k : In-Failed) → passes k.args.blocks (copy_of k.args.bytes.now) ≡ false
 failed_by k =
     failed k.args.blocks (copy_of k.args.bytes.now) k.try_copy.ensures k.in-Failed.is
 

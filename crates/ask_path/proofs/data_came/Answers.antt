@@ -44,7 +44,11 @@ returns-then-path-spot c =
 pub at_slots-requires : goal.at_slots-requires
 at_slots-requires c =
     let known = directory_has c.args.path.now c.args.index _ c.args.spot (named c) c.requires.spot_in in
-    record { kept_in = c.requires.kept_in; inode_len = (c.requires.inode_len.0, c.requires.inode_len.1, named c, c.requires.inode_len.2); inode_value = known }
+    record {
+      kept_in = c.requires.kept_in;
+      inode_len = (c.requires.inode_len.0, c.requires.inode_len.1, named c, c.requires.inode_len.2);
+      inode_value = known;
+    }
 
 pub returns : goal.returns
 returns c =

@@ -8,7 +8,7 @@ use Rattle.ask_path.proofs.Entering.{enter_moved, enter_in}
 use Rattle.ask_path.proofs.enter.Goals as goal
 use Rattle.ask_path.proofs.enter.Goals.{After-goes_on-goes}
 
-goes : (c : After-goes_on-goes) → c.goes_on-goes.result ≡ goes_on 0 (seek_wants ((keeping c.args.v c.args.first.now c.args.journal.now)) c.args.ino)
+goes : (c : After-goes_on-goes) → c.goes_on-goes.result ≡ goes_on 0 (seek_wants (keeping c.args.v c.args.first.now c.args.journal.now) c.args.ino)
 goes c = c.goes_on-goes.ensures ∙ ap (goes_on 0) c.seek-wants.ensures
 
 pub returns : goal.returns

@@ -34,7 +34,7 @@ inode_left k seen =
     let a = k.args in
     let q = question (keeping a.v a.first.now a.journal.now) a.path.now a.index in
     let own-here = own_came q a.target.number a.spot.ino a.target.place a.table_inode a.bytes.now seen
-        (node_then q a.spot a.inode.now a.target.index a.target.hop) (sym k.belongs.ensures ∙ k.if-not-belongs.false) in
+    (node_then q a.spot a.inode.now a.target.index a.target.hop) (sym k.belongs.ensures ∙ k.if-not-belongs.false) in
     let next = inode_next q a.spot a.inode.now a.target.index a.target.hop a.bytes.now k.if-target-ne0.false in
     own-here ∙ ap (asking q.kept came seen) next
 

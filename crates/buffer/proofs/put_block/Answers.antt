@@ -1,11 +1,9 @@
 use Prim.Native.Nat.{ℕ, ◌+◌, ◌-◌}
 use native.Mathlib.Omega.{arith}
 use mathlib.Core.Path.{◌≡◌, ap, ◌∙◌}
-use mathlib.Core.List.{List}
 use lib.ListN.{length, take, drop, length-drop}
 use lib.Seq.{length-take-le}
 use Rattle.buffer.proofs.Filling.{filled}
-use borrow.Author.Rules.{rules}
 use Rattle.buffer.proofs.put_block.Goals as goal
 use Rattle.buffer.proofs.put_block.Goals.{Start}
 

@@ -1,7 +1,6 @@
 -- A part of the room is lent and filled.
 use native.Mathlib.Omega.{arith}
 use Rattle.buffer.proofs.Laying.{laid_part}
-use borrow.Author.Rules.{rules}
 use Rattle.buffer.proofs.put_bytes.Goals as goal
 
 pub returns : goal.returns

@@ -1,7 +1,6 @@
 -- A number stored is its four bytes laid.
 use mathlib.Core.Path.{◌∙◌}
 use Rattle.buffer.proofs.Laying.{laid_number}
-use borrow.Author.Rules.{rules}
 use Rattle.buffer.proofs.put_number.Goals as goal
 
 pub returns : goal.returns

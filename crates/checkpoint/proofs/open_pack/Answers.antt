@@ -30,17 +30,11 @@ maps k = readable_maps _ _ (readable k)
 placed : (k : After-volume_of-volume) → let v = k.volume_of-volume.result in
     (v.journal_block < (card_of k.args.image.now).blocks) × (v.journal_at ≤ 3584)
 placed k =
-    rw k.volume_of-volume.ensures (
-      omega (
-        arith,
-        (let it : let cp = k.checkpoint_of-cp.result in
-            (2 ≤ cp.cp_pack_total_block_count) × (cp.cp_pack_total_block_count ≤ 512) = rw (let it : let a = k.args in k.checkpoint_of-cp.result ≡ header_of
-            (card_of a.image.now) a.start = rw k.block_at.ensures at k.checkpoint_of-cp.ensures in it) (passing_total _ _ k.requires.start_value) in it),
-        journal_inside_lem _ _ (let it : maps_readable k.args.areas k.checkpoint_of-cp.result ≡ true = readable_maps _ _
-            (let it : header_readable k.args.areas k.checkpoint_of-cp.result ≡ true = holds k.header_readable.ensures k.if-not-header_readable.false in it) in it),
-      ),
-      journal_at_most _,
-    )
+    let read = rw k.block_at.ensures at k.checkpoint_of-cp.ensures in
+    let few : (2 ≤ k.checkpoint_of-cp.result.cp_pack_total_block_count) × (k.checkpoint_of-cp.result.cp_pack_total_block_count ≤ 512) =
+    rw read (passing_total _ _ k.requires.start_value) in
+    let readable = holds k.header_readable.ensures k.if-not-header_readable.false in
+    rw k.volume_of-volume.ensures (omega (arith, few, journal_inside_lem _ _ (readable_maps _ _ readable)), journal_at_most _)
 
 pub checkpoint_of-cp-requires : goal.checkpoint_of-cp-requires
 checkpoint_of-cp-requires c =

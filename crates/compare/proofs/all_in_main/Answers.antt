@@ -1,13 +1,10 @@
-use mathlib.Core.Path.{◌≡◌, refl, sym, ◌∙◌}
+use mathlib.Core.Path.{refl, sym, ◌∙◌}
 use mathlib.Core.Bool.{true, false}
 use Prim.Native.Nat.{◌-◌}
 use native.Mathlib.Omega.{arith}
-use Rattle.list.specs.Lists.{column}
-use Rattle.list.proofs.Columns.{Turn, turn_first, turn_inside, turn_next}
-use Rattle.node.specs.Node.{Bounds, in_main}
-use Rattle.compare.specs.Lists.{all_in_main}
-use Rattle.compare.proofs.Turns.{Left, search_starts, search_over, search_on, search_stops}
-use borrow.Author.Rules.{rules}
+use Rattle.list.proofs.Columns.{turn_first, turn_inside, turn_next}
+use Rattle.node.specs.Node.{in_main}
+use Rattle.compare.proofs.Turns.{search_starts, search_over, search_on, search_stops}
 use Rattle.compare.proofs.all_in_main.Goals as goal
 
 pub loop-i-init : goal.loop-i-init

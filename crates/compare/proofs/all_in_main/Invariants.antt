@@ -1,13 +1,12 @@
 -- The invariant: what is left decides; all passed lie in the main area.
-use mathlib.Core.Path.{◌≡◌, refl, sym, ◌∙◌}
+use mathlib.Core.Path.{◌≡◌}
 use mathlib.Core.Bool.{true, false}
 use Prim.Native.Nat.{◌-◌}
-use native.Mathlib.Omega.{arith}
 use Rattle.list.specs.Lists.{column}
-use Rattle.list.proofs.Columns.{Turn, turn_first, turn_inside, turn_next}
+use Rattle.list.proofs.Columns.{Turn}
 use Rattle.node.specs.Node.{Bounds, in_main}
 use Rattle.compare.specs.Lists.{all_in_main}
-use Rattle.compare.proofs.Turns.{Left, search_starts, search_over, search_on, search_stops}
+use Rattle.compare.proofs.Turns.{Left}
 use Rattle.compare.proofs.all_in_main.Given as goal
 
 abbrev pub invariant-loop-i : goal.invariant-loop-i

@@ -1,13 +1,9 @@
-use mathlib.Core.Path.{◌≡◌, refl, sym, ◌∙◌}
-use Prim.Native.Nat.{◌≤◌, ◌-◌, ◌*◌}
+use mathlib.Core.Path.{refl, sym, ◌∙◌}
+use Prim.Native.Nat.{◌-◌}
 use native.Mathlib.Omega.{arith}
-use Rattle.field.specs.Card.{card_of}
-use Rattle.list.specs.Lists.{AllOf, numbers, column}
 use Rattle.list.proofs.Columns.{width_next}
-use Rattle.compare.specs.declared.Difference.TheVariants.{Same, BlockDiffers}
-use Rattle.compare.specs.Difference.{same_bytes, blocks_differ, InBoth}
-use Rattle.compare.proofs.Turns.{entries_left, all_next, Left, search_over, search_on, search_stops}
-use borrow.Author.Rules.{rules}
+use Rattle.compare.specs.Difference.{blocks_differ}
+use Rattle.compare.proofs.Turns.{entries_left, all_next, search_over, search_on, search_stops}
 use Rattle.compare.proofs.blocks_differ.Goals as goal
 
 pub loop-i-init : goal.loop-i-init

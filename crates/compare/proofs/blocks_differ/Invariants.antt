@@ -1,13 +1,11 @@
 -- The invariant: what is left decides, and lies inside both cards; the cards agree on all blocks passed.
-use mathlib.Core.Path.{◌≡◌, refl, sym, ◌∙◌}
+use mathlib.Core.Path.{◌≡◌}
 use Prim.Native.Nat.{◌≤◌, ◌-◌, ◌*◌}
-use native.Mathlib.Omega.{arith}
 use Rattle.field.specs.Card.{card_of}
 use Rattle.list.specs.Lists.{AllOf, numbers, column}
-use Rattle.list.proofs.Columns.{width_next}
 use Rattle.compare.specs.declared.Difference.TheVariants.{Same, BlockDiffers}
 use Rattle.compare.specs.Difference.{same_bytes, blocks_differ, InBoth}
-use Rattle.compare.proofs.Turns.{entries_left, all_next, Left, search_over, search_on, search_stops}
+use Rattle.compare.proofs.Turns.{Left}
 use Rattle.compare.proofs.blocks_differ.Given as goal
 
 abbrev pub invariant-loop-i : goal.invariant-loop-i

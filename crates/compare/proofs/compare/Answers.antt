@@ -6,7 +6,6 @@ use Rattle.checkpoint.specs.declared.Opening.TheVariants.{Opened}
 use Rattle.checkpoint.specs.Volume.{opened_image}
 use Rattle.checkpoint.proofs.Inside.{image_volume}
 use Rattle.compare.proofs.Openings.{shape_refused, kept_refused_lem, fresh_refused_lem, compared_opened}
-use borrow.Author.Rules.{rules}
 use Rattle.compare.proofs.compare.Goals as goal
 use Rattle.compare.proofs.compare.Goals.{Else-not-in_shape, In-Opened, In-Opened-open}
 

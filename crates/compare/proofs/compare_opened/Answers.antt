@@ -1,7 +1,6 @@
 use mathlib.Core.Path.{sym, ap, ◌∙◌}
 use Rattle.compare.specs.Compare.{verdict}
 use Rattle.compare.proofs.Openings.{lists_refused, lists_compared}
-use borrow.Author.Rules.{rules}
 use Rattle.compare.proofs.compare_opened.Goals as goal
 
 pub returns-then-not-lists_in_shape : goal.returns-then-not-lists_in_shape

@@ -1,13 +1,11 @@
 -- Equal bounds put the listed blocks inside both cards, since they lie in the kept main area.
 use mathlib.Core.Path.{◌≡◌, sym, ◌∙◌}
 use mathlib.Core.Bool.{true}
-use native.Mathlib.Omega.{arith}
 use Rattle.node.specs.Node.{bounds_of}
 use Rattle.list.specs.Lists.{listing, entries}
 use Rattle.compare.specs.Difference.{same_bounds}
 use Rattle.compare.proofs.Shapes.{ListsFit, in_shape_lists, main_in_both}
 use Rattle.compare.proofs.Differences.{bounds_differ, bounds_agree, nodes_agree, node_first}
-use borrow.Author.Rules.{rules}
 use Rattle.compare.proofs.first_difference.Goals as goal
 use Rattle.compare.proofs.first_difference.Goals.{Else-not-same_bounds, Start}
 

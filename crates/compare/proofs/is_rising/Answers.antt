@@ -1,12 +1,9 @@
-use mathlib.Core.Path.{◌≡◌, sym, ◌∙◌}
+use mathlib.Core.Path.{sym, ◌∙◌}
 use Prim.Native.Nat.{◌+◌, ◌-◌, ◌≤◌}
 use native.Mathlib.Omega.{arith}
 use lib.ListN.{length}
-use Rattle.list.specs.Lists.{column}
-use Rattle.list.proofs.Columns.{Turn, turn_first, turn_inside, turn_next}
-use Rattle.compare.specs.Lists.{rising_after, is_rising}
+use Rattle.list.proofs.Columns.{turn_first, turn_inside, turn_next}
 use Rattle.compare.proofs.Turns.{rises_empty, rises_first, rises_over, rises_on, rises_stops}
-use borrow.Author.Rules.{rules}
 use Rattle.compare.proofs.is_rising.Goals as goal
 use Rattle.compare.proofs.is_rising.Goals.{Else-count-eq0}
 

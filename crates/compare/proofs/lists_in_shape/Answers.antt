@@ -6,7 +6,6 @@ use lib.ListN.{length}
 use Rattle.list.specs.Lists.{listing}
 use Rattle.list.proofs.Columns.{numbers_column}
 use Rattle.compare.proofs.Shapes.{CountsFit, counts_refuse, counts_pass_lem, counts_held}
-use borrow.Author.Rules.{rules}
 use Rattle.compare.proofs.lists_in_shape.Goals as goal
 use Rattle.compare.proofs.lists_in_shape.Goals.{Else-not-counts_fit}
 

@@ -1,14 +1,9 @@
-use mathlib.Core.Path.{◌≡◌, sym, ◌∙◌}
-use Prim.Native.Nat.{◌≤◌, ◌-◌, ◌*◌}
+use mathlib.Core.Path.{sym, ◌∙◌}
+use Prim.Native.Nat.{◌-◌}
 use native.Mathlib.Omega.{arith}
-use Rattle.field.specs.Card.{card_of}
-use Rattle.list.specs.Lists.{numbers}
 use Rattle.list.proofs.Columns.{width_next}
-use Rattle.nat.specs.Table.{table_answer}
-use Rattle.compare.specs.declared.Difference.TheVariants.{Same, NodeDiffers}
-use Rattle.compare.specs.Difference.{same_answer, nodes_differ}
-use Rattle.compare.proofs.Turns.{entries_left, Left, search_over, search_on, search_stops}
-use borrow.Author.Rules.{rules}
+use Rattle.compare.specs.Difference.{nodes_differ}
+use Rattle.compare.proofs.Turns.{entries_left, search_over, search_on, search_stops}
 use Rattle.compare.proofs.nodes_differ.Goals as goal
 
 pub loop-i-init : goal.loop-i-init
@@ -22,12 +17,11 @@ returns-then-not-same_node c =
     sym (c.loop-i.invariant.1 ∙ told)
 
 pub loop-i-preserved : goal.loop-i-preserved
-loop-i-preserved c =
-    (
-      omega arith,
-      c.loop-i.invariant.1
-          ∙ search_on _ _ _ _ _ _ _ _ c.loop-i-test.true c.get32-number.ensures c.same_node.ensures c.if-not-same_node.false _ (width_next 4 _),
-    )
+loop-i-preserved c = (
+  omega arith,
+  c.loop-i.invariant.1
+      ∙ search_on _ _ _ _ _ _ _ _ c.loop-i-test.true c.get32-number.ensures c.same_node.ensures c.if-not-same_node.false _ (width_next 4 _),
+)
 
 pub returns : goal.returns
 returns c =

@@ -1,14 +1,12 @@
 -- The invariant: what is left decides; the cards agree on all nodes passed.
-use mathlib.Core.Path.{◌≡◌, sym, ◌∙◌}
+use mathlib.Core.Path.{◌≡◌}
 use Prim.Native.Nat.{◌≤◌, ◌-◌, ◌*◌}
-use native.Mathlib.Omega.{arith}
 use Rattle.field.specs.Card.{card_of}
 use Rattle.list.specs.Lists.{numbers}
-use Rattle.list.proofs.Columns.{width_next}
 use Rattle.nat.specs.Table.{table_answer}
 use Rattle.compare.specs.declared.Difference.TheVariants.{Same, NodeDiffers}
 use Rattle.compare.specs.Difference.{same_answer, nodes_differ}
-use Rattle.compare.proofs.Turns.{entries_left, Left, search_over, search_on, search_stops}
+use Rattle.compare.proofs.Turns.{Left}
 use Rattle.compare.proofs.nodes_differ.Given as goal
 
 abbrev pub invariant-loop-i : goal.invariant-loop-i

@@ -1,4 +1,3 @@
-use borrow.Author.Rules.{rules}
 use Rattle.compare.proofs.same_answer.Goals as goal
 
 pub returns-in-Entry-other-2 : goal.returns-in-Entry-other-2

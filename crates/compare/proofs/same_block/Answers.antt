@@ -1,5 +1,4 @@
 use Rattle.field.proofs.Blocks.{length_of_block}
-use borrow.Author.Rules.{rules}
 use Rattle.compare.proofs.same_block.Goals as goal
 
 pub same_bytes-requires : goal.same_bytes-requires

@@ -1,11 +1,7 @@
-use mathlib.Core.Path.{◌≡◌, refl, sym, ◌∙◌}
-use mathlib.Core.Bool.{◌&&◌}
-use Prim.Native.Nat.{◌≤◌, ◌-◌}
+use mathlib.Core.Path.{refl, sym, ◌∙◌}
+use Prim.Native.Nat.{◌-◌}
 use native.Mathlib.Omega.{arith}
-use lib.ListN.{drop}
-use Rattle.compare.specs.Difference.{same_bytes}
 use Rattle.compare.proofs.Turns.{bytes_on, bytes_over}
-use borrow.Author.Rules.{rules}
 use Rattle.compare.proofs.same_bytes.Goals as goal
 
 pub loop-i-init : goal.loop-i-init

@@ -1,11 +1,9 @@
 -- The invariant: `same` and what is left of the two blocks decide together.
-use mathlib.Core.Path.{◌≡◌, refl, sym, ◌∙◌}
+use mathlib.Core.Path.{◌≡◌}
 use mathlib.Core.Bool.{◌&&◌}
 use Prim.Native.Nat.{◌≤◌, ◌-◌}
-use native.Mathlib.Omega.{arith}
 use lib.ListN.{drop}
 use Rattle.compare.specs.Difference.{same_bytes}
-use Rattle.compare.proofs.Turns.{bytes_on, bytes_over}
 use Rattle.compare.proofs.same_bytes.Given as goal
 
 abbrev pub invariant-loop-i : goal.invariant-loop-i

@@ -1,4 +1,3 @@
-use borrow.Author.Rules.{rules}
 use Rattle.compare.proofs.same_node.Goals as goal
 
 pub returns : goal.returns

@@ -1,4 +1,3 @@
-use borrow.Author.Rules.{rules}
 use Rattle.compare.proofs.verdict_of.Goals as goal
 
 pub returns-in-Same : goal.returns-in-Same

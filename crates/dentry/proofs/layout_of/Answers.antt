@@ -1,5 +1,4 @@
 use native.Mathlib.Omega.{arith}
-use borrow.Author.Rules.{rules}
 use Rattle.dentry.proofs.layout_of.Goals as goal
 
 pub returns-then-inline : goal.returns-then-inline

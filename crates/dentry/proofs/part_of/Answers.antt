@@ -4,7 +4,6 @@ use mathlib.Core.Path.{sym, ap, subst, ◌∙◌}
 use lib.ListN.{length, drop, length-drop}
 use lib.Seq.{take_all}
 use Rattle.dentry.specs.Slot.{LayoutIn}
-use borrow.Author.Rules.{rules}
 use Rattle.dentry.proofs.part_of.Goals as goal
 
 -- all that is left behind the start

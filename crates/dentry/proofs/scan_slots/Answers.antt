@@ -1,9 +1,6 @@
 use Prim.Native.Nat.{◌-◌}
 use native.Mathlib.Omega.{arith}
-use Rattle.dentry.specs.Slot.{wanted}
-use Rattle.dentry.specs.Scan.{Scanning}
 use Rattle.dentry.proofs.Scans.{took_told, scanning_start, scanning_end, scanning_most}
-use borrow.Author.Rules.{rules}
 use Rattle.dentry.proofs.scan_slots.Goals as goal
 
 pub slots-init : goal.slots-init

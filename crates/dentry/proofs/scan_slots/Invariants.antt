@@ -1,9 +1,7 @@
 -- `dentry::scan_slots` meets its contract. The loop's invariant is `Scanning`; the laws of a turn are in `Scans`.
 use Prim.Native.Nat.{◌-◌}
-use native.Mathlib.Omega.{arith}
 use Rattle.dentry.specs.Slot.{wanted}
 use Rattle.dentry.specs.Scan.{Scanning}
-use Rattle.dentry.proofs.Scans.{took_told, scanning_start, scanning_end, scanning_most}
 use Rattle.dentry.proofs.scan_slots.Given as goal
 
 abbrev pub invariant-slots : goal.invariant-slots

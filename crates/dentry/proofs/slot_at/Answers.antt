@@ -1,11 +1,9 @@
 -- `dentry::slot_at` meets its contract: each return is one case of a slot's meaning.
 use native.Mathlib.Omega.{arith}
 use mathlib.Core.Path.{◌≡◌, sym, ◌∙◌}
-use borrow.Author.Tests.{not-true, not-false}
 use Rattle.field.specs.Map.{low_bit}
 use Rattle.dentry.specs.Slot.{well_formed}
 use Rattle.dentry.proofs.Slots.{slot_free, slot_malformed, Formed, other_hash, other_length, other_bytes, slot_match, formed}
-use borrow.Author.Rules.{rules}
 use Rattle.dentry.proofs.slot_at.Goals as goal
 use Rattle.dentry.proofs.slot_at.Goals.{Else-not-fits, Else-slot_bit-eq0}
 

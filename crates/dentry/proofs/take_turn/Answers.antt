@@ -8,7 +8,6 @@ use Rattle.dentry.specs.Slot.{wanted}
 use Rattle.dentry.proofs.Slots.{other_bounds_lem}
 use Rattle.dentry.proofs.Runs.{turns_most_lem}
 use Rattle.dentry.proofs.Scans.{scanning_most, scanning_free, scanning_other, scanning_found, scanning_malformed}
-use borrow.Author.Rules.{rules}
 use Rattle.dentry.proofs.take_turn.Goals as goal
 use Rattle.dentry.proofs.take_turn.Goals.{In-Other}
 

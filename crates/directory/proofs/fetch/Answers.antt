@@ -3,7 +3,6 @@ use Rattle.walk.proofs.Reached.{reached_start, reached_to, reached_all, reached_
 use Rattle.walk.proofs.Fits.{fits_at}
 use Rattle.node.proofs.Sizes.{block_past}
 use Rattle.directory.proofs.Inline.{first_inline, later_inline, not_inline}
-use borrow.Author.Rules.{rules}
 use Rattle.directory.proofs.fetch.Goals as goal
 
 pub returns-then-index-eq0 : goal.returns-then-index-eq0

@@ -9,7 +9,6 @@ use Rattle.dentry.specs.Slot.{wanted}
 use Rattle.directory.specs.Find.{directory_of, levels_walk, find_walk}
 use Rattle.directory.proofs.Inline.{by_levels}
 use Rattle.hash_level.specs.Table.{IsTable}
-use borrow.Author.Rules.{rules}
 use Rattle.directory.proofs.find.Goals as goal
 use Rattle.directory.proofs.find.Goals.{Start}
 

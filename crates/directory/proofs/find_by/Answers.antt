@@ -2,21 +2,18 @@ use Prim.Native.Nat.{ℕ, ◌+◌, ◌-◌, ◌≤◌, ◌<◌}
 use native.Mathlib.Omega.{arith}
 use mathlib.Core.Path.{◌≡◌, sym, ap, subst, ◌∙◌}
 use mathlib.Core.List.{List}
-use Rattle.field.specs.Card.{Card, card_of}
+use Rattle.field.specs.Card.{card_of}
 use Rattle.field.proofs.Blocks.{length_of_block}
-use Rattle.walk.specs.Walk.{image_view, lists, ok}
+use Rattle.walk.specs.Walk.{ok}
 use Rattle.node.specs.Block.{held}
 use Rattle.node.specs.Found.{data_of, DataIn}
 use Rattle.hash_level.specs.declared.Level.{Level}
 use Rattle.hash_level.specs.Level.{blocks_of, bucket_of}
 use Rattle.hash_level.proofs.Levels.{blocks_few, bucket_small}
 use Rattle.dentry.specs.Slot.{layout_of, wanted, Sought, in_part, in_slots}
-use Rattle.directory.specs.Find.{directory_of}
-use Rattle.dentry.specs.Scan.{Scanning}
 use Rattle.dentry.proofs.Scans.{took_told, by_part, scanning_start, scanning_end}
-use Rattle.directory.proofs.Turns.{Levels, levels_start, levels_next, levels_out, levels_end, block_fits}
-use Rattle.directory.proofs.Turns.{Bucket, bucket_start, bucket_stop, bucket_hole, bucket_absent, bucket_found, bucket_malformed}
-use borrow.Author.Rules.{rules}
+use Rattle.directory.proofs.Turns.{levels_start, levels_next, levels_out, levels_end, block_fits}
+use Rattle.directory.proofs.Turns.{bucket_start, bucket_stop, bucket_hole, bucket_absent, bucket_found, bucket_malformed}
 use Rattle.directory.proofs.find_by.Goals as goal
 use Rattle.directory.proofs.find_by.Goals.{After-block_at, At-slots, In-At, In-bucket}
 
@@ -71,7 +68,7 @@ pub fetch-step-requires : goal.fetch-step-requires
 fetch-step-requires c =
     record {
       fits = block_fits c.levels.invariant c.if-depth-level.false c.bucket.invariant (more (goal.at.fetch-step-requires c).In-bucket)
-      (index (goal.at.fetch-step-requires c).In-bucket) c.requires.fits;
+          (index (goal.at.fetch-step-requires c).In-bucket) c.requires.fits;
       volume_in = c.requires.volume_in;
       file_in = c.requires.file_in.0;
     }

@@ -1,24 +1,14 @@
 -- `find_by` meets its contract. The loop over levels: what is left of the search is the levels from this one on. The loop over blocks:
 -- what is left of the level is its bucket from block k on. The loop over slots: what is left of the block is its slots from this one
 -- on. The laws of the first two are in `Turns`, those of the third in `Scans` of `dentry`. The slices keep their lengths, as each walk says.
-use Prim.Native.Nat.{ℕ, ◌+◌, ◌-◌, ◌≤◌, ◌<◌}
-use native.Mathlib.Omega.{arith}
-use mathlib.Core.Path.{◌≡◌, sym, ap, subst, ◌∙◌}
-use mathlib.Core.List.{List}
-use Rattle.field.specs.Card.{Card, card_of}
-use Rattle.field.proofs.Blocks.{length_of_block}
-use Rattle.walk.specs.Walk.{image_view, lists, ok}
-use Rattle.node.specs.Block.{held}
-use Rattle.node.specs.Found.{data_of, DataIn}
-use Rattle.hash_level.specs.declared.Level.{Level}
-use Rattle.hash_level.specs.Level.{blocks_of, bucket_of}
-use Rattle.hash_level.proofs.Levels.{blocks_few, bucket_small}
-use Rattle.dentry.specs.Slot.{layout_of, wanted, Sought, in_part, in_slots}
+use Prim.Native.Nat.{◌-◌}
+use Rattle.field.specs.Card.{card_of}
+use Rattle.walk.specs.Walk.{image_view, lists}
+use Rattle.dentry.specs.Slot.{wanted}
 use Rattle.directory.specs.Find.{directory_of}
 use Rattle.dentry.specs.Scan.{Scanning}
-use Rattle.dentry.proofs.Scans.{took_told, by_part, scanning_start, scanning_end}
-use Rattle.directory.proofs.Turns.{Levels, levels_start, levels_next, levels_out, levels_end, block_fits}
-use Rattle.directory.proofs.Turns.{Bucket, bucket_start, bucket_stop, bucket_hole, bucket_absent, bucket_found, bucket_malformed}
+use Rattle.directory.proofs.Turns.{Levels}
+use Rattle.directory.proofs.Turns.{Bucket}
 use Rattle.directory.proofs.find_by.Given as goal
 
 abbrev pub invariant-slots : goal.invariant-slots

@@ -5,17 +5,16 @@ use mathlib.Core.Bool.{false}
 use Rattle.field.specs.Card.{card_of}
 use Rattle.inode.specs.Inode.{is_past}
 use Rattle.inode.proofs.Inline.{inline_room}
-use Rattle.walk.specs.Walk.{image_view, Walk, Outcome, and_then, lists}
+use Rattle.walk.specs.Walk.{image_view, and_then, lists}
 use Rattle.walk.proofs.Reached.{Reached, reached_start, reached_to, reached_all, reached_done}
 use Rattle.walk.proofs.Fits.{fits_at, fits_first}
 use Rattle.node.specs.Node.{bounds_of}
 use Rattle.node.specs.Found.{file_block_walk}
 use Rattle.node.proofs.Keeping.{keeps_none}
-use Rattle.pull.specs.Walk.{Block, counted, at_file}
+use Rattle.pull.specs.Walk.{counted, at_file}
 use Rattle.file_run.specs.Walks.{RegularFile}
 use Rattle.pull.proofs.Cases.{file_past, file_inline, file_block, counted_walked}
 use Rattle.file_run.proofs.Found.{inside_near}
-use borrow.Author.Rules.{rules}
 use Rattle.file_run.proofs.file_block.Goals as goal
 use Rattle.file_run.proofs.file_block.Goals.{Else-has_inline_data, Else-is_past, Start}
 
@@ -59,7 +58,7 @@ returns-then-has_inline_data c =
     let few = inline_room _ f.regular own _ (inside (goal.at.returns-then-has_inline_data c).Else-is_past) in
     record {
       walked = reached_done (reached_to (reached_start _ _ _)
-      (file_inline _ _ _ _ f.inode_is _ f.regular (inside (goal.at.returns-then-has_inline_data c).Else-is_past) count own));
+          (file_inline _ _ _ _ f.inode_is _ f.regular (inside (goal.at.returns-then-has_inline_data c).Else-is_past) count own));
       data_in = (f.in_card.0, omega arith);
       keeps_2 = keeps_none c.no_leaf-then-has_inline_data.ensures;
       index_bound = (λ _. inside_near _ _ (inside (goal.at.returns-then-has_inline_data c).Else-is_past));
@@ -80,7 +79,7 @@ returns c =
     let count = c.count_in-bytes in
     record {
       walked = reached_all (to_block_lem (goal.at.returns c).Else-has_inline_data)
-      (counted_walked card c.next_block-step.result.data count.result c.next_block-step.ensures.walked);
+          (counted_walked card c.next_block-step.result.data count.result c.next_block-step.ensures.walked);
       data_in = (c.next_block-step.ensures.data_in, omega (arith, count.ensures.2));
       keeps_2 = c.next_block-step.ensures.keeps_2;
       index_bound = (λ _. inside_near _ _ (inside (goal.at.returns c).Else-is_past));

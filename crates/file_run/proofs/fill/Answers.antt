@@ -1,17 +1,16 @@
 use Prim.Native.Nat.{◌-◌, ◌*◌}
 use native.Mathlib.Omega.{arith}
 use mathlib.Core.Path.{◌≡◌, sym, ap, subst, ◌∙◌}
-use mathlib.Core.Logic.{⊎_elim}
 use lib.ListN.{take, drop}
-use Rattle.field.specs.Card.{Card, card_of}
-use Rattle.walk.specs.Walk.{Outcome, ok, lists}
+use Rattle.field.specs.Card.{card_of}
+use Rattle.walk.specs.Walk.{Outcome, ok}
 use Rattle.node.specs.declared.Data.{Data}
 use Rattle.node.proofs.Keeping.{keeps_none}
 use Rattle.pull.specs.Walk.{Block, block_found}
 use Rattle.pull.specs.Pull.{count_of, buffer_after}
 use Rattle.file_run.specs.Walks.{Stands, put_at}
 use Rattle.file_run.proofs.Found.{block_of, found_stands}
-use Rattle.file_run.proofs.Turns.{Turn, turn_start, turn_fits, turn_stop, turn_next, turn_end}
+use Rattle.file_run.proofs.Turns.{turn_start, turn_fits, turn_stop, turn_next, turn_end}
 use borrow.Author.Rules.{rules}
 use Rattle.file_run.proofs.fill.Goals as goal
 use Rattle.file_run.proofs.fill.Goals.{Joined-data, in-Hole, in-At}

@@ -1,13 +1,11 @@
 -- `fill_from_inode` meets its contract: an inode of another kind, or the blocks of a regular file.
 use mathlib.Core.Path.{◌≡◌, sym, ◌∙◌}
 use mathlib.Core.Bool.{true}
-use borrow.Author.Tests.{not-true, not-false}
 use Rattle.field.specs.Card.{card_of}
 use Rattle.field.proofs.Blocks.{length_of_block}
 use Rattle.inode.specs.Inode.{inode_of, is_regular}
 use Rattle.walk.proofs.Reached.{reached_start, reached_to, reached_done}
 use Rattle.file_run.proofs.Unless.{none_stands, other_kind}
-use borrow.Author.Rules.{rules}
 use Rattle.file_run.proofs.fill_from_inode.Goals as goal
 use Rattle.file_run.proofs.fill_from_inode.Goals.{After-inode_of-i, Else-not-is_regular}
 
@@ -35,7 +33,12 @@ fill-requires c =
     record {
       fits = c.requires.fits;
       volume_in = c.requires.volume_in;
-      regular_file = record { in_card = (c.requires.at_bound, held.1); inode_is = read_of (goal.at.fill-requires c).After-inode_of-i; regular = regular
-      (goal.at.fill-requires c).Else-not-is_regular; addresses_are = held.0 };
+      regular_file = record {
+        in_card = (c.requires.at_bound, held.1);
+        inode_is = read_of (goal.at.fill-requires c).After-inode_of-i;
+        regular = regular
+            (goal.at.fill-requires c).Else-not-is_regular;
+        addresses_are = held.0;
+      };
       room_for = c.requires.room_for;
     }

@@ -2,15 +2,13 @@
 use Prim.Native.Nat.{ℕ, ◌<◌}
 use mathlib.Core.Path.{◌≡◌, ap, subst}
 use mathlib.Core.List.{List}
-use Rattle.field.specs.Card.{Card, card_of}
-use Rattle.walk.specs.Walk.{Walk, ok}
+use Rattle.field.specs.Card.{card_of}
+use Rattle.walk.specs.Walk.{ok}
 use Rattle.walk.proofs.Fits.{fits_part}
 use Rattle.node.specs.Node.{bounds_of}
 use Rattle.node.specs.Found.{found_of, FoundIn}
-use Rattle.file_run.specs.Standing.{Standing}
 use Rattle.file_run.specs.Walks.{blocks_walk, file_run_walk}
 use Rattle.file_run.proofs.Unless.{unless_stop, unless_fits, unless_filled}
-use borrow.Author.Rules.{rules}
 use Rattle.file_run.proofs.fill_of_file.Goals as goal
 use Rattle.file_run.proofs.fill_of_file.Goals.{In-At}
 
@@ -31,7 +29,7 @@ unfolding file_run_walk
 fill_from_inode-requires c =
     record {
       fits = unless_fits (λ (inode : List ℕ). let a = c.args in blocks_walk (bounds_of a.v) a.ino inode a.wanted a.index) c.node_step-step.ensures.walked
-      (value (goal.at.fill_from_inode-requires c).In-At) c.requires.fits;
+          (value (goal.at.fill_from_inode-requires c).In-At) c.requires.fits;
       volume_in = c.requires.volume_in;
       at_bound = on_card_lem (goal.at.fill_from_inode-requires c).In-At;
       room_for = c.requires.room_for;

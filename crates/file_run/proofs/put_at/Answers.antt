@@ -3,7 +3,6 @@ use Rattle.field.specs.Card.{card_of}
 use Rattle.pull.specs.Walk.{block_found}
 use Rattle.pull.specs.Pull.{buffer_after}
 use Rattle.file_run.proofs.Found.{part_put}
-use borrow.Author.Rules.{rules}
 use Rattle.file_run.proofs.put_at.Goals as goal
 
 pub returns : goal.returns

@@ -1,6 +1,5 @@
 use mathlib.Core.Path.{ap, ◌∙◌}
 use Rattle.harptimber.specs.FilePlace.{crossing, placed, file_place}
-use borrow.Author.Rules.{rules}
 use Rattle.harptimber.proofs.harptimber_file_place.Goals as goal
 
 pub returns-then-addresses : goal.returns-then-addresses

@@ -1,6 +1,5 @@
 use mathlib.Core.Path.{sym, ap, ◌∙◌}
 use Rattle.harptimber.specs.NameHash.{name_hash}
-use borrow.Author.Rules.{rules}
 use Rattle.harptimber.proofs.harptimber_name_hash.Goals as goal
 
 pub returns-in-Hash : goal.returns-in-Hash

@@ -2,7 +2,6 @@ use mathlib.Core.Path.{sym, ap, ◌∙◌}
 use Rattle.field.specs.Card.{card_of}
 use Rattle.checkpoint.proofs.Inside.{image_volume}
 use Rattle.nat.specs.Lookup.{table_numbers, lookup_in, lookup_of}
-use borrow.Author.Rules.{rules}
 use Rattle.harptimber.proofs.harptimber_node_lookup.Goals as goal
 
 pub table_answer-requires : goal.table_answer-requires

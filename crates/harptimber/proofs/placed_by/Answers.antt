@@ -1,5 +1,4 @@
 use borrow.Author.Tests.{eq-eqb, ne_eqb}
-use borrow.Author.Rules.{rules}
 use Rattle.harptimber.proofs.placed_by.Goals as goal
 
 pub returns-then-way-eq0 : goal.returns-then-way-eq0

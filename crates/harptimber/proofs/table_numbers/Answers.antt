@@ -1,6 +1,5 @@
 use mathlib.Core.Path.{sym, ap}
 use Rattle.nat.specs.Lookup.{table_numbers}
-use borrow.Author.Rules.{rules}
 use Rattle.harptimber.proofs.table_numbers.Goals as goal
 
 pub returns-in-OutOfRange : goal.returns-in-OutOfRange

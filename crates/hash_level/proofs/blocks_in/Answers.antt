@@ -1,7 +1,6 @@
 -- `blocks_in` meets its contract.
 use mathlib.Core.Path.{sym}
 use Rattle.hash_level.proofs.Levels.{blocks_low, blocks_high}
-use borrow.Author.Rules.{rules}
 use Rattle.hash_level.proofs.blocks_in.Goals as goal
 
 pub returns-then-level-lt31 : goal.returns-then-level-lt31

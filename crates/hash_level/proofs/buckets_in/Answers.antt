@@ -5,7 +5,6 @@ use native.Mathlib.Nat.{mod-eq_of_lt}
 use mathlib.Core.Path.{◌≡◌, sym, ◌∙◌}
 use lib.Pow.{pow-lt}
 use Rattle.hash_level.proofs.Levels.{buckets_low, buckets_high}
-use borrow.Author.Rules.{rules}
 use Rattle.hash_level.proofs.buckets_in.Goals as goal
 
 pub returns-then-sum-lt31 : goal.returns-then-sum-lt31

@@ -1,8 +1,7 @@
-use Prim.Native.Nat.{◌-◌, ◌≤◌}
+use Prim.Native.Nat.{◌-◌}
 use native.Mathlib.Omega.{arith}
-use mathlib.Core.Path.{◌≡◌, refl, ◌∙◌, ap}
+use mathlib.Core.Path.{refl, ◌∙◌, ap}
 use Rattle.hash_level.specs.Level.{first_of}
-use borrow.Author.Rules.{rules}
 use Rattle.hash_level.proofs.first_block.Goals as goal
 
 pub loop-i-init : goal.loop-i-init

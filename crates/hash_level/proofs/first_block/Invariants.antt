@@ -1,7 +1,6 @@
 -- `first_block` meets its contract. The invariant: `first` is where level i starts. The measure: how many levels are left.
 use Prim.Native.Nat.{◌-◌, ◌≤◌}
-use native.Mathlib.Omega.{arith}
-use mathlib.Core.Path.{◌≡◌, refl, ◌∙◌, ap}
+use mathlib.Core.Path.{◌≡◌}
 use Rattle.hash_level.specs.Level.{first_of}
 use Rattle.hash_level.proofs.first_block.Given as goal
 

@@ -1,7 +1,7 @@
 -- `first_blocks` meets its contract: antt computes the test for each table, and the last arm is left for level 30 alone.
+use native.Mathlib.Omega.{arith}
 use mathlib.Core.Path.{refl}
 use Rattle.hash_level.proofs.Tables.{own_table, none_left}
-use borrow.Author.Rules.{rules}
 use Rattle.hash_level.proofs.first_blocks.Goals as goal
 
 pub returns-in-0 : goal.returns-in-0
@@ -95,4 +95,4 @@ pub returns-in-29 : goal.returns-in-29
 returns-in-29 c = own_table 29 _ refl c.in-29.is
 
 pub returns-in_default : goal.returns-in_default
-returns-in_default c = own_table 30 _ refl (none_left 30 _ c.in_default.in_default-own.rest c.requires)
+returns-in_default c = own_table 30 _ refl (let below = c.requires in omega arith)

@@ -1,7 +1,6 @@
 -- `level_0_blocks` meets its contract: the table passes the test.
 use mathlib.Core.Path.{refl}
 use Rattle.hash_level.proofs.Tables.{own_table}
-use borrow.Author.Rules.{rules}
 use Rattle.hash_level.proofs.level_0_blocks.Goals as goal
 
 pub returns : goal.returns

@@ -1,5 +1,4 @@
 -- `level_at` meets its contract: the table has the level's first block.
-use borrow.Author.Rules.{rules}
 use Rattle.hash_level.proofs.level_at.Goals as goal
 
 pub level_from-requires : goal.level_from-requires

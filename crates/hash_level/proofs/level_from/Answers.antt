@@ -3,7 +3,6 @@ use Prim.Native.Nat.{◌*◌, ◌%◌, ◌^◌, ◌<◌, ◌≤◌}
 use native.Mathlib.Omega.{arith}
 use Rattle.hash_level.specs.Level.{bucket_of}
 use Rattle.hash_level.proofs.Levels.{level_fits}
-use borrow.Author.Rules.{rules}
 use Rattle.hash_level.proofs.level_from.Goals as goal
 use Rattle.hash_level.proofs.level_from.Goals.{After-blocks_in-count}
 

@@ -2,7 +2,6 @@
 use Prim.Native.Nat.{◌*◌, ◌^◌, ◌<◌, ◌≤◌}
 use native.Mathlib.Omega.{arith}
 use Rattle.hash_level.proofs.Levels.{first_next, next_fits}
-use borrow.Author.Rules.{rules}
 use Rattle.hash_level.proofs.next_first.Goals as goal
 use Rattle.hash_level.proofs.next_first.Goals.{After-blocks_in}
 

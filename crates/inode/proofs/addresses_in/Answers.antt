@@ -1,8 +1,6 @@
-use mathlib.Core.Path.{refl}
 use native.Mathlib.Omega.{arith}
 use borrow.Author.Tests.{eq-eqb, ne_eqb}
 use Rattle.inode.specs.Inode.{addresses_in}
-use borrow.Author.Rules.{rules}
 use Rattle.inode.proofs.addresses_in.Goals as goal
 
 pub returns-then-i-eq1 : goal.returns-then-i-eq1

@@ -1,9 +1,7 @@
-use mathlib.Core.Path.{refl}
 use native.Mathlib.Omega.{arith}
 use borrow.Author.Tests.{le-leb, lt-leb}
 use Rattle.inode.specs.Inode.{count_in}
 use Rattle.inode.proofs.Counting.{begins_inside}
-use borrow.Author.Rules.{rules}
 use Rattle.inode.proofs.count_in.Goals as goal
 
 pub overflow_sub-left : goal.overflow_sub-left

@@ -1,6 +1,5 @@
 use borrow.Author.Tests.{eq-eqb, ne_eqb}
 use Rattle.inode.specs.Inode.{data_room}
-use borrow.Author.Rules.{rules}
 use Rattle.inode.proofs.data_room.Goals as goal
 
 pub returns-then-i-eq1 : goal.returns-then-i-eq1

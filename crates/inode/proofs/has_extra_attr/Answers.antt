@@ -1,6 +1,5 @@
 use mathlib.Core.Path.{refl}
 use Rattle.inode.specs.Inode.{has_extra_attr}
-use borrow.Author.Rules.{rules}
 use Rattle.inode.proofs.has_extra_attr.Goals as goal
 
 pub returns : goal.returns

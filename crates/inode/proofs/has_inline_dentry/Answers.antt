@@ -1,6 +1,5 @@
 use mathlib.Core.Path.{refl}
 use Rattle.inode.specs.Inode.{has_inline_dentry}
-use borrow.Author.Rules.{rules}
 use Rattle.inode.proofs.has_inline_dentry.Goals as goal
 
 pub returns : goal.returns

@@ -1,6 +1,4 @@
-use mathlib.Core.Path.{refl}
 use Rattle.inode.specs.Inode.{inode_of}
-use borrow.Author.Rules.{rules}
 use Rattle.inode.proofs.inode_of.Goals as goal
 
 pub returns : goal.returns

@@ -1,5 +1,4 @@
 use Rattle.inode.specs.Inode.{is_directory}
-use borrow.Author.Rules.{rules}
 use Rattle.inode.proofs.is_directory.Goals as goal
 
 pub returns : goal.returns

@@ -1,6 +1,4 @@
-use mathlib.Core.Path.{refl}
 use Rattle.inode.specs.Inode.{is_past}
-use borrow.Author.Rules.{rules}
 use Rattle.inode.proofs.is_past.Goals as goal
 
 pub returns : goal.returns

@@ -1,5 +1,4 @@
 use Rattle.inode.specs.Inode.{is_regular}
-use borrow.Author.Rules.{rules}
 use Rattle.inode.proofs.is_regular.Goals as goal
 
 pub returns : goal.returns

@@ -1,5 +1,4 @@
 use Rattle.inode.specs.Inode.{levels_in}
-use borrow.Author.Rules.{rules}
 use Rattle.inode.proofs.levels_in.Goals as goal
 
 pub returns-then-has_inline_dentry : goal.returns-then-has_inline_dentry

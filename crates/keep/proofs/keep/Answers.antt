@@ -7,7 +7,6 @@ use Rattle.superblock.specs.Shape.{in_shape}
 use Rattle.checkpoint.proofs.Inside.{image_volume}
 use Rattle.path.specs.Path.{is_path}
 use Rattle.keep.proofs.Calls.{call_refused, call_opens, path_in_shape, counted_shape}
-use borrow.Author.Rules.{rules}
 use Rattle.keep.proofs.keep.Goals as goal
 use Rattle.keep.proofs.keep.Goals.{After-in_shape, Else-not-in_shape-k}
 

@@ -9,7 +9,6 @@ use Rattle.keep_file.specs.Layout.{layout}
 use Rattle.keep.specs.Writing.{file_written}
 use Rattle.keep.specs.Parts.{keep_found, Keepable}
 use Rattle.keep.proofs.Calls.{eight_room, run_keepable, found_run}
-use borrow.Author.Rules.{rules}
 use Rattle.keep.proofs.keep_opened.Goals as goal
 
 -- the arrays that are lent

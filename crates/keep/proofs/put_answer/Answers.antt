@@ -3,7 +3,6 @@ use mathlib.Core.Path.{ap, sym, ◌∙◌}
 use Rattle.nat.specs.declared.TableAnswer.{TableAnswer}
 use Rattle.buffer.specs.Laid.{laid_at}
 use Rattle.keep_file.specs.Layout.{answer_bytes}
-use borrow.Author.Rules.{rules}
 use Rattle.keep.proofs.put_answer.Goals as goal
 
 pub returns-in-OutOfRange : goal.returns-in-OutOfRange

@@ -2,7 +2,6 @@
 use native.Mathlib.Omega.{arith}
 use Rattle.field.proofs.Blocks.{length_of_block}
 use Rattle.keep.proofs.Pieces.{block_laid}
-use borrow.Author.Rules.{rules}
 use Rattle.keep.proofs.put_block.Goals as goal
 
 pub put_bytes-requires : goal.put_bytes-requires

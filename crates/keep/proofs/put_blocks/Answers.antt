@@ -1,15 +1,8 @@
 use mathlib.Core.Path.{◌≡◌, refl, sym, ◌∙◌}
-use Prim.Native.Nat.{ℕ, ◌+◌, ◌-◌, ◌*◌, ◌≤◌, ◌<◌}
+use Prim.Native.Nat.{◌+◌, ◌-◌, ◌*◌}
 use native.Mathlib.Omega.{arith}
-use lib.ListN.{length}
-use Rattle.field.specs.Card.{card_of}
-use mathlib.Core.List.{List}
-use Rattle.list.specs.Lists.{AllOf, numbers, listing}
-use Rattle.buffer.specs.Laid.{laid_at}
-use Rattle.keep.specs.Parts.{blocks_of}
 use Rattle.keep.proofs.Pieces.{block_size}
-use Rattle.keep.proofs.Turns.{listed_left, listed_next, left, turns_start, turns_over, turn}
-use borrow.Author.Rules.{rules}
+use Rattle.keep.proofs.Turns.{listed_left, listed_next, turns_start, turns_over, turn}
 use Rattle.keep.proofs.put_blocks.Goals as goal
 
 -- ---- the needs

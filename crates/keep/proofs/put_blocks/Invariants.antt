@@ -1,15 +1,13 @@
 -- The invariant: what is left, laid from here on, is all laid at the start; what is left lies inside the card.
-use mathlib.Core.Path.{◌≡◌, refl, sym, ◌∙◌}
+use mathlib.Core.Path.{◌≡◌}
 use Prim.Native.Nat.{ℕ, ◌+◌, ◌-◌, ◌*◌, ◌≤◌, ◌<◌}
-use native.Mathlib.Omega.{arith}
 use lib.ListN.{length}
 use Rattle.field.specs.Card.{card_of}
 use mathlib.Core.List.{List}
 use Rattle.list.specs.Lists.{AllOf, numbers, listing}
 use Rattle.buffer.specs.Laid.{laid_at}
 use Rattle.keep.specs.Parts.{blocks_of}
-use Rattle.keep.proofs.Pieces.{block_size}
-use Rattle.keep.proofs.Turns.{listed_left, listed_next, left, turns_start, turns_over, turn}
+use Rattle.keep.proofs.Turns.{left}
 use Rattle.keep.proofs.put_blocks.Given as goal
 
 abbrev pub invariant-loop-i : goal.invariant-loop-i

@@ -1,7 +1,6 @@
 -- What stands before the lists, then the nodes, then the blocks.
 use Rattle.pull.specs.Pull.{Result, lending, result_in}
 use Rattle.keep.proofs.Found.{file_laid}
-use borrow.Author.Rules.{rules}
 use Rattle.keep.proofs.put_file.Goals as goal
 
 pub returns : goal.returns

@@ -1,6 +1,5 @@
 -- Six pieces, one behind the other.
 use Rattle.keep.proofs.Pieces.{front_laid}
-use borrow.Author.Rules.{rules}
 use Rattle.keep.proofs.put_front.Goals as goal
 
 pub returns : goal.returns

@@ -1,6 +1,5 @@
 -- The header's numbers, three and three.
 use Rattle.keep.proofs.Pieces.{header_laid}
-use borrow.Author.Rules.{rules}
 use Rattle.keep.proofs.put_header.Goals as goal
 
 pub returns : goal.returns

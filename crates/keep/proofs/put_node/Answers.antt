@@ -1,7 +1,6 @@
 -- The number, then its table answer.
 use Rattle.field.specs.Card.{card_of}
 use Rattle.keep.proofs.Pieces.{node_laid}
-use borrow.Author.Rules.{rules}
 use Rattle.keep.proofs.put_node.Goals as goal
 
 pub returns : goal.returns

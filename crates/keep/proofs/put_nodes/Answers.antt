@@ -1,16 +1,9 @@
 use mathlib.Core.Path.{◌≡◌, refl, sym, ◌∙◌}
-use Prim.Native.Nat.{◌+◌, ◌-◌, ◌*◌, ◌≤◌}
+use Prim.Native.Nat.{◌+◌, ◌-◌, ◌*◌}
 use native.Mathlib.Omega.{arith}
-use lib.ListN.{length}
 use Rattle.field.specs.Card.{card_of}
-use Rattle.nat.specs.Table.{table_answer}
-use Rattle.list.specs.Lists.{listing}
-use Rattle.buffer.specs.Laid.{laid_at}
-use Rattle.keep_file.specs.Layout.{answer_bytes}
-use Rattle.keep.specs.Parts.{nodes_of}
 use Rattle.keep.proofs.Pieces.{node_size}
-use Rattle.keep.proofs.Turns.{left, turns_start, turns_over, turn}
-use borrow.Author.Rules.{rules}
+use Rattle.keep.proofs.Turns.{turns_start, turns_over, turn}
 use Rattle.keep.proofs.put_nodes.Goals as goal
 
 -- ---- the needs

@@ -1,7 +1,6 @@
 -- The invariant: what is left, laid from here on, is all laid at the start.
-use mathlib.Core.Path.{◌≡◌, refl, sym, ◌∙◌}
+use mathlib.Core.Path.{◌≡◌}
 use Prim.Native.Nat.{◌+◌, ◌-◌, ◌*◌, ◌≤◌}
-use native.Mathlib.Omega.{arith}
 use lib.ListN.{length}
 use Rattle.field.specs.Card.{card_of}
 use Rattle.nat.specs.Table.{table_answer}
@@ -9,8 +8,7 @@ use Rattle.list.specs.Lists.{listing}
 use Rattle.buffer.specs.Laid.{laid_at}
 use Rattle.keep_file.specs.Layout.{answer_bytes}
 use Rattle.keep.specs.Parts.{nodes_of}
-use Rattle.keep.proofs.Pieces.{node_size}
-use Rattle.keep.proofs.Turns.{left, turns_start, turns_over, turn}
+use Rattle.keep.proofs.Turns.{left}
 use Rattle.keep.proofs.put_nodes.Given as goal
 
 abbrev pub invariant-loop-i : goal.invariant-loop-i

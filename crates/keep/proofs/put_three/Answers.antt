@@ -1,6 +1,5 @@
 -- Three numbers, one behind the other.
 use Rattle.keep.proofs.Pieces.{three_laid}
-use borrow.Author.Rules.{rules}
 use Rattle.keep.proofs.put_three.Goals as goal
 
 pub returns : goal.returns

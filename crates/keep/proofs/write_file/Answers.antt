@@ -9,7 +9,6 @@ use Rattle.pull.specs.Pull.{Result, lending, result_in}
 use Rattle.keep_file.specs.Layout.{layout}
 use Rattle.keep.specs.Parts.{keep_found}
 use Rattle.keep.proofs.Found.{found_length, room_short, room_enough}
-use borrow.Author.Rules.{rules}
 use Rattle.keep.proofs.write_file.Goals as goal
 use Rattle.keep.proofs.write_file.Goals.{After-file_end-end}
 

@@ -1,7 +1,6 @@
 -- `compare_file` meets its contract: what is lent of the room has `end` bytes.
 use mathlib.Core.Path.{sym}
 use lib.Seq.{length-take-le}
-use borrow.Author.Rules.{rules}
 use Rattle.keep_again.proofs.compare_file.Goals as goal
 
 pub slice_bounds-keep_compare-end : goal.slice_bounds-keep_compare-end

@@ -6,7 +6,6 @@ use Rattle.keep.specs.Writing.{Writing}
 use Rattle.keep.proofs.Ends.{ends}
 use Rattle.keep_again.proofs.Steps.{file_inside}
 use Rattle.keep_again.proofs.Theorems.{again_holds}
-use borrow.Author.Rules.{rules}
 use Rattle.keep_again.proofs.keep_again.Goals as goal
 
 pub compare_file-compared-requires : goal.compare_file-compared-requires

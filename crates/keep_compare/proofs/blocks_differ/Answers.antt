@@ -1,12 +1,8 @@
-use Prim.Native.Nat.{◌-◌, ◌≤◌, ◌<◌}
+use Prim.Native.Nat.{◌-◌}
 use native.Mathlib.Omega.{arith}
-use mathlib.Core.Path.{◌≡◌, sym, ◌∙◌}
-use Rattle.field.specs.Card.{card_of}
-use Rattle.compare.specs.Difference.{blocks_differ}
-use Rattle.keep_file.specs.Keep.{numbers_of, kept_block}
-use Rattle.keep_file.specs.Reading.{bytes_at, kept_blocks_at}
-use Rattle.keep_compare.proofs.Turns.{AllLeft, all_starts, all_on, BlocksLeft, blocks_start_lem, blocks_over, blocks_on, blocks_stop}
-use borrow.Author.Rules.{rules}
+use mathlib.Core.Path.{sym, ◌∙◌}
+use Rattle.keep_file.specs.Reading.{bytes_at}
+use Rattle.keep_compare.proofs.Turns.{all_starts, all_on, blocks_start_lem, blocks_over, blocks_on, blocks_stop}
 use Rattle.keep_compare.proofs.blocks_differ.Goals as goal
 
 -- ---- the needs

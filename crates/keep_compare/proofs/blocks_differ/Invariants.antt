@@ -1,12 +1,11 @@
 -- The invariant: what is left decides, and lies inside the new card; its blocks have the bytes that are kept of all entries passed.
 use Prim.Native.Nat.{◌-◌, ◌≤◌, ◌<◌}
-use native.Mathlib.Omega.{arith}
-use mathlib.Core.Path.{◌≡◌, sym, ◌∙◌}
+use mathlib.Core.Path.{◌≡◌}
 use Rattle.field.specs.Card.{card_of}
 use Rattle.compare.specs.Difference.{blocks_differ}
 use Rattle.keep_file.specs.Keep.{numbers_of, kept_block}
 use Rattle.keep_file.specs.Reading.{bytes_at, kept_blocks_at}
-use Rattle.keep_compare.proofs.Turns.{AllLeft, all_starts, all_on, BlocksLeft, blocks_start_lem, blocks_over, blocks_on, blocks_stop}
+use Rattle.keep_compare.proofs.Turns.{AllLeft, BlocksLeft}
 use Rattle.keep_compare.proofs.blocks_differ.Given as goal
 
 abbrev pub invariant-loop-i : goal.invariant-loop-i

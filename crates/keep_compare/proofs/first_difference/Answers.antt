@@ -1,14 +1,12 @@
 -- `first_difference` meets its contract: bounds, then nodes, then blocks, as Compare goes.
 use mathlib.Core.Path.{◌≡◌, sym, ◌∙◌}
 use mathlib.Core.Bool.{true}
-use native.Mathlib.Omega.{arith}
 use Rattle.node.specs.Node.{bounds_of}
 use Rattle.compare.specs.Difference.{same_bounds}
 use Rattle.compare.proofs.Differences.{bounds_differ, bounds_agree, nodes_agree, node_first}
 use Rattle.keep_file.specs.Reading.{keep_in}
 use Rattle.keep_compare.specs.Compare.{keep_difference}
 use Rattle.keep_compare.proofs.Reading.{blocks_inside}
-use borrow.Author.Rules.{rules}
 use Rattle.keep_compare.proofs.first_difference.Goals as goal
 use Rattle.keep_compare.proofs.first_difference.Goals.{Else-not-same_bounds}
 

@@ -10,7 +10,6 @@ use Rattle.compare.specs.Compare.{verdict}
 use Rattle.keep_file.specs.Reading.{readable, kept, keep_in, read_keep}
 use Rattle.keep_file.proofs.Refusing.{read_readable, read_refused}
 use Rattle.keep_compare.proofs.Openings.{file_refused, shape_refused, fresh_refused_lem, fresh_opened}
-use borrow.Author.Rules.{rules}
 use Rattle.keep_compare.proofs.keep_compare.Goals as goal
 use Rattle.keep_compare.proofs.keep_compare.Goals.{Else-not-in_shape, Else-not-is_readable, In-Opened}
 

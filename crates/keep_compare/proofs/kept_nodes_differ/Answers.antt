@@ -3,7 +3,6 @@ use native.Mathlib.Omega.{arith}
 use mathlib.Core.Path.{◌∙◌}
 use Rattle.keep_file.proofs.ByNumbers.{nodes_inside, nodes_placed}
 use Rattle.keep_compare.proofs.Reading.{taken, measure, long, nodes_alike, rising_alike}
-use borrow.Author.Rules.{rules}
 use Rattle.keep_compare.proofs.kept_nodes_differ.Goals as goal
 
 pub get32-count-requires : goal.get32-count-requires

@@ -1,14 +1,7 @@
-use Prim.Native.Nat.{◌-◌, ◌≤◌}
+use Prim.Native.Nat.{◌-◌}
 use native.Mathlib.Omega.{arith}
-use mathlib.Core.Path.{◌≡◌, sym, ◌∙◌}
-use Rattle.field.specs.Card.{card_of}
-use Rattle.nat.specs.Table.{table_answer}
-use Rattle.compare.specs.declared.Difference.TheVariants.{Same}
-use Rattle.compare.specs.Difference.{nodes_differ}
-use Rattle.keep_file.specs.Keep.{numbers_of, kept_answer}
-use Rattle.keep_file.specs.Reading.{kept_nodes_at}
-use Rattle.keep_compare.proofs.Turns.{NodesLeft, nodes_start_lem, nodes_over, nodes_on, nodes_stop}
-use borrow.Author.Rules.{rules}
+use mathlib.Core.Path.{sym, ◌∙◌}
+use Rattle.keep_compare.proofs.Turns.{nodes_start_lem, nodes_over, nodes_on, nodes_stop}
 use Rattle.keep_compare.proofs.nodes_differ.Goals as goal
 
 -- ---- the needs
@@ -21,12 +14,11 @@ returns-then-not-same_node c =
     ∙ nodes_stop _ _ _ _ c.requires.rising _ c.loop-i-test.true c.get32-number.ensures c.same_node.ensures c.if-not-same_node.true)
 
 pub loop-i-preserved : goal.loop-i-preserved
-loop-i-preserved c =
-    (
-      omega arith,
-      c.loop-i.invariant.1
-          ∙ nodes_on _ _ _ _ c.requires.rising _ c.loop-i-test.true c.get32-number.ensures c.same_node.ensures c.if-not-same_node.false,
-    )
+loop-i-preserved c = (
+  omega arith,
+  c.loop-i.invariant.1
+      ∙ nodes_on _ _ _ _ c.requires.rising _ c.loop-i-test.true c.get32-number.ensures c.same_node.ensures c.if-not-same_node.false,
+)
 
 pub returns : goal.returns
 returns c = sym (c.loop-i.invariant.1 ∙ nodes_over _ _ _ _ _ c.loop-i-test.false)

@@ -7,7 +7,6 @@ use lib.ListN.{length, take, drop}
 use Rattle.field.proofs.Blocks.{length_of_block}
 use Rattle.keep_file.specs.Reading.{bytes_at}
 use Rattle.keep_file.proofs.Lengths.{bytes_length}
-use borrow.Author.Rules.{rules}
 use Rattle.keep_compare.proofs.same_block.Goals as goal
 
 -- the part as the slice has it

@@ -5,7 +5,6 @@ use Rattle.node.specs.Node.{Bounds, bounds_of}
 use Rattle.compare.specs.Difference.{same_bounds}
 use Rattle.keep_file.proofs.ByNumbers.{front_inside, bounds_placed}
 use Rattle.keep_compare.proofs.Reading.{measure, long}
-use borrow.Author.Rules.{rules}
 use Rattle.keep_compare.proofs.same_bounds.Goals as goal
 
 pub get32-path-requires : goal.get32-path-requires

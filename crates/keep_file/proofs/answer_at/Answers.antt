@@ -1,6 +1,5 @@
 use borrow.Author.Tests.{eq-eqb, ne_eqb}
 use Rattle.keep_file.specs.Reading.{answer_at}
-use borrow.Author.Rules.{rules}
 use Rattle.keep_file.proofs.answer_at.Goals as goal
 
 -- src/lib.rt:39:1

@@ -1,9 +1,7 @@
-use Prim.Native.Nat.{◌-◌, ◌≤◌}
+use Prim.Native.Nat.{◌-◌}
 use native.Mathlib.Omega.{arith}
-use mathlib.Core.Path.{◌≡◌, sym, ◌∙◌}
-use Rattle.keep_file.specs.Reading.{are_answers}
-use Rattle.keep_file.proofs.TableAnswers.{Left, answers_start, answers_over, answers_on, answers_stop}
-use borrow.Author.Rules.{rules}
+use mathlib.Core.Path.{sym, ◌∙◌}
+use Rattle.keep_file.proofs.TableAnswers.{answers_start, answers_over, answers_on, answers_stop}
 use Rattle.keep_file.proofs.are_answers.Goals as goal
 
 -- src/lib.rt:67:5

@@ -1,9 +1,8 @@
 -- The invariant: what is left decides.
 use Prim.Native.Nat.{◌-◌, ◌≤◌}
-use native.Mathlib.Omega.{arith}
-use mathlib.Core.Path.{◌≡◌, sym, ◌∙◌}
+use mathlib.Core.Path.{◌≡◌}
 use Rattle.keep_file.specs.Reading.{are_answers}
-use Rattle.keep_file.proofs.TableAnswers.{Left, answers_start, answers_over, answers_on, answers_stop}
+use Rattle.keep_file.proofs.TableAnswers.{Left}
 use Rattle.keep_file.proofs.are_answers.Given as goal
 
 abbrev pub invariant-loop-i : goal.invariant-loop-i

@@ -6,7 +6,6 @@ use Rattle.keep_file.specs.Readable.{Measured}
 use Rattle.keep_file.proofs.Refusing.{test_measured}
 use Rattle.keep_file.proofs.Lengths.{file_long}
 use Rattle.keep_file.proofs.ByNumbers.{front_inside, nodes_start_lem, fields_read_lem}
-use borrow.Author.Rules.{rules}
 use Rattle.keep_file.proofs.fields_in.Goals as goal
 use Rattle.keep_file.proofs.fields_in.Goals.{After-get32-path, Start}
 
@@ -18,7 +17,7 @@ long : (s : Start) → 4140 ≤ length s.args.file.now
 long s = file_long _ (measure s)
 
 inside : (k : After-get32-path) → k.get32-path.result + 4140 ≤ length k.args.file.now
-inside k = front_inside _ k.get32-path.ensures ((let it : Measured k.args.file.now = test_measured _ k.requires in it))
+inside k = front_inside _ k.get32-path.ensures (let it : Measured k.args.file.now = test_measured _ k.requires in it)
 
 -- ---- the needs
 pub get32-path-requires : goal.get32-path-requires

@@ -1,5 +1,4 @@
 use Rattle.keep_file.specs.Reading.{is_answer}
-use borrow.Author.Rules.{rules}
 use Rattle.keep_file.proofs.is_answer.Goals as goal
 
 -- src/lib.rt:53:1

@@ -2,7 +2,6 @@
 use mathlib.Core.Path.{◌≡◌, sym, ◌∙◌}
 use mathlib.Core.Bool.{true}
 use Rattle.keep_file.specs.Reading.{measured, readable}
-use borrow.Author.Rules.{rules}
 use Rattle.keep_file.proofs.is_readable.Goals as goal
 use Rattle.keep_file.proofs.is_readable.Goals.{Else-not-is_measured}
 

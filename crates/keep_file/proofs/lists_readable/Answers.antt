@@ -1,5 +1,5 @@
 -- `lists_readable` meets its contract: each number is read inside the file, whose length is what its first three numbers give.
-use Prim.Native.Nat.{ℕ, ◌≤◌}
+use Prim.Native.Nat.{◌≤◌}
 use native.Mathlib.Omega.{arith}
 use mathlib.Core.Path.{◌≡◌}
 use lib.ListN.{length}
@@ -7,7 +7,6 @@ use Rattle.keep_file.specs.Layout.{file_end}
 use Rattle.keep_file.proofs.Refusing.{test_measured}
 use Rattle.keep_file.proofs.Lengths.{file_long}
 use Rattle.keep_file.proofs.ByNumbers.{sized, lists_tested}
-use borrow.Author.Rules.{rules}
 use Rattle.keep_file.proofs.lists_readable.Goals as goal
 use Rattle.keep_file.proofs.lists_readable.Goals.{After-get32-blocks, Start}
 

@@ -3,7 +3,6 @@ use mathlib.Core.Path.{◌≡◌, sym, ap, ◌∙◌}
 use mathlib.Core.Bool.{true}
 use Rattle.keep_file.specs.Reading.{readable, fields_read}
 use Rattle.keep_file.proofs.Refusing.{readable_measured, read_readable, read_refused}
-use borrow.Author.Rules.{rules}
 use Rattle.keep_file.proofs.read.Goals as goal
 use Rattle.keep_file.proofs.read.Goals.{Else-not-is_readable}
 

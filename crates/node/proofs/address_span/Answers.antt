@@ -3,7 +3,6 @@ use Prim.Native.Nat.{◌<◌}
 use native.Mathlib.Omega.{arith}
 use mathlib.Core.Path.{subst}
 use Rattle.place.specs.Place.{SlotsIn}
-use borrow.Author.Rules.{rules}
 use Rattle.node.proofs.address_span.Goals as goal
 use Rattle.node.proofs.address_span.Goals.{In-Direct, In-Double, In-Indirect, In-Inode}
 

@@ -1,6 +1,5 @@
 -- `belongs` meets its contract: four numbers of the block, compared.
 use Rattle.node.specs.Node.{belongs}
-use borrow.Author.Rules.{rules}
 use Rattle.node.proofs.belongs.Goals as goal
 
 pub returns : goal.returns

@@ -1,7 +1,6 @@
 -- `data_at` meets its contract: each return is a place on the way of `data_walk`.
 use mathlib.Core.Path.{◌≡◌, sym, ◌∙◌}
 use mathlib.Core.Bool.{true}
-use borrow.Author.Tests.{not-true, not-false}
 use Rattle.walk.specs.Walk.{image_view, read, lists}
 use Rattle.walk.proofs.Reached.{Reached, reached_start, reached_to, reached_read, reached_done}
 use Rattle.walk.proofs.Fits.{fits_read, fits_at}
@@ -9,7 +8,6 @@ use Rattle.node.specs.Node.{bounds_of, in_main}
 use Rattle.node.specs.Block.{holding, data_walk}
 use Rattle.node.proofs.Cases.{data_hole, data_outside, data_inside}
 use Rattle.node.proofs.Sizes.{in_card_lem}
-use borrow.Author.Rules.{rules}
 use Rattle.node.proofs.data_at.Goals as goal
 use Rattle.node.proofs.data_at.Goals.{Else-not-in_main}
 

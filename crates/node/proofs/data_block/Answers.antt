@@ -1,6 +1,5 @@
 -- `data_block` meets its contract: the leaf of the index, and the block whose address stands in it.
 use Rattle.node.proofs.Keeping.{leaf_offset, leaf_fits, rest_fits, block_walked}
-use borrow.Author.Rules.{rules}
 use Rattle.node.proofs.data_block.Goals as goal
 
 pub find_leaf-came-requires : goal.find_leaf-came-requires

@@ -17,7 +17,6 @@ use Rattle.node.specs.Found.{WayIn, after_inode}
 use Rattle.node.specs.Leaf.{leaf_from, address_at, addresses_end, file_leaf_walk}
 use Rattle.node.proofs.Cases.{leaf_none, leaf_nodes}
 use Rattle.node.proofs.Keeping.{none_past, leaf_new}
-use borrow.Author.Rules.{rules}
 use Rattle.node.proofs.find_leaf.Goals as goal
 use Rattle.node.proofs.find_leaf.Goals.{After-way_to-way, Else-way-eq0}
 
@@ -68,8 +67,12 @@ pub follow-step-requires : goal.follow-step-requires
 follow-step-requires c =
     let few = way_few _ _ (found (goal.at.follow-step-requires c).After-way_to-way) in
     let w = c.way_to-way.result in
-    let steps : WayIn w.steps w.count = record { few = few.0; whole = few.1; slots = way_node_slots _ _
-    (found (goal.at.follow-step-requires c).After-way_to-way) } in
+    let steps : WayIn w.steps w.count = record {
+      few = few.0;
+      whole = few.1;
+      slots = way_node_slots _ _
+          (found (goal.at.follow-step-requires c).After-way_to-way);
+    } in
     let low = way_number_slot _ _ (found (goal.at.follow-step-requires c).After-way_to-way) in
     record {
       fits = fits_at c.requires.fits (to_nodes (goal.at.follow-step-requires c).Else-way-eq0);

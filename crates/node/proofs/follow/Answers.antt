@@ -4,10 +4,8 @@ use mathlib.Core.Path.{◌≡◌, ap, subst}
 use Rattle.field.specs.Number.{le32}
 use Rattle.field.specs.Card.{card_of}
 use Rattle.field.proofs.Blocks.{length_of_block}
-use Rattle.walk.specs.Walk.{image_view, lists}
-use Rattle.node.specs.Node.{bounds_of}
 use Rattle.node.specs.Found.{found_of, FoundIn}
-use Rattle.node.proofs.Following.{Course, Following, following_start, following_few, following_slot, following_end}
+use Rattle.node.proofs.Following.{following_start, following_few, following_slot, following_end}
 use Rattle.node.proofs.Following.{following_hole, following_fits, following_stop, following_next}
 use borrow.Author.Rules.{rules}
 use Rattle.node.proofs.follow.Goals as goal
@@ -64,7 +62,7 @@ pub node_step-came-requires : goal.node_step-came-requires
 node_step-came-requires c =
     record {
       fits = following_fits c.loop-i.invariant c.loop-i-test.true (read_number (goal.at.node_step-came-requires c).After-get32-number) c.if-number-eq0.false
-      c.requires.fits;
+          c.requires.fits;
       volume_in = c.requires.volume_in;
     }
 
@@ -75,7 +73,7 @@ returns-in-Stop c =
     let went = c.node_step-came.ensures.walked in
     record {
       walked = following_stop c.loop-i.invariant c.loop-i-test.true (read_number (goal.at.returns-in-Stop c).After-get32-number) c.if-number-eq0.false went
-      told;
+          told;
       data_in = tt;
     }
 

@@ -1,16 +1,10 @@
 -- `follow` meets its contract. The loop's invariant: what is left of the walk is the way from step i on, from the block `node` and the
 -- offset `at` in it.
-use Prim.Native.Nat.{◌-◌, ◌<◌}
-use native.Mathlib.Omega.{arith}
-use mathlib.Core.Path.{◌≡◌, ap, subst}
-use Rattle.field.specs.Number.{le32}
+use Prim.Native.Nat.{◌-◌}
 use Rattle.field.specs.Card.{card_of}
-use Rattle.field.proofs.Blocks.{length_of_block}
 use Rattle.walk.specs.Walk.{image_view, lists}
 use Rattle.node.specs.Node.{bounds_of}
-use Rattle.node.specs.Found.{found_of, FoundIn}
-use Rattle.node.proofs.Following.{Course, Following, following_start, following_few, following_slot, following_end}
-use Rattle.node.proofs.Following.{following_hole, following_fits, following_stop, following_next}
+use Rattle.node.proofs.Following.{Course, Following}
 use Rattle.node.proofs.follow.Given as goal
 
 abbrev pub invariant-loop-i : goal.invariant-loop-i

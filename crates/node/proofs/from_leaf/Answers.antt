@@ -12,7 +12,6 @@ use Rattle.node.specs.Block.{data_walk}
 use Rattle.node.specs.Leaf.{at_leaf}
 use Rattle.node.specs.Found.{data_of, DataIn}
 use Rattle.node.proofs.Cases.{from_hole, from_stop, from_at}
-use borrow.Author.Rules.{rules}
 use Rattle.node.proofs.from_leaf.Goals as goal
 use Rattle.node.proofs.from_leaf.Goals.{After-get32-address, In-At}
 
@@ -42,17 +41,17 @@ data_at-requires c =
 
 pub returns-in-Hole : goal.returns-in-Hole
 returns-in-Hole c = record {
-      walked = reached_done (reached_to (reached_start _ _ (lists c.args.nodes.now c.args.blocks.now c.args.counts))
+  walked = reached_done (reached_to (reached_start _ _ (lists c.args.nodes.now c.args.blocks.now c.args.counts))
       (from_hole (card_of c.args.image.now) _ _ c.in-Hole.is));
-      data_in_2 = tt;
-    }
+  data_in_2 = tt;
+}
 
 pub returns-in-Stop : goal.returns-in-Stop
 returns-in-Stop c = record {
-      walked = reached_done (reached_to (reached_start _ _ (lists c.args.nodes.now c.args.blocks.now c.args.counts))
+  walked = reached_done (reached_to (reached_start _ _ (lists c.args.nodes.now c.args.blocks.now c.args.counts))
       (from_stop (card_of c.args.image.now) _ _ c.in-Stop.is));
-      data_in_2 = tt;
-    }
+  data_in_2 = tt;
+}
 
 pub returns-in-At : goal.returns-in-At
 returns-in-At c =

@@ -1,6 +1,5 @@
 -- `leaf_of` meets its contract: what is kept need not be walked to again.
 use Rattle.node.proofs.Keeping.{leaf_walked}
-use borrow.Author.Rules.{rules}
 use Rattle.node.proofs.leaf_of.Goals as goal
 
 pub returns-then-kept : goal.returns-then-kept

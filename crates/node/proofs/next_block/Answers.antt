@@ -1,7 +1,6 @@
 -- `next_block` meets its contract: the leaf of the index, the block whose address stands in it, and the leaf with the next address.
 use native.Mathlib.Omega.{arith}
 use Rattle.node.proofs.Keeping.{leaf_offset, leaf_next, leaf_fits, rest_fits, block_walked}
-use borrow.Author.Rules.{rules}
 use Rattle.node.proofs.next_block.Goals as goal
 
 pub leaf_of-came-requires : goal.leaf_of-came-requires

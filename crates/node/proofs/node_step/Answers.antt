@@ -3,18 +3,15 @@ use Prim.Native.Nat.{ℕ, ◌<◌}
 use mathlib.Core.Path.{◌≡◌, sym, ap, ◌∙◌}
 use mathlib.Core.Bool.{true}
 use mathlib.Core.List.{List}
-use borrow.Author.Tests.{not-true, not-false}
 use Rattle.field.specs.Card.{card_of}
 use Rattle.field.proofs.Blocks.{length_of_block}
-use Rattle.nat.specs.declared.TableAnswer.{TableAnswer}
 use Rattle.nat.specs.declared.TableAnswer.TheVariants.{Entry}
-use Rattle.walk.specs.Walk.{image_view, Walk, done, read, Outcome, ok, Lists, lists}
+use Rattle.walk.specs.Walk.{image_view, done, read, ok, lists}
 use Rattle.walk.proofs.Reached.{Reached, reached_start, reached_to, reached_look, reached_read, reached_done}
 use Rattle.walk.proofs.Fits.{fits_look, fits_read, fits_at}
 use Rattle.node.specs.Node.{bounds_of, in_main, belongs, node_walk, at_entry, at_block}
 use Rattle.node.proofs.Cases.{node_look, entry_range, entry_zero, entry_outside, entry_inside, block_own, block_foreign}
 use Rattle.node.proofs.Sizes.{in_card_lem}
-use borrow.Author.Rules.{rules}
 use Rattle.node.proofs.node_step.Goals as goal
 use Rattle.node.proofs.node_step.Goals.{After-block_at-block, After-table_answer-entry, Else-not-in_main, In-Entry}
 
@@ -80,7 +77,7 @@ pub returns-in_default : goal.returns-in_default
 returns-in_default c =
     record {
       walked = reached_done (reached_to (looked (goal.at.returns-in_default c).After-table_answer-entry)
-      (ap (at_entry (bounds_of c.args.v) c.args.number c.args.ino c.args.place) c.in_default.is ∙ entry_range _ _ _ _));
+          (ap (at_entry (bounds_of c.args.v) c.args.number c.args.ino c.args.place) c.in_default.is ∙ entry_range _ _ _ _));
       found_in = tt;
     }
 
@@ -115,7 +112,7 @@ pub returns-then-not-belongs : goal.returns-then-not-belongs
 returns-then-not-belongs c =
     record {
       walked = reached_done (reached_to (block_read (goal.at.returns-then-not-belongs c).After-block_at-block)
-      (block_foreign _ _ _ _ _ (sym c.belongs.ensures ∙ c.if-not-belongs.true)));
+          (block_foreign _ _ _ _ _ (sym c.belongs.ensures ∙ c.if-not-belongs.true)));
       found_in = tt;
     }
 

@@ -2,7 +2,6 @@
 use native.Mathlib.Omega.{arith}
 use mathlib.Core.Path.{◌≡◌, sym, ◌∙◌}
 use mathlib.Core.Bool.{true}
-use borrow.Author.Tests.{not-true, not-false}
 use Rattle.field.specs.Card.{card_of}
 use Rattle.field.proofs.Blocks.{length_of_block}
 use Rattle.inode.specs.Inode.{inode_of, is_directory}
@@ -15,7 +14,6 @@ use Rattle.dentry.specs.Slot.{wanted}
 use Rattle.directory.specs.Find.{directory, find_walk}
 use Rattle.path_lookup.specs.Lookup.{at_directory}
 use Rattle.path_lookup.proofs.Cases.{directory_other, directory_empty, directory_search}
-use borrow.Author.Rules.{rules}
 use Rattle.path_lookup.proofs.find_from_inode.Goals as goal
 use Rattle.path_lookup.proofs.find_from_inode.Goals.{After-hash-hash, After-inode_of-i, Else-not-is_directory}
 

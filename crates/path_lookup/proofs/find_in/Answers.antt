@@ -1,13 +1,12 @@
 -- `find_in` meets its contract: the directory's inode, then the name from its inode.
 use Prim.Native.Nat.{◌<◌}
 use mathlib.Core.Path.{◌≡◌, ap, subst}
-use Rattle.field.specs.Card.{Card, card_of}
+use Rattle.field.specs.Card.{card_of}
 use Rattle.walk.specs.Walk.{ok}
 use Rattle.walk.proofs.Fits.{fits_first}
 use Rattle.node.specs.Found.{found_of, FoundIn}
 use Rattle.path_lookup.specs.Lookup.{at_directory, directory_walk}
 use Rattle.walk.proofs.Both.{both_stop, second_fits, both_walked}
-use borrow.Author.Rules.{rules}
 use Rattle.path_lookup.proofs.find_in.Goals as goal
 use Rattle.path_lookup.proofs.find_in.Goals.{In-At}
 

@@ -2,11 +2,9 @@ use Prim.Native.Nat.{◌-◌, ◌^◌, ◌≤◌, ◌<◌}
 use native.Mathlib.Omega.{arith}
 use mathlib.Core.Path.{◌≡◌, ap}
 use lib.ListN.{length}
-use Rattle.walk.specs.Walk.{image_view, lists, ok}
-use Rattle.node.specs.Node.{bounds_of}
+use Rattle.walk.specs.Walk.{ok}
 use Rattle.directory.specs.Find.{entry_of}
-use Rattle.path_lookup.proofs.Turns.{Names, names_start, name_inside, name_fits, names_stop, names_end, names_next}
-use borrow.Author.Rules.{rules}
+use Rattle.path_lookup.proofs.Turns.{names_start, name_inside, name_fits, names_stop, names_end, names_next}
 use Rattle.path_lookup.proofs.find_path.Goals as goal
 use Rattle.path_lookup.proofs.find_path.Goals.{After-part_end-end, In-Found, Start}
 

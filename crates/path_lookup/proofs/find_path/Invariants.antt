@@ -1,12 +1,9 @@
 -- `find_path` meets its contract: what is left of the lookup is the names from `start` on. The laws of a turn are in `Turns`.
-use Prim.Native.Nat.{◌-◌, ◌^◌, ◌≤◌, ◌<◌}
-use native.Mathlib.Omega.{arith}
-use mathlib.Core.Path.{◌≡◌, ap}
+use Prim.Native.Nat.{◌-◌}
 use lib.ListN.{length}
-use Rattle.walk.specs.Walk.{image_view, lists, ok}
+use Rattle.walk.specs.Walk.{image_view, lists}
 use Rattle.node.specs.Node.{bounds_of}
-use Rattle.directory.specs.Find.{entry_of}
-use Rattle.path_lookup.proofs.Turns.{Names, names_start, name_inside, name_fits, names_stop, names_end, names_next}
+use Rattle.path_lookup.proofs.Turns.{Names}
 use Rattle.path_lookup.proofs.find_path.Given as goal
 
 abbrev pub invariant-loop-answer : goal.invariant-loop-answer

@@ -2,19 +2,17 @@
 use native.Mathlib.Omega.{arith}
 use mathlib.Core.Path.{◌≡◌, sym, ◌∙◌}
 use mathlib.Core.Bool.{true, false}
-use borrow.Author.Tests.{not-true, not-false}
 use Rattle.field.specs.Card.{card_of}
 use Rattle.field.proofs.Blocks.{length_of_block}
 use Rattle.inode.specs.Inode.{inode_of, is_regular, is_past}
 use Rattle.inode.proofs.Inline.{inline_room}
-use Rattle.walk.specs.Walk.{image_view, Walk, Outcome, and_then, lists}
+use Rattle.walk.specs.Walk.{image_view, and_then, lists}
 use Rattle.walk.proofs.Reached.{Reached, reached_start, reached_to, reached_all, reached_done}
 use Rattle.walk.proofs.Fits.{fits_at, fits_first}
 use Rattle.node.specs.Node.{bounds_of}
 use Rattle.node.specs.Block.{block_walk}
-use Rattle.pull.specs.Walk.{Block, counted, at_file}
+use Rattle.pull.specs.Walk.{counted, at_file}
 use Rattle.pull.proofs.Cases.{file_other, file_past, file_inline, file_block, counted_walked}
-use borrow.Author.Rules.{rules}
 use Rattle.pull.proofs.block_from_inode.Goals as goal
 use Rattle.pull.proofs.block_from_inode.Goals.{After-addresses_in, After-inode_of-i, Else-is_past, Else-not-is_regular}
 
@@ -56,7 +54,7 @@ returns-then-is_past c =
     let past = sym c.is_past.ensures ∙ c.if-is_past.true in
     record {
       walked = reached_done (reached_to (reached_start _ _ _)
-      (file_past _ _ _ _ (read_of (goal.at.returns-then-is_past c).After-inode_of-i) (regular (goal.at.returns-then-is_past c).Else-not-is_regular) past));
+          (file_past _ _ _ _ (read_of (goal.at.returns-then-is_past c).After-inode_of-i) (regular (goal.at.returns-then-is_past c).Else-not-is_regular) past));
       data_in = (tt, omega arith);
     }
 
@@ -72,8 +70,8 @@ returns-then-has_inline_data c =
     (inside (goal.at.returns-then-has_inline_data c).Else-is_past) in
     record {
       walked = reached_done (reached_to (reached_start _ _ _)
-      (file_inline _ _ _ _ (read_of (goal.at.returns-then-has_inline_data c).After-inode_of-i) _
-      (regular (goal.at.returns-then-has_inline_data c).Else-not-is_regular) (inside (goal.at.returns-then-has_inline_data c).Else-is_past) count own));
+          (file_inline _ _ _ _ (read_of (goal.at.returns-then-has_inline_data c).After-inode_of-i) _
+          (regular (goal.at.returns-then-has_inline_data c).Else-not-is_regular) (inside (goal.at.returns-then-has_inline_data c).Else-is_past) count own));
       data_in = (c.requires.at_bound, omega arith);
     }
 
@@ -91,6 +89,6 @@ returns c =
     let count = c.count_in-bytes in
     record {
       walked = reached_all (to_block_lem (goal.at.returns c).After-addresses_in)
-      (counted_walked card c.data_block-step.result.data count.result c.data_block-step.ensures.walked);
+          (counted_walked card c.data_block-step.result.data count.result c.data_block-step.ensures.walked);
       data_in = (c.data_block-step.ensures.data_in, omega (arith, count.ensures.2));
     }

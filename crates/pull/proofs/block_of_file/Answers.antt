@@ -2,13 +2,12 @@
 use Prim.Native.Nat.{◌<◌}
 use native.Mathlib.Omega.{arith}
 use mathlib.Core.Path.{◌≡◌, ap, subst}
-use Rattle.field.specs.Card.{Card, card_of}
+use Rattle.field.specs.Card.{card_of}
 use Rattle.walk.specs.Walk.{ok}
 use Rattle.walk.proofs.Fits.{fits_first}
 use Rattle.node.specs.Found.{found_of, FoundIn}
 use Rattle.pull.specs.Walk.{at_file, file_walk}
 use Rattle.walk.proofs.Both.{both_stop, second_fits, both_walked}
-use borrow.Author.Rules.{rules}
 use Rattle.pull.proofs.block_of_file.Goals as goal
 use Rattle.pull.proofs.block_of_file.Goals.{In-At}
 

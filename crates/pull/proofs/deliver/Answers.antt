@@ -3,7 +3,6 @@ use mathlib.Core.Path.{refl, subst, ◌∙◌}
 use Rattle.field.specs.Card.{card_of}
 use Rattle.field.proofs.Blocks.{length_of_block}
 use Rattle.node.specs.Found.{DataIn}
-use borrow.Author.Rules.{rules}
 use Rattle.pull.proofs.deliver.Goals as goal
 use Rattle.pull.proofs.deliver.Goals.{In-At}
 

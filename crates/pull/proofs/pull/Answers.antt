@@ -3,14 +3,12 @@ use Prim.Native.Nat.{ℕ, ◌≤◌}
 use mathlib.Core.Path.{◌≡◌, sym, ap, subst, ◌∙◌}
 use mathlib.Core.Bool.{true, not, ◌&&◌}
 use lib.Dec.{eqb}
-use borrow.Author.Tests.{not-true, not-false}
 use Rattle.checkpoint.proofs.Inside.{image_volume}
 use Rattle.path.specs.Path.{names_most}
 use Rattle.path.proofs.Counting.{count_few}
 use Rattle.pull.specs.declared.Pulled.{Pulled}
-use Rattle.pull.specs.Pull.{Lent, lending, result_in, lent_in_shape, call_in_shape}
+use Rattle.pull.specs.Pull.{lending, result_in, lent_in_shape, call_in_shape}
 use Rattle.pull.proofs.Results.{call_refused, call_opens, path_in_shape, lent_shape, counted_shape}
-use borrow.Author.Rules.{rules}
 use Rattle.pull.proofs.pull.Goals as goal
 use Rattle.pull.proofs.pull.Goals.{After-lent_in_shape, After-open}
 

@@ -4,7 +4,6 @@ use Rattle.walk.proofs.Written.{left_few}
 use Rattle.path.proofs.Counting.{parts_few}
 use Rattle.pull.proofs.Sizes.{pull_within}
 use Rattle.pull.proofs.Results.{block_room, pull_fits, pull_written}
-use borrow.Author.Rules.{rules}
 use Rattle.pull.proofs.pull_opened.Goals as goal
 
 -- ---- the needs

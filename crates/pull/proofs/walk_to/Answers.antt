@@ -6,7 +6,6 @@ use Rattle.directory.specs.Find.{entry_of}
 use Rattle.path_lookup.specs.Lookup.{path_walk}
 use Rattle.pull.specs.Walk.{file_walk, named_file_walk, pull_walk}
 use Rattle.walk.proofs.Both.{both_stop, second_fits, both_walked}
-use borrow.Author.Rules.{rules}
 use Rattle.pull.proofs.walk_to.Goals as goal
 
 -- ---- the needs

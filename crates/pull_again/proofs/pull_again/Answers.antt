@@ -4,7 +4,6 @@ use Rattle.compare.specs.declared.Compared.{Compared}
 use Rattle.pull_again.specs.Demand.{said}
 use Rattle.pull_again.proofs.Steps.{same_pulls}
 use Rattle.pull_again.proofs.Demand.{whenever_same}
-use borrow.Author.Rules.{rules}
 use Rattle.pull_again.proofs.pull_again.Goals as goal
 use Rattle.pull_again.proofs.pull_again.Goals.{After-compare-compared}
 

@@ -6,7 +6,6 @@ use Rattle.directory.specs.Find.{entry_of}
 use Rattle.file_run.specs.Walks.{file_run_walk}
 use Rattle.file_run.proofs.Unless.{unless_stop, unless_fits, unless_filled}
 use Rattle.pull_run.specs.Walk.{run_walk}
-use borrow.Author.Rules.{rules}
 use Rattle.pull_run.proofs.fill_from_path.Goals as goal
 
 -- ---- the needs

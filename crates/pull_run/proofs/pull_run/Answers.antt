@@ -3,15 +3,13 @@ use Prim.Native.Nat.{ℕ, ◌≤◌}
 use mathlib.Core.Path.{◌≡◌, sym, ap, subst, ◌∙◌}
 use mathlib.Core.Bool.{true, not, ◌&&◌}
 use lib.Dec.{eqb}
-use borrow.Author.Tests.{not-true, not-false}
 use Rattle.checkpoint.proofs.Inside.{image_volume}
 use Rattle.path.specs.Path.{names_most}
 use Rattle.path.proofs.Counting.{count_few}
-use Rattle.pull.specs.Pull.{Lent, lending}
+use Rattle.pull.specs.Pull.{lending}
 use Rattle.pull_run.specs.declared.Run.{Run}
 use Rattle.pull_run.specs.Run.{run_in_shape, run_call_in_shape, run_result}
 use Rattle.pull_run.proofs.Results.{run_refused, run_opens, run_path_shape, run_lent_shape, counted_run_shape}
-use borrow.Author.Rules.{rules}
 use Rattle.pull_run.proofs.pull_run.Goals as goal
 use Rattle.pull_run.proofs.pull_run.Goals.{After-open, After-run_in_shape}
 
@@ -50,9 +48,9 @@ run_opened-requires c =
     record {
       volume_in = image_volume _ _ opens;
       path_value = run_path_shape c.args.image.now c.args.path.now c.args.index c.args.wanted (lending c.args.buffer.now c.args.nodes.now c.args.blocks.now)
-      shape;
+          shape;
       blocks_value = run_lent_shape c.args.image.now c.args.path.now c.args.index c.args.wanted
-      (lending c.args.buffer.now c.args.nodes.now c.args.blocks.now) shape;
+          (lending c.args.buffer.now c.args.nodes.now c.args.blocks.now) shape;
     }
 
 pub returns-in-Refused : goal.returns-in-Refused

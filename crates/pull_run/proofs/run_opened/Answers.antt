@@ -2,7 +2,6 @@
 use native.Mathlib.Omega.{arith}
 use Rattle.path.proofs.Counting.{parts_few}
 use Rattle.pull_run.proofs.Results.{room_for, run_fits, run_counts, run_written_lem}
-use borrow.Author.Rules.{rules}
 use Rattle.pull_run.proofs.run_opened.Goals as goal
 
 -- ---- the needs

@@ -15,7 +15,7 @@ in_opening k = omega (arith, early k)
 pub open_next-requires : goal.open_next-requires
 open_next-requires c =
     let fit = c.requires.0 in
-    let state = opening_state c.args.at ((memory c.args.path.now c.args.first.now c.args.held.now c.args.journal.now)) fit (in_opening c) in
+    let state = opening_state c.args.at (memory c.args.path.now c.args.first.now c.args.held.now c.args.journal.now) fit (in_opening c) in
     record { stage_bound = (early c, state.0); first_len = (fit.sized.first, fit.sized.held, c.requires.1) }
 
 pub returns : goal.returns

@@ -13,10 +13,10 @@ later : (k : Else-stage-eq10) → 10 < k.args.at.stage
 later k = omega (arith, k.requires.0, k.if-stage-eq9.false, k.if-stage-eq10.false)
 
 -- the path's bytes
-path_here : (s : Start) → length (path_in s.args.at ((memory s.args.path.now s.args.first.now s.args.held.now s.args.journal.now))) ≡ s.args.at.path_length
+path_here : (s : Start) → length (path_in s.args.at (memory s.args.path.now s.args.first.now s.args.held.now s.args.journal.now)) ≡ s.args.at.path_length
 path_here s = path_length_lem s.args.at s.requires.1.sized s.requires.1.path
 
-path_few : (s : Start) → length (path_in s.args.at ((memory s.args.path.now s.args.first.now s.args.held.now s.args.journal.now))) ≤ 2048
+path_few : (s : Start) → length (path_in s.args.at (memory s.args.path.now s.args.first.now s.args.held.now s.args.journal.now)) ≤ 2048
 path_few s = omega (arith, path_here s, s.requires.1.path)
 
 pub returns-then-stage-eq9 : goal.returns-then-stage-eq9

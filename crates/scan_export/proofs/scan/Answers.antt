@@ -6,7 +6,6 @@ use mathlib.Core.Bool.{true, false, ◌&&◌}
 use mathlib.Core.List.{List}
 use lib.ListN.{length, drop}
 use lib.Dec.{eqb}
-use borrow.Author.Tests.{not-true, not-false}
 use Rattle.field.proofs.Choosing.{needed_eq}
 use Rattle.dentry.specs.declared.Layout.{Layout}
 use Rattle.dentry.specs.declared.Turn.{Turn}
@@ -14,7 +13,6 @@ use Rattle.dentry.specs.Slot.{layout_of, Wanted, wanted, in_part, in_slots}
 use Rattle.dentry.specs.Scan.{turns_in, turns_most, sought_of}
 use Rattle.dentry.proofs.Runs.{entries_most}
 use Rattle.scan_export.specs.Scanned.{crossing, seeks, is_scan, scanned}
-use borrow.Author.Rules.{rules}
 use Rattle.scan_export.proofs.scan.Goals as goal
 use Rattle.scan_export.proofs.scan.Goals.{After-is_name, After-scan_slots-step}
 
@@ -71,9 +69,9 @@ crosses k told =
 
 pub returns-then-not-block-is_name : goal.returns-then-not-block-is_name
 returns-then-not-block-is_name c = record {
-      value = sym (out_of_shape_lem _ _ _ (tested (goal.at.returns-then-not-block-is_name c).After-is_name ∙ c.if-not-block-is_name.true));
-      turns_bound = omega arith;
-    }
+  value = sym (out_of_shape_lem _ _ _ (tested (goal.at.returns-then-not-block-is_name c).After-is_name ∙ c.if-not-block-is_name.true));
+  turns_bound = omega arith;
+}
 
 pub part_of-part-requires : goal.part_of-part-requires
 part_of-part-requires c =

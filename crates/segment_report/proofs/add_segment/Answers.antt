@@ -6,7 +6,6 @@ use Rattle.sit.specs.Entry.{valid_count, map_ones}
 use Rattle.sit.specs.Table.{sit_entry}
 use Rattle.sit.proofs.Inside.{entry_size}
 use Rattle.segment_report.proofs.Tallying.{in_order, off}
-use borrow.Author.Rules.{rules}
 use Rattle.segment_report.proofs.add_segment.Goals as goal
 use Rattle.segment_report.proofs.add_segment.Goals.{After-entry_of-entry, After-ones-ones, After-valid_count}
 

@@ -4,7 +4,6 @@ use Rattle.checkpoint.specs.declared.Opening.TheVariants.{Opened}
 use Rattle.sit.specs.Opening.{opened_with_sit}
 use Rattle.sit.proofs.Openings.{opened_sit}
 use Rattle.segment_report.proofs.Ends.{refused_by_opening, too_short, made}
-use borrow.Author.Rules.{rules}
 use Rattle.segment_report.proofs.report.Goals as goal
 use Rattle.segment_report.proofs.report.Goals.{In-Opened}
 

@@ -1,12 +1,7 @@
 use native.Mathlib.Omega.{arith}
 use mathlib.Core.Path.{◌≡◌}
-use Prim.Native.Nat.{ℕ, ◌-◌, ◌≤◌, ◌<◌}
-use lib.ListN.{get_or}
-use Rattle.field.specs.Card.{card_of}
-use Rattle.sit.specs.Table.{sit_entry}
-use Rattle.segment_report.specs.Report.{reported}
-use Rattle.segment_report.proofs.Tallying.{Tallied, tallied_start, tallied_most, tallied_next, tallied_all}
-use borrow.Author.Rules.{rules}
+use Prim.Native.Nat.{◌-◌}
+use Rattle.segment_report.proofs.Tallying.{tallied_start, tallied_most, tallied_next, tallied_all}
 use Rattle.segment_report.proofs.report_opened.Goals as goal
 
 pub loop-segment-init : goal.loop-segment-init

@@ -1,11 +1,9 @@
-use native.Mathlib.Omega.{arith}
-use mathlib.Core.Path.{◌≡◌}
 use Prim.Native.Nat.{ℕ, ◌-◌, ◌≤◌, ◌<◌}
 use lib.ListN.{get_or}
 use Rattle.field.specs.Card.{card_of}
 use Rattle.sit.specs.Table.{sit_entry}
 use Rattle.segment_report.specs.Report.{reported}
-use Rattle.segment_report.proofs.Tallying.{Tallied, tallied_start, tallied_most, tallied_next, tallied_all}
+use Rattle.segment_report.proofs.Tallying.{Tallied}
 use Rattle.segment_report.proofs.report_opened.Given as goal
 
 abbrev pub invariant-loop-segment : goal.invariant-loop-segment
