@@ -8,8 +8,7 @@ use Prim.Native.Nat.{ℕ}
 use lib.ListN.{length}
 use Rattle.superblock.specs.Shape.{in_shape}
 use Rattle.checkpoint.specs.declared.Volume.{Volume}
-use Rattle.checkpoint.specs.declared.Opening.TheVariants.{Opened, Refused}
-use Rattle.checkpoint.specs.Volume.{opened_image}
+use Rattle.checkpoint.specs.Volume.{Opened, Refused, opened_image}
 use Rattle.list.specs.Lists.{Listed}
 use Rattle.nat.specs.Lookup.{lookup_of}
 use Rattle.pull.specs.Pull.{Lent, call_in_shape, refused_pull, pulled}

@@ -7,10 +7,14 @@ use mathlib.Core.Path.{◌≡◌, refl, ap, subst}
 use mathlib.Core.Bool.{Bool, true, false}
 use mathlib.Core.List.{List, [], ◌∷◌}
 use lib.ListN.{length, drop}
+use Rattle.std.specs.Prelude.{Option, Some, None}
+use Rattle.std.specs.Option.{unwrap_or}
+use Rattle.answer.specs.declared.Stop as r
+use Rattle.answer.specs.declared.Stop.TheVariants.{NoNode, NodeOutside, DataOutside}
+use Rattle.answer.specs.Number.{stop_number}
 use Rattle.field.specs.Choice.{choose}
 use Rattle.place.specs.declared.Step.{Step}
-use Rattle.nat.specs.declared.InJournal.{InJournal}
-use Rattle.nat.specs.declared.InJournal.TheVariants as j
+use Rattle.nat.specs.declared.Entry.{Entry}
 use Rattle.nat.specs.Entry.{in_journal}
 use Rattle.nat.specs.Table.{in_range}
 use Rattle.walk.specs.Walk.{Seen, Walk, Outcome, stop, ran}
@@ -34,7 +38,7 @@ use Rattle.ask_directory.specs.Move.{gave, goes_by, moved, goes_on, no_target, f
 
 -- ---- answers
 module _ (q : Question) (block : List ℕ) (s : Seen) (p : Spot) where
-  pub stop_moved : (e : ℕ) → moved q block s (no_target p (Stop e)) ≡ answer (came (ran (stop e) s))
+  pub stop_moved : (e : r.Stop) → moved q block s (no_target p (Stop e)) ≡ answer (came (ran (stop (stop_number e)) s))
   unfolding moved goes_by wanting
   stop_moved e = refl
 
@@ -51,18 +55,18 @@ module _ (q : Question) (block : List ℕ) (s : Seen) (p : Spot) where
   inline_moved count = refl
 
 -- ---- what is so of a fetch: a node that is wanted isn't the inode, and where there is a hole, nothing was looked up
-abbrev WantedBy : Bool → ℕ → Wants → Type 0
+abbrev WantedBy : Option ℕ → ℕ → Wants → Type 0
 WantedBy looked hop (w.Table b) = 1 ≤ hop
 WantedBy looked hop (w.Node b table_inode) = 1 ≤ hop
 WantedBy looked hop (w.Data b) = Unit {0}
-WantedBy looked hop w.Hole = looked ≡ false
-WantedBy looked hop (w.Stop number) = Unit {0}
+WantedBy looked hop w.Hole = looked ≡ None
+WantedBy looked hop (w.Stop reason) = Unit {0}
 
 abbrev pub OnWay : Fetch → Type 0
 OnWay f = WantedBy f.looked f.hop f.wants
 
 -- by whether the address is that of a hole, and whether it lies in the main area
-data_by : (empty inside : Bool) (a : ℕ) → OnWay (no_node (choose empty w.Hole (choose inside (w.Data a) (w.Stop 13))))
+data_by : (empty inside : Bool) (a : ℕ) → OnWay (no_node (choose empty w.Hole (choose inside (w.Data a) (w.Stop DataOutside))))
 data_by true inside a = refl
 data_by false true a = tt
 data_by false false a = tt
@@ -74,19 +78,21 @@ module _ (t : Kept) where
 
   module _ (hop : ℕ) (later : 1 ≤ hop) where
     -- by whether the address is 0, and whether it lies in the main area
-    entry_by : (zero inside : Bool) (i a : ℕ) → WantedBy true hop (choose zero (w.Stop 9) (choose inside (w.Node a i) (w.Stop 10)))
-    entry_by true inside i a = tt
-    entry_by false true i a = later
-    entry_by false false i a = tt
+    entry_by : (looked : Option ℕ) (zero inside : Bool) (i a : ℕ)
+        → WantedBy looked hop (choose zero (w.Stop NoNode) (choose inside (w.Node a i) (w.Stop NodeOutside)))
+    entry_by looked true inside i a = tt
+    entry_by looked false true i a = later
+    entry_by looked false false i a = tt
 
     -- by what the journal holds
-    journal_by : (number : ℕ) (said : InJournal) → WantedBy true hop (journal_wants t number said)
+    journal_by : (number : ℕ) (said : Option Entry) → WantedBy (Some number) hop (journal_wants t number said)
     unfolding entry_wants
-    journal_by number (j.Held i a) = entry_by (eqb a 0) (in_main (bounds_of t.volume) a) i a
-    journal_by number j.Absent = later
+    journal_by number (Some entry) = entry_by (Some number) (eqb entry.address 0) (in_main (bounds_of t.volume) entry.address) entry.inode entry.address
+    journal_by number None = later
 
     -- by whether the number is in range
-    range_by : (number : ℕ) (inside : Bool) → WantedBy true hop (choose inside (journal_wants t number (in_journal t.journal number)) (w.Stop 9))
+    range_by : (number : ℕ) (inside : Bool)
+        → WantedBy (Some number) hop (choose inside (journal_wants t number (in_journal t.journal number)) (w.Stop NoNode))
     range_by number true = journal_by number (in_journal t.journal number)
     range_by number false = tt
 
@@ -123,7 +129,7 @@ module _ (t : Kept) (ino : ℕ) (way : List Step) (g : Fetched → Walk (Outcome
   pub hole_left : (f : Fetch) → OnWay f → f.wants ≡ w.Hole → fetching t ino way g s f ≡ asking t came s (g hole)
   unfolding fetching wanting
   hole_left f h e =
-      let unseen : f.looked ≡ false = subst (WantedBy f.looked f.hop) e h in
+      let unseen : f.looked ≡ None = subst (WantedBy f.looked f.hop) e h in
       rw (e, unseen)
 
 -- ---- what is fetched
@@ -156,20 +162,20 @@ module _ (q : Question) (inode : List ℕ) (p : Spot) (index : ℕ) where
     abbrev left_by : (List ℕ → Walk (Outcome Block)) → Wants → Asking Ending
     left_by next wants = wanting q.kept (sought number p.ino place) next data_next s wants
 
-    wants_by_lem : (looked : Bool) (wants : Wants) → WantedBy looked hop wants → (wants ≡ w.Hole → IsFile count)
+    wants_by_lem : (looked : Option ℕ) (wants : Wants) → WantedBy looked hop wants → (wants ≡ w.Hole → IsFile count)
         → goes_by q inode here p s (goes_on count wants) ≡ left_by (hop_next hop) wants
     unfolding goes_by wanting
     wants_by_lem looked (w.Table b) h z = ap (λ (next : List ℕ → Walk (Outcome Block)). left_by next (w.Table b)) (hop_then hop h)
     wants_by_lem looked (w.Node b table_inode) h z = ap (λ (next : List ℕ → Walk (Outcome Block)). left_by next (w.Node b table_inode)) (hop_then hop h)
     wants_by_lem looked (w.Data b) h z = refl
     wants_by_lem looked w.Hole h z = hole_next count s (z refl)
-    wants_by_lem looked (w.Stop number) h z = refl
+    wants_by_lem looked (w.Stop reason) h z = refl
 
   pub fetch_moved : (f : Fetch) (count : ℕ) (s : Seen) → OnWay f
       → (f.wants ≡ w.Hole → (names_at q p ≡ []) × (count ≡ count_in (inode_of inode) q.index))
       → moved q inode s (fetch_move f index p count) ≡ fetching q.kept p.ino (way_to inode index) (data_then q p inode (names_at q p)) s f
   unfolding moved fetching
-  fetch_moved f count s h z = wants_by_lem f.number f.place f.hop count (looked_up f.looked f.number s) f.looked f.wants h z
+  fetch_moved f count s h z = wants_by_lem (unwrap_or f.looked 0) f.place f.hop count (looked_up f.looked s) f.looked f.wants h z
 
 -- ---- what a reader knows then
 module _ (path : List ℕ) (index : ℕ) (inode : List ℕ) (p : Spot) (spot : SpotIn path index inode p) where
@@ -178,7 +184,7 @@ module _ (path : List ℕ) (index : ℕ) (inode : List ℕ) (p : Spot) (spot : S
   goes_by_lem n count few h (w.Node b table_inode) = (h, λ z. spot)
   goes_by_lem n count few h (w.Data b) = spot
   goes_by_lem n count few h w.Hole = few
-  goes_by_lem n count few h (w.Stop number) = tt
+  goes_by_lem n count few h (w.Stop reason) = tt
 
   pub fetch_in : (f : Fetch) (at count : ℕ) → count ≤ 4096 → HopIn f → MoveIn path index inode (fetch_move f at p count)
   fetch_in f at count few h = goes_by_lem (fetch_move f at p count).target count few h f.wants

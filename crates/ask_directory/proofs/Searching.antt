@@ -7,6 +7,7 @@ use mathlib.Core.Path.{◌≡◌, refl, sym, ap, subst, ◌∙◌}
 use mathlib.Core.Bool.{Bool, true, false}
 use mathlib.Core.List.{List, ◌∷◌}
 use lib.ListN.{length}
+use Rattle.answer.specs.declared.Stop.TheVariants.{NoName}
 use Rattle.field.specs.Choice.{choose}
 use Rattle.field.proofs.Choosing.{clash}
 use Rattle.name_hash.specs.Hash.{hash_of}
@@ -48,7 +49,7 @@ empty_wants (w.Table b) e = absurd (clash e refl)
 empty_wants (w.Node b table_inode) e = absurd (clash e refl)
 empty_wants (w.Data b) e = absurd (clash e refl)
 empty_wants w.Hole e = refl
-empty_wants (w.Stop number) e = absurd (clash e refl)
+empty_wants (w.Stop reason) e = absurd (clash e refl)
 
 module _ (t : Kept) (inode : List ℕ) (p : Spot) (index : ℕ) where
   abbrev last : ℕ
@@ -173,6 +174,10 @@ pub record Turn (t : Kept) (inode : List ℕ) (ino hash level₀ k₀ level k : 
   pub known : i ≡ inode_of inode
   pub found : l ≡ level_of i.level level hash
 
+pub turn_of : {t : Kept} {inode : List ℕ} {ino hash level₀ k₀ level k : ℕ} {i : Inode} {l : Level} → SearchOn t inode ino hash level₀ k₀ level k
+    → i ≡ inode_of inode → l ≡ level_of i.level level hash → Turn t inode ino hash level₀ k₀ level k i l
+turn_of go known found = record { go = go; known = known; found = found }
+
 module _ {t : Kept} {inode : List ℕ} {ino hash level₀ k₀ level k : ℕ} {i : Inode} {l : Level}
     (turn : Turn t inode ino hash level₀ k₀ level k i l) where
   -- what the search is to come to
@@ -216,13 +221,13 @@ module _ {t : Kept} {inode : List ℕ} {ino hash level₀ k₀ level k : ℕ} {i
         }
 
     -- and so is the last level
-    module _ (nameAt : ℕ) (end : i.depth ≤ level + 1) {p : Spot} {m : Move} (e : m ≡ no_target p (Stop 2)) where
+    module _ (nameAt : ℕ) (end : i.depth ≤ level + 1) {p : Spot} {m : Move} (e : m ≡ no_target p (Stop NoName)) where
       pub search_end : Comes nameAt m
       search_end path index name names s h n =
           let depth = ap (λ (j : Inode). j.depth) turn.known in
           let last : (inode_of inode).depth ≤ level + 1 = omega arith in
           ap (moved (question t path index) inode s) e
-          ∙ stop_moved (question t path index) inode s p 2
+          ∙ stop_moved (question t path index) inode s p NoName
           ∙ sym (over_asked t inode ino path index name names s level k done_here last)
           ∙ turn.go.same path index name names s h
 

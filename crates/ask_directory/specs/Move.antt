@@ -1,5 +1,6 @@
 -- Where a walk goes when a block came: what it asks for next, or the answer.
-use Rattle.std.specs.Prelude.{ℕ, ◌+◌, ◌≤◌, ◌<◌, ◌≡◌, Bool, true, false, List, length, drop, leb}
+use Rattle.std.specs.Prelude.{ℕ, ◌+◌, ◌≤◌, ◌<◌, ◌≡◌, Bool, true, false, List, length, drop, leb, None}
+use Rattle.std.specs.Option.{unwrap_or}
 use Rattle.field.specs.Choice.{choose}
 use Rattle.place.specs.Place.{last_index}
 use Rattle.walk.specs.Walk.{Seen, ok, ran}
@@ -36,14 +37,14 @@ unfoldable pub goes_by : Question → List ℕ → Target → Spot → Seen → 
 goes_by q block n p s (Table b) = wants_by q block n p s (w.Table b)
 goes_by q block n p s (Node b table_inode) = wants_by q block n p s (w.Node b table_inode)
 goes_by q block n p s (Data b) = wants_by q block n p s (w.Data b)
-goes_by q block n p s (Stop number) = wants_by q block n p s (w.Stop number)
+goes_by q block n p s (Stop reason) = wants_by q block n p s (w.Stop reason)
 goes_by q block n p s (Empty count) = gave count hole s
 goes_by q block n p s (Full count) = gave count (held block) s
 goes_by q block n p s (Inline count) = gave count (held (drop inline_start block)) s
 
 -- the same of a move, from what was seen before it
 unfoldable pub moved : Question → List ℕ → Seen → Move → Asking Ending
-moved q block s m = goes_by q block m.target m.spot (looked_up m.looked m.target.number s) m.goes
+moved q block s m = goes_by q block m.target m.spot (looked_up m.looked s) m.goes
 
 -- ---- moves
 
@@ -53,11 +54,11 @@ goes_on count (w.Table b) = Table b
 goes_on count (w.Node b table_inode) = Node b table_inode
 goes_on count (w.Data b) = Data b
 goes_on count w.Hole = Empty count
-goes_on count (w.Stop number) = Stop number
+goes_on count (w.Stop reason) = Stop reason
 
 -- no node is sought
 abbrev pub no_target : Spot → Goes → Move
-no_target p goes = record { goes = goes; looked = false; target = record { number = 0; place = 0; index = 0; hop = 0 }; spot = p }
+no_target p goes = record { goes = goes; looked = None; target = record { number = 0; place = 0; index = 0; hop = 0 }; spot = p }
 
 -- the block of an index is fetched
 abbrev pub fetch_move : Fetch → ℕ → Spot → ℕ → Move
@@ -65,7 +66,7 @@ fetch_move f index p count =
     record {
       goes = goes_on count f.wants;
       looked = f.looked;
-      target = record { number = f.number; place = f.place; index = index; hop = f.hop };
+      target = record { number = unwrap_or f.looked 0; place = f.place; index = index; hop = f.hop };
       spot = p;
     }
 
@@ -78,7 +79,7 @@ abbrev pub is_empty : Goes → Bool
 is_empty (Table b) = false
 is_empty (Node b table_inode) = false
 is_empty (Data b) = false
-is_empty (Stop number) = false
+is_empty (Stop reason) = false
 is_empty (Empty count) = true
 is_empty (Full count) = false
 is_empty (Inline count) = false
@@ -88,7 +89,7 @@ abbrev pub IsNode : Goes → Type 0
 IsNode (Table b) = ⊥
 IsNode (Node b table_inode) = Unit {0}
 IsNode (Data b) = ⊥
-IsNode (Stop number) = Unit {0}
+IsNode (Stop reason) = Unit {0}
 IsNode (Empty count) = ⊥
 IsNode (Full count) = ⊥
 IsNode (Inline count) = ⊥
@@ -108,7 +109,7 @@ abbrev pub GoesIn : List ℕ → ℕ → List ℕ → Target → Spot → Goes �
 GoesIn path index inode n p (Table b) = (n.hop < 4) × ((n.hop ≡ 0 → ⊥) → SpotIn path index inode p)
 GoesIn path index inode n p (Node b table_inode) = (n.hop < 4) × ((n.hop ≡ 0 → ⊥) → SpotIn path index inode p)
 GoesIn path index inode n p (Data b) = SpotIn path index inode p
-GoesIn path index inode n p (Stop number) = Unit {0}
+GoesIn path index inode n p (Stop reason) = Unit {0}
 GoesIn path index inode n p (Empty count) = count ≤ 4096
 GoesIn path index inode n p (Full count) = count ≤ 4096
 GoesIn path index inode n p (Inline count) = count + inline_start ≤ 4096

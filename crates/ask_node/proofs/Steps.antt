@@ -16,17 +16,16 @@ use Rattle.place.proofs.Ways.{slot_at, way_steps, way_few, way_node_slots, way_i
 use Rattle.inode.specs.Inode.{inode_of, addresses_in}
 use Rattle.inode.proofs.Counting.{few_addresses}
 use Rattle.node.specs.Node.{bounds_of}
-use Rattle.node.specs.Found.{WayIn}
 use Rattle.asking.specs.Table.{Kept}
 use Rattle.ask_node.specs.declared.Wants.TheVariants.{Hole}
 use Rattle.ask_node.specs.Wants.{data_wants}
-use Rattle.ask_node.specs.Fetch.{way_to, steps_in, step_on, no_node, node_on, follow_fetch, way_fetch, block_fetch, next_fetch}
+use Rattle.ask_node.specs.Fetch.{way_to, steps_in, WayIn, step_on, no_node, node_on, follow_fetch, way_fetch, block_fetch, next_fetch}
 
-pub hop_few : {steps : List Step} {most hop : ℕ} → WayIn steps most → hop < most → hop < 4
+pub hop_few : {w : Way} {hop : ℕ} → WayIn w → hop < w.count → hop < 4
 hop_few way h = let few = way.few in omega arith
 
 -- ---- from a hop of a way on
-module _ (t : Kept) {w : Way} (way : WayIn w.steps w.count) (hop number : ℕ) where
+module _ (t : Kept) {w : Way} (way : WayIn w) (hop number : ℕ) where
   steps_length : length (steps_in w) ≡ w.count
   steps_length =
       let few = way.few in
@@ -87,10 +86,8 @@ module _ (inode : List ℕ) (index : ℕ) {w : Way} (e : w ≡ in_array (way_to 
   abbrev A : ℕ
   A = addresses_in (inode_of inode)
 
-  pub way_in : WayIn w.steps w.count
-  way_in =
-      let few = way_few A index e in
-      record { few = few.0; whole = few.1; slots = way_node_slots A index e }
+  pub way_in : WayIn w
+  way_in = let few = way_few A index e in record { few = few.0; whole = few.1 }
 
   pub inode_slot : slot_at w 0 < 928
   inode_slot =

@@ -4,13 +4,12 @@ use lib.Dec.{eqb}
 use mathlib.Core.Path.{◌≡◌, refl}
 use mathlib.Core.Bool.{Bool, true, false}
 use mathlib.Core.List.{List}
+use Rattle.std.proofs.Common.{Option, Some, None}
+use Rattle.answer.specs.declared.Stop.TheVariants.{NoNode, NodeOutside, DataOutside}
 use Rattle.field.specs.Choice.{choose}
-use Rattle.nat.specs.declared.InJournal.{InJournal}
-use Rattle.nat.specs.declared.InJournal.TheVariants as j
-use Rattle.nat.specs.declared.TableAnswer.{TableAnswer}
-use Rattle.nat.specs.declared.TableAnswer.TheVariants.{OutOfRange, Entry}
+use Rattle.nat.specs.declared.Entry as e
 use Rattle.nat.specs.Entry.{in_journal}
-use Rattle.nat.specs.Table.{in_range}
+use Rattle.nat.specs.Table.{TableAnswer, OutOfRange, Entry, in_range}
 use Rattle.walk.specs.Walk.{Seen, saw_node, Walk, done, read, bind, Outcome, ok, stop, onward, and_then, ran}
 use Rattle.node.specs.Node.{bounds_of, in_main, at_block, at_entry, node_walk}
 use Rattle.node.specs.Block.{Fetched, hole, is_hole, holding, data_walk}
@@ -40,7 +39,7 @@ module _ (t : Kept) (n : Sought) (f : List ℕ → Walk (Outcome Block)) (g : Fe
 
   -- by whether the address is 0, and whether it lies in the main area
   entry_by : (i a : ℕ) (zero inside : Bool)
-      → wanting t n f g s (choose zero (w.Stop 9) (choose inside (w.Node a i) (w.Stop 10)))
+      → wanting t n f g s (choose zero (w.Stop NoNode) (choose inside (w.Node a i) (w.Stop NodeOutside)))
       ≡ asking t came s (and_then (choose zero (done (stop 9))
       (choose inside (read a (at_block n.number n.ino n.place i)) (done (stop 10)))) f)
   unfolding wanting asking and_then bind onward
@@ -54,14 +53,14 @@ module _ (t : Kept) (n : Sought) (f : List ℕ → Walk (Outcome Block)) (g : Fe
   entry_wanted i a = entry_by i a (eqb a 0) (in_main (bounds_of t.volume) a)
 
   -- by what the journal holds
-  journal_by : (said : InJournal) → wanting t n f g s (journal_wants t n.number said) ≡ or_ask t n.number from_entry said
+  journal_by : (said : Option e.Entry) → wanting t n f g s (journal_wants t n.number said) ≡ or_ask t n.number from_entry said
   unfolding wanting
-  journal_by (j.Held i a) = entry_wanted i a
-  journal_by j.Absent = refl
+  journal_by (Some entry) = entry_wanted entry.inode entry.address
+  journal_by None = refl
 
   -- by whether the number is in range
   range_by : (inside : Bool)
-      → wanting t n f g s (choose inside (journal_wants t n.number (in_journal t.journal n.number)) (w.Stop 9))
+      → wanting t n f g s (choose inside (journal_wants t n.number (in_journal t.journal n.number)) (w.Stop NoNode))
       ≡ choose inside (or_ask t n.number from_entry (in_journal t.journal n.number)) (from_entry OutOfRange)
   unfolding wanting asking and_then bind onward at_entry
   range_by true = journal_by (in_journal t.journal n.number)
@@ -71,7 +70,7 @@ module _ (t : Kept) (n : Sought) (f : List ℕ → Walk (Outcome Block)) (g : Fe
 
   -- by whether the address is that of a hole, and whether it lies in the main area
   data_by : (a : ℕ) (empty inside : Bool)
-      → wanting t n f g s (choose empty w.Hole (choose inside (w.Data a) (w.Stop 13)))
+      → wanting t n f g s (choose empty w.Hole (choose inside (w.Data a) (w.Stop DataOutside)))
       ≡ asking t came s (and_then (choose empty (done (ok hole)) (choose inside (read a holding) (done (stop 13)))) g)
   unfolding wanting asking and_then bind onward
   data_by a true inside = refl

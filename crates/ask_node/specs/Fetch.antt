@@ -1,5 +1,6 @@
 -- The block of an index of a file, sought from the bytes of its inode: what is wanted next on the way to it.
-use Rattle.std.specs.Prelude.{ℕ, ◌+◌, ◌*◌, ◌<◌, Bool, true, false, List, [], ◌∷◌, length, take, drop, get_or, eqb, ltb}
+use Rattle.std.specs.Prelude.{ℕ, ◌+◌, ◌*◌, ◌<◌, ◌≤◌, ◌≡◌, List, [], ◌∷◌, length, take, drop, get_or, eqb, ltb, Option, Some, None}
+use Rattle.std.specs.Option.{unwrap_or}
 use Rattle.field.specs.Number.{le32}
 use Rattle.field.specs.Choice.{choose}
 use Rattle.place.specs.declared.Step.{Step}
@@ -27,6 +28,11 @@ way_to inode index = way_of (place_of (addresses_in (inode_of inode)) index)
 abbrev pub steps_in : Way → List Step
 steps_in way = take way.count way.steps
 
+-- what it knows of them: they are at the front of an array of four
+pub record WayIn (way : Way) : Type 0 where
+  pub few : way.count ≤ 4
+  pub whole : length way.steps ≡ 4
+
 abbrev pub step_on : List Step → ℕ → Step
 step_on way hop = get_or way hop (step 0 0)
 
@@ -34,12 +40,12 @@ step_on way hop = get_or way hop (step 0 0)
 
 -- no node is looked up
 abbrev pub no_node : Wants → Fetch
-no_node wants = record { wants = wants; looked = false; number = 0; place = 0; hop = 0 }
+no_node wants = record { wants = wants; looked = None; place = 0; hop = 0 }
 
 -- the node that a number names, at a hop of a way, is looked up
 abbrev pub node_on : Kept → List Step → ℕ → ℕ → Fetch
 node_on t way hop number =
-    record { wants = seek_wants t number; looked = true; number = number; place = (step_on way hop).number; hop = hop }
+    record { wants = seek_wants t number; looked = Some number; place = (step_on way hop).number; hop = hop }
 
 -- from a number, through the nodes that are left of the way from a hop on, to the data block; "Inside a node, number 0 .. [is a hole]"
 unfoldable pub follow_fetch : Kept → List Step → ℕ → ℕ → Fetch
@@ -62,8 +68,10 @@ next_fetch t inode index hop block = follow_fetch t (way_to inode index) (hop + 
 
 -- ---- what it means
 
-abbrev pub looked_up : Bool → ℕ → Seen → Seen
-looked_up looked number s = choose looked (saw_node number s) s
+-- the node that was looked up, if one was
+abbrev pub looked_up : Option ℕ → Seen → Seen
+looked_up (Some number) s = saw_node number s
+looked_up None s = s
 
 -- what follows the node at a hop of the way, where `g` follows the data block
 abbrev pub after_hop : Kept → ℕ → List Step → ℕ → (Fetched → Walk (Outcome Block)) → List ℕ → Walk (Outcome Block)
@@ -72,7 +80,7 @@ after_hop t ino way hop g block =
 
 unfoldable pub fetching : Kept → ℕ → List Step → (Fetched → Walk (Outcome Block)) → Seen → Fetch → Asking Ending
 fetching t ino way g s f =
-    wanting t (sought f.number ino f.place) (after_hop t ino way f.hop g) g (looked_up f.looked f.number s) f.wants
+    wanting t (sought (unwrap_or f.looked 0) ino f.place) (after_hop t ino way f.hop g) g (looked_up f.looked s) f.wants
 
 -- where a node is wanted, its hop is one of the way's
 abbrev pub HopIn : Fetch → Type 0

@@ -4,18 +4,18 @@ use mathlib.Core.Path.{◌≡◌, refl}
 use mathlib.Core.Bool.{Bool, true, false, ◌&&◌, not}
 use mathlib.Core.List.{List}
 use borrow.Author.Tests.{not-true, not-false}
+use Rattle.std.specs.Prelude.{Option, None}
 use Rattle.field.specs.Choice.{choose}
 use Rattle.field.proofs.Choosing.{clash}
 use Rattle.superblock.specs.declared.Areas.{Areas}
 use Rattle.superblock.specs.declared.Superblock.{Superblock}
-use Rattle.superblock.specs.declared.Found.TheVariants.{Refused}
+use Rattle.superblock.specs.Areas.{Refused, accepted}
 use Rattle.superblock.specs.Superblock.{copy_of, superblock_of, passes}
-use Rattle.superblock.specs.Areas.{accepted}
 use Rattle.checkpoint.specs.Checkpoint.{checkpoint_of}
 use Rattle.checkpoint.specs.Pack.{first_passes, last_passes, newer, second_pack}
 use Rattle.checkpoint.specs.Volume.{header_readable, volume_of}
 use Rattle.asking.specs.Asking.{Asking, ask}
-use Rattle.asking.specs.Open.{Opens, refuses, Tried, failed, tried_by, last_of, journal_came, journal_ask, choose_pack, two_last, two_first, two_ask}
+use Rattle.asking.specs.Open.{Opens, refuses, tried_by, last_of, journal_came, journal_ask, choose_pack, two_last, two_first, two_ask}
 use Rattle.asking.specs.Open.{one_last, one_first, areas_ask, first_copy_after, second_copy_after}
 use Rattle.asking.specs.Pull.{Ending}
 
@@ -48,38 +48,38 @@ module _ (k : Opens → Asking Ending) where
       unfolding one_first
       one_passes p = rw p
 
-      pub one_fails : first_passes first ≡ false → one_first k a first ≡ two_ask k a failed
+      pub one_fails : first_passes first ≡ false → one_first k a first ≡ two_ask k a None
       unfolding one_first
       one_fails p = rw p
 
-      pub two_passes : (one : Tried) → first_passes first ≡ true
+      pub two_passes : (one : Option (List ℕ)) → first_passes first ≡ true
           → two_first k a one first ≡ ask (last_of (second_pack a.checkpoint) first) (two_last k a one first)
       unfolding two_first
       two_passes one p = rw p
 
-      pub two_fails : (one : Tried) → first_passes first ≡ false → two_first k a one first ≡ choose_pack k a one failed
+      pub two_fails : (one : Option (List ℕ)) → first_passes first ≡ false → two_first k a one first ≡ choose_pack k a one None
       unfolding two_first
       two_fails one p = rw p
 
     -- ---- which pack is chosen, by whether the first one passes
     module _ (one two : List ℕ) where
-      pub none_passes : (p : Bool) → p ≡ false → choose_pack k a (tried_by p one) failed ≡ k (refuses 7)
+      pub none_passes : (p : Bool) → p ≡ false → choose_pack k a (tried_by p one) None ≡ k (refuses 7)
       unfolding choose_pack
       none_passes p e = rw e
 
-      pub first_alone : (p : Bool) → p ≡ true → choose_pack k a (tried_by p one) failed ≡ journal_ask k a a.checkpoint one
+      pub first_alone : (p : Bool) → p ≡ true → choose_pack k a (tried_by p one) None ≡ journal_ask k a a.checkpoint one
       unfolding choose_pack
       first_alone p e = rw e
 
       -- the second one's last block fails
-      pub last_fails : (tried : Tried) (last : List ℕ) → last_passes last (checkpoint_of two).checkpoint_ver ≡ false
-          → two_last k a tried two last ≡ choose_pack k a tried failed
+      pub last_fails : (tried : Option (List ℕ)) (last : List ℕ) → last_passes last (checkpoint_of two).checkpoint_ver ≡ false
+          → two_last k a tried two last ≡ choose_pack k a tried None
       last_fails tried last e = rw e
 
       -- it passes: the first one stays if it passes and the second isn't newer
       module _ (last : List ℕ) (e : last_passes last (checkpoint_of two).checkpoint_ver ≡ true) where
         pub first_stays : (p : Bool) → (p && not (newer (checkpoint_of one) (checkpoint_of two))) ≡ true
-            → two_last k a (tried_by p one) two last ≡ choose_pack k a (tried_by p one) failed
+            → two_last k a (tried_by p one) two last ≡ choose_pack k a (tried_by p one) None
         unfolding choose_pack
         first_stays true h = rw (e, not-true (newer (checkpoint_of one) (checkpoint_of two)) h)
         first_stays false h = absurd (clash h refl)

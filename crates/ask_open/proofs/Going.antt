@@ -6,9 +6,10 @@ use mathlib.Core.List.{List}
 use Rattle.field.specs.Choice.{choose}
 use Rattle.superblock.specs.declared.Areas.{Areas}
 use Rattle.superblock.specs.declared.Superblock.{Superblock}
-use Rattle.superblock.specs.declared.Found.TheVariants.{At}
+use Rattle.answer.specs.declared.Refusal.{Refusal}
+use Rattle.answer.specs.Number.{refusal_number}
+use Rattle.superblock.specs.Areas.{At, accepted}
 use Rattle.superblock.specs.Superblock.{copy_of, passes}
-use Rattle.superblock.specs.Areas.{accepted}
 use Rattle.checkpoint.specs.declared.Checkpoint.{Checkpoint}
 use Rattle.checkpoint.specs.declared.Volume.{Volume}
 use Rattle.checkpoint.specs.Checkpoint.{checkpoint_of}
@@ -30,7 +31,7 @@ abbrev opening : Stage → ℕ → Volume → Keep → Opening
 opening stage block volume keep = record { stage = stage; block = block; volume = volume; keep = keep }
 
 module _ (k : Opens → Asking Ending) (blocks : ℕ) (first second bytes : List ℕ) where
-  pub goes_refused : (o : Opening) (n : ℕ) → o.stage ≡ Refused n → open_goes k blocks first second bytes o ≡ k (refuses n)
+  pub goes_refused : (o : Opening) (n : Refusal) → o.stage ≡ Refused n → open_goes k blocks first second bytes o ≡ k (refuses (refusal_number n))
   unfolding open_goes
   goes_refused o n e = rw e
 

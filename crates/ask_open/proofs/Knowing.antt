@@ -9,9 +9,9 @@ use lib.Dec.{eqb}
 use Rattle.field.proofs.Choosing.{either, clash, needed}
 use Rattle.superblock.specs.declared.Areas.{Areas}
 use Rattle.superblock.specs.declared.Superblock.{Superblock}
-use Rattle.superblock.specs.declared.Found.TheVariants.{At}
+use Rattle.answer.specs.declared.Refusal.{Refusal}
+use Rattle.superblock.specs.Areas.{At, areas_of, accepted}
 use Rattle.superblock.specs.Superblock.{fields_pass, passes, superblock_of, end_of}
-use Rattle.superblock.specs.Areas.{areas_of, accepted}
 use Rattle.superblock.proofs.Passing.{passes_in}
 use Rattle.checkpoint.specs.declared.Checkpoint.{Checkpoint}
 use Rattle.checkpoint.specs.declared.Volume.{Volume}
@@ -57,7 +57,7 @@ module _ (first : List ℕ) where
   has_passed true e h = h
   has_passed false e h = absurd (clash e refl)
 
-pub knows_refused : (first second bytes : List ℕ) (o : Opening) {n : ℕ} → o.stage ≡ Refused n → OpeningIn first second bytes o
+pub knows_refused : (first second bytes : List ℕ) (o : Opening) {n : Refusal} → o.stage ≡ Refused n → OpeningIn first second bytes o
 knows_refused first second bytes o e = rw e tt
 
 -- the map and the journal of a pack whose maps are readable

@@ -1,5 +1,6 @@
 -- What is left of opening when a block comes, by the stage that it is asked for in, and where opening goes then.
 use Rattle.std.specs.Prelude.{ℕ, ◌+◌, ◌*◌, ◌%◌, ◌≤◌, ◌<◌, ◌≡◌, Bool, true, false, List}
+use Rattle.answer.specs.Number.{refusal_number}
 use Rattle.superblock.specs.declared.Areas.{Areas}
 use Rattle.checkpoint.specs.declared.Volume.{Volume}
 use Rattle.checkpoint.specs.Checkpoint.{checkpoint_of}
@@ -22,7 +23,7 @@ open_came k blocks v first second OneLast l = one_last k v.areas first l
 open_came k blocks v first second (TwoFirst passed) l = two_first k v.areas (tried_by passed first) l
 open_came k blocks v first second (TwoLast passed) l = two_last k v.areas (tried_by passed first) second l
 open_came k blocks v first second Journal l = journal_came k v first l
-open_came k blocks v first second (Refused n) l = k (refuses n)
+open_came k blocks v first second (Refused refusal) l = k (refuses (refusal_number refusal))
 
 -- a stage that asks for a block, or the refusal
 abbrev pub stage_ask : (Opens → Asking Ending) → ℕ → Volume → List ℕ → List ℕ → ℕ → Stage → Asking Ending
@@ -33,7 +34,7 @@ stage_ask k blocks v first second b OneLast = ask b (open_came k blocks v first 
 stage_ask k blocks v first second b (TwoFirst passed) = ask b (open_came k blocks v first second (TwoFirst passed))
 stage_ask k blocks v first second b (TwoLast passed) = ask b (open_came k blocks v first second (TwoLast passed))
 stage_ask k blocks v first second b Journal = ask b (open_came k blocks v first second Journal)
-stage_ask k blocks v first second b (Refused n) = k (refuses n)
+stage_ask k blocks v first second b (Refused refusal) = k (refuses (refusal_number refusal))
 
 -- ---- which blocks are kept, of the one that came
 
@@ -79,7 +80,7 @@ StageIn v first second (TwoFirst passed) = AreasFit v.areas × IfPassed passed f
 StageIn v first second (TwoLast passed) = AreasFit v.areas × IfPassed passed first × PackFits second
 StageIn v first second Journal =
     AreasFit v.areas × (v.nat_map + 32 * v.areas.nat_segments ≤ 4092) × (v.journal_at ≤ 3584)
-StageIn v first second (Refused n) = Unit {0}
+StageIn v first second (Refused refusal) = Unit {0}
 
 abbrev pub OpeningIn : List ℕ → List ℕ → List ℕ → Opening → Type 0
 OpeningIn first second bytes o =

@@ -2,20 +2,24 @@
 // What each means is in specs/: Came.
 #![tactic(auto)]
 
-ghost use Rattle.std.specs.Prelude.{◌≡◌, true, List, ℕ, ◌≤◌, length, drop};
+ghost use Rattle.std.specs.Prelude.{◌≡◌, true, List, ℕ, ◌≤◌, length, drop, None};
 ghost use Rattle.field.specs.Choice.{choose};
 ghost use Rattle.superblock.specs.Superblock.{fields_pass};
 ghost use Rattle.superblock.specs.Areas.{accepted};
 ghost use Rattle.checkpoint.specs.Pack.{second_pack};
 ghost use Rattle.checkpoint.specs.Volume.{journal_readable};
 ghost use Rattle.asking.specs.Asking.{Asking};
-ghost use Rattle.asking.specs.Open.{Opens, tried_by, failed, first_copy_after, second_copy_after, areas_ask, one_first, one_last};
+ghost use Rattle.asking.specs.Open.{Opens, tried_by, first_copy_after, second_copy_after, areas_ask, one_first, one_last};
 ghost use Rattle.asking.specs.Open.{two_first, two_last, choose_pack, journal_ask};
 ghost use Rattle.asking.specs.Pull.{Ending};
 ghost use Rattle.ask_open.specs.Came.{open_goes, first_after, AreasFit, PackFits, IfPassed, OpeningIn};
 
+use answer::Refusal;
+use checkpoint::Volume;
+use superblock::{Areas, Superblock};
+
 // What a block is asked for: the first copy of the superblock or the second, a pack's first or last block (of the second pack with whether
-// the first one passed), the journal's block. Or the answer that refuses the card.
+// the first one passed), the journal's block. Or why the card is refused.
 #[derive(Clone, Copy)]
 pub enum Stage {
     FirstCopy,
@@ -25,7 +29,7 @@ pub enum Stage {
     TwoFirst(bool),
     TwoLast(bool),
     Journal,
-    Refused(u32),
+    Refused(Refusal),
 }
 
 // Which block is kept: none, the one that came, as the first pack's or as the second one's; or the second pack's, as the chosen one's.
@@ -42,15 +46,15 @@ pub enum Keep {
 pub struct Opening {
     pub stage: Stage,
     pub block: u32,
-    pub volume: checkpoint::Volume,
+    pub volume: Volume,
     pub keep: Keep,
 }
 
 // A volume of which only the areas are known yet.
-fn with_areas(areas: superblock::Areas) -> checkpoint::Volume
+fn with_areas(areas: Areas) -> Volume
     ensures { result.areas ≡ areas }
 {
-    checkpoint::Volume {
+    Volume {
         areas,
         pack: 0,
         total: 0,
@@ -62,8 +66,8 @@ fn with_areas(areas: superblock::Areas) -> checkpoint::Volume
 }
 
 // No volume yet.
-pub fn no_volume() -> checkpoint::Volume {
-    with_areas(superblock::Areas {
+pub fn no_volume() -> Volume {
+    with_areas(Areas {
         checkpoint: 0,
         sit: 0,
         sit_segments: 0,
@@ -77,31 +81,31 @@ pub fn no_volume() -> checkpoint::Volume {
     })
 }
 
-fn refuse(answer: u32) -> Opening
-    ensures { (result.stage ≡ Stage.Refused answer) × (result.keep ≡ Keep.Nothing) }
+fn refuse(refusal: Refusal) -> Opening
+    ensures { (result.stage ≡ Stage.Refused refusal) × (result.keep ≡ Keep.Nothing) }
 {
     Opening {
-        stage: Stage::Refused(answer),
+        stage: Stage::Refused(refusal),
         block: 0,
         volume: no_volume(),
         keep: Keep::Nothing,
     }
 }
 
-// A copy passed: its areas, or 6.
-fn copy_passed(blocks: u32, s: superblock::Superblock) -> Opening
+// A copy passed: its areas, unless the card is refused.
+fn copy_passed(blocks: u32, s: Superblock) -> Opening
     requires { fields_pass blocks s ≡ true }
     ensures result_value { (k : Opens → Asking Ending) (first second bytes : List ℕ) → open_goes k blocks first second bytes result ≡ areas_ask k (accepted s) }
     ensures by_index { (first second bytes : List ℕ) → OpeningIn first second bytes result }
 {
     match superblock::accept(s) {
-        superblock::Found::At(areas) => Opening {
+        Ok(areas) => Opening {
             stage: Stage::OneFirst,
             block: areas.checkpoint,
             volume: with_areas(areas),
             keep: Keep::Nothing,
         },
-        superblock::Found::Refused(number) => refuse(number),
+        Err(refusal) => refuse(refusal),
     }
 }
 
@@ -113,10 +117,10 @@ pub fn copy_came(blocks: u32, second_copy: bool, bytes: &[u8]) -> Opening
     ensures by_index { (first second : List ℕ) → OpeningIn first second bytes.now result }
 {
     match superblock::try_copy(bytes, blocks as u64) {
-        superblock::Tried::Passed(s) => copy_passed(blocks, s),
-        superblock::Tried::Failed => {
+        Some(s) => copy_passed(blocks, s),
+        None => {
             if second_copy {
-                return refuse(answer::NO_SUPERBLOCK);
+                return refuse(Refusal::NoSuperblock);
             }
             Opening {
                 stage: Stage::SecondCopy,
@@ -128,16 +132,17 @@ pub fn copy_came(blocks: u32, second_copy: bool, bytes: &[u8]) -> Opening
     }
 }
 
-// The second pack starts 512 blocks on.
-fn second_pack(areas: superblock::Areas) -> u32
+// The second pack starts 512 blocks on. That areas and blocks fit stays a clause here and below: they are those of C's struct, so that a
+// type with the fact would be built and taken apart at each step, which is no plainer.
+fn second_pack(areas: Areas) -> u32
     requires { AreasFit areas }
     ensures { result ≡ second_pack areas.checkpoint }
 {
     areas.checkpoint + 512
 }
 
-// A pack is chosen, by its first block: its journal's block, or 8.
-fn choose_pack(areas: superblock::Areas, start: u32, first: &[u8], keep: Keep) -> Opening
+// A pack is chosen, by its first block: its journal's block, unless the pack is unreadable.
+fn choose_pack(areas: Areas, start: u32, first: &[u8], keep: Keep) -> Opening
     requires areas_fit { AreasFit areas × (start ≤ second_pack areas.checkpoint) }
     requires first_len { (length first.now ≡ 4096) × PackFits first.now }
     ensures result_value { (k : Opens → Asking Ending) (blocks : ℕ) (one second bytes : List ℕ) → first_after keep one second bytes ≡ first.now
@@ -146,7 +151,7 @@ fn choose_pack(areas: superblock::Areas, start: u32, first: &[u8], keep: Keep) -
 {
     let cp = checkpoint::checkpoint_of(first);
     if !checkpoint::header_readable(areas, cp) {
-        return refuse(answer::UNREADABLE);
+        return refuse(Refusal::Unreadable);
     }
     let volume = checkpoint::volume_of(areas, start, cp);
     Opening {
@@ -157,21 +162,22 @@ fn choose_pack(areas: superblock::Areas, start: u32, first: &[u8], keep: Keep) -
     }
 }
 
-// The second pack doesn't pass: the first one is chosen if it does, else 7.
-fn choose_first(areas: superblock::Areas, passed: bool, first: &[u8]) -> Opening
+// The second pack doesn't pass: the first one is chosen, if it does. Its bytes stay a reader's whether it passed or not (C's fixed memory):
+// so a flag stands beside them, and no Option.
+fn choose_first(areas: Areas, passed: bool, first: &[u8]) -> Opening
     requires { AreasFit areas × (length first.now ≡ 4096) × IfPassed passed first.now }
     ensures result_value { (k : Opens → Asking Ending) (blocks : ℕ) (second bytes : List ℕ)
-        → open_goes k blocks first.now second bytes result ≡ choose_pack k areas (tried_by passed first.now) failed }
+        → open_goes k blocks first.now second bytes result ≡ choose_pack k areas (tried_by passed first.now) None }
     ensures by_index { (second bytes : List ℕ) → OpeningIn first.now second bytes result }
 {
     if !passed {
-        return refuse(answer::NO_CHECKPOINT);
+        return refuse(Refusal::NoCheckpoint);
     }
     choose_pack(areas, areas.checkpoint, first, Keep::Nothing)
 }
 
 // The first pack's first block came.
-pub fn one_first_came(v: checkpoint::Volume, bytes: &[u8]) -> Opening
+pub fn one_first_came(v: Volume, bytes: &[u8]) -> Opening
     requires { AreasFit v.areas × (length bytes.now ≡ 4096) }
     ensures result_value { (k : Opens → Asking Ending) (blocks : ℕ) (first second : List ℕ)
         → open_goes k blocks first second bytes.now result ≡ one_first k v.areas bytes.now }
@@ -196,7 +202,7 @@ pub fn one_first_came(v: checkpoint::Volume, bytes: &[u8]) -> Opening
 }
 
 // Its last block came.
-pub fn one_last_came<'a>(v: checkpoint::Volume, first: &'a [u8], bytes: &[u8]) -> Opening
+pub fn one_last_came<'a>(v: Volume, first: &'a [u8], bytes: &[u8]) -> Opening
     requires areas_fit { AreasFit v.areas × PackFits first.now }
     requires first_len { (length first.now ≡ 4096) × (length bytes.now ≡ 4096) }
     ensures result_value { (k : Opens → Asking Ending) (blocks : ℕ) (second : List ℕ)
@@ -215,12 +221,7 @@ pub fn one_last_came<'a>(v: checkpoint::Volume, first: &'a [u8], bytes: &[u8]) -
 }
 
 // The second pack's first block came.
-pub fn two_first_came<'a>(
-    v: checkpoint::Volume,
-    passed: bool,
-    first: &'a [u8],
-    bytes: &[u8],
-) -> Opening
+pub fn two_first_came<'a>(v: Volume, passed: bool, first: &'a [u8], bytes: &[u8]) -> Opening
     requires areas_fit { AreasFit v.areas × IfPassed passed first.now }
     requires first_len { (length first.now ≡ 4096) × (length bytes.now ≡ 4096) }
     ensures result_value { (k : Opens → Asking Ending) (blocks : ℕ) (second : List ℕ)
@@ -243,7 +244,7 @@ pub fn two_first_came<'a>(
 
 // Its last block came: which pack is chosen.
 pub fn two_last_came<'a>(
-    v: checkpoint::Volume,
+    v: Volume,
     passed: bool,
     first: &'a [u8],
     second: &'a [u8],
@@ -270,7 +271,7 @@ pub fn two_last_came<'a>(
 }
 
 // Whether the journal's block, which came, has a readable one.
-pub fn journal_readable(v: checkpoint::Volume, bytes: &[u8]) -> bool
+pub fn journal_readable(v: Volume, bytes: &[u8]) -> bool
     requires { (length bytes.now ≡ 4096) × (v.journal_at ≤ 3584) }
     ensures { result ≡ journal_readable (drop v.journal_at bytes.now) }
 {

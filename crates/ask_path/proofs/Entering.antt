@@ -5,23 +5,22 @@ use lib.Dec.{eqb}
 use mathlib.Core.Path.{◌≡◌, refl, sym, ap, ◌∙◌}
 use mathlib.Core.Bool.{Bool, true, false}
 use mathlib.Core.List.{List}
+use Rattle.std.specs.Prelude.{Option, Some, None}
+use Rattle.answer.specs.declared.Stop.TheVariants.{NoNode, NodeOutside}
 use Rattle.field.specs.Choice.{choose}
-use Rattle.nat.specs.declared.InJournal.{InJournal}
-use Rattle.nat.specs.declared.InJournal.TheVariants as j
-use Rattle.nat.specs.declared.TableAnswer.TheVariants.{OutOfRange, Entry}
+use Rattle.nat.specs.declared.Entry as e
 use Rattle.nat.specs.Entry.{in_journal}
-use Rattle.nat.specs.Table.{in_range}
+use Rattle.nat.specs.Table.{Entry, in_range}
 use Rattle.walk.specs.Walk.{Seen, saw_node, and_then}
 use Rattle.node.specs.Node.{Bounds, bounds_of, in_main, at_entry}
 use Rattle.asking.specs.Table.{Kept, asking}
 use Rattle.asking.specs.Pull.{came}
 use Rattle.ask_node.specs.declared.Wants.{Wants}
 use Rattle.ask_node.specs.declared.Wants.TheVariants as w
-use Rattle.ask_node.specs.Wants.{entry_wants, journal_wants, seek_wants, sought, wanting}
-use Rattle.ask_node.proofs.Wanting.{stop_asked, entry_wanted, seek_wanted}
+use Rattle.ask_node.specs.Wants.{entry_wants, journal_wants, seek_wants, sought}
+use Rattle.ask_node.proofs.Wanting.{entry_wanted, seek_wanted}
 use Rattle.ask_directory.specs.declared.Spot.{Spot}
 use Rattle.ask_directory.specs.declared.Target.{Target}
-use Rattle.ask_directory.specs.declared.Goes.TheVariants.{Stop}
 use Rattle.ask_directory.specs.declared.Move.{Move}
 use Rattle.ask_directory.specs.Left.{Question, bounds_in, names_from, names_at, names_then, node_then, data_then}
 use Rattle.ask_directory.specs.Move.{wants_by, goes_by, moved, goes_on, IsNode, GoesIn, MoveIn}
@@ -33,13 +32,13 @@ ForNode (w.Table b) = Unit {0}
 ForNode (w.Node b table_inode) = Unit {0}
 ForNode (w.Data b) = ⊥
 ForNode w.Hole = ⊥
-ForNode (w.Stop number) = Unit {0}
+ForNode (w.Stop reason) = Unit {0}
 
 entry_for_node : (m : Bounds) (i a : ℕ) → ForNode (entry_wants m i a)
 unfolding entry_wants
 entry_for_node m i a = go (eqb a 0) (in_main m a)
   where
-    go : (zero inside : Bool) → ForNode (choose zero (w.Stop 9) (choose inside (w.Node a i) (w.Stop 10)))
+    go : (zero inside : Bool) → ForNode (choose zero (w.Stop NoNode) (choose inside (w.Node a i) (w.Stop NodeOutside)))
     go true inside = tt
     go false true = tt
     go false false = tt
@@ -48,11 +47,11 @@ seek_for_node : (t : Kept) (number : ℕ) → ForNode (seek_wants t number)
 unfolding seek_wants
 seek_for_node t number = go (in_range t.volume number)
   where
-    by : (said : InJournal) → ForNode (journal_wants t number said)
-    by (j.Held i a) = entry_for_node (bounds_of t.volume) i a
-    by j.Absent = tt
+    by : (said : Option e.Entry) → ForNode (journal_wants t number said)
+    by (Some entry) = entry_for_node (bounds_of t.volume) entry.inode entry.address
+    by None = tt
 
-    go : (inside : Bool) → ForNode (choose inside (journal_wants t number (in_journal t.journal number)) (w.Stop 9))
+    go : (inside : Bool) → ForNode (choose inside (journal_wants t number (in_journal t.journal number)) (w.Stop NoNode))
     go true = by (in_journal t.journal number)
     go false = tt
 
@@ -64,7 +63,7 @@ goes_wanted q block n p s (w.Table b) h = refl
 goes_wanted q block n p s (w.Node b table_inode) h = refl
 goes_wanted q block n p s (w.Data b) h = absurd h
 goes_wanted q block n p s w.Hole h = absurd h
-goes_wanted q block n p s (w.Stop number) h = refl
+goes_wanted q block n p s (w.Stop reason) h = refl
 
 -- and for an inode nothing has to be known of the spot
 goes_in : (path : List ℕ) (index : ℕ) (block : List ℕ) (number place at : ℕ) (p : Spot) (wants : Wants) → ForNode wants
@@ -73,14 +72,14 @@ goes_in path index block number place at p (w.Table b) h = (omega arith, λ n. a
 goes_in path index block number place at p (w.Node b table_inode) h = (omega arith, λ n. absurd (n refl))
 goes_in path index block number place at p (w.Data b) h = absurd h
 goes_in path index block number place at p w.Hole h = absurd h
-goes_in path index block number place at p (w.Stop number') h = tt
+goes_in path index block number place at p (w.Stop reason) h = tt
 
 -- ---- an inode is sought by its number
 abbrev pub enter_move : Kept → ℕ → ℕ → Move
 enter_move t ino at =
     record {
       goes = goes_on 0 (seek_wants t ino);
-      looked = true;
+      looked = Some ino;
       target = record { number = ino; place = 0; index = 0; hop = 0 };
       spot = record { ino = ino; name_at = at; level = 0; block = 0 };
     }
@@ -101,10 +100,7 @@ enter_in t ino at path index block =
 
 -- ---- the table entry of a node came
 abbrev pub entry_move : Bounds → ℕ → ℕ → Target → Spot → Move
-entry_move m i a n p = record { goes = goes_on 0 (entry_wants m i a); looked = false; target = n; spot = p }
-
-abbrev pub no_entry_move : Target → Spot → Move
-no_entry_move n p = record { goes = Stop 9; looked = false; target = n; spot = p }
+entry_move m i a n p = record { goes = goes_on 0 (entry_wants m i a); looked = None; target = n; spot = p }
 
 module _ (q : Question) (inode : List ℕ) (n : Target) (p : Spot) (s : Seen) where
   pub entry_moved : (i a : ℕ) → moved q inode s (entry_move (bounds_in q) i a n p)
@@ -114,16 +110,11 @@ module _ (q : Question) (inode : List ℕ) (n : Target) (p : Spot) (s : Seen) wh
       goes_wanted q inode n p s (entry_wants (bounds_in q) i a) (entry_for_node (bounds_in q) i a)
       ∙ entry_wanted q.kept (sought n.number p.ino n.place) (node_then q p inode n.index n.hop) (data_then q p inode (names_at q p)) s i a
 
-  pub no_entry_moved : moved q inode s (no_entry_move n p)
-      ≡ asking q.kept came s (and_then (at_entry (bounds_in q) n.number p.ino n.place OutOfRange) (node_then q p inode n.index n.hop))
-  unfolding moved goes_by wanting at_entry
-  no_entry_moved = sym (stop_asked q.kept s (node_then q p inode n.index n.hop) 9)
-
 pub entry_is_node : (m : Bounds) (i a : ℕ) → IsNode (goes_on 0 (entry_wants m i a))
 unfolding entry_wants
 entry_is_node m i a = go (eqb a 0) (in_main m a)
   where
-    go : (zero inside : Bool) → IsNode (goes_on 0 (choose zero (w.Stop 9) (choose inside (w.Node a i) (w.Stop 10))))
+    go : (zero inside : Bool) → IsNode (goes_on 0 (choose zero (w.Stop NoNode) (choose inside (w.Node a i) (w.Stop NodeOutside))))
     go true inside = tt
     go false true = tt
     go false false = tt

@@ -3,6 +3,9 @@ use Prim.Native.Nat.{ℕ}
 use mathlib.Core.Path.{◌≡◌, refl, sym, ap, ◌∙◌}
 use mathlib.Core.Bool.{true, false}
 use mathlib.Core.List.{List, []}
+use Rattle.answer.specs.declared.Stop as r
+use Rattle.answer.specs.declared.Stop.TheVariants.{PastEnd, KindNotRead}
+use Rattle.answer.specs.Number.{stop_number}
 use Rattle.walk.specs.Walk.{Seen, Walk, done, Outcome, stop, and_then}
 use Rattle.inode.specs.declared.Inode.{Inode}
 use Rattle.inode.specs.Inode.{inode_of, has_inline_data, is_regular, addresses_in, is_past, count_in}
@@ -29,19 +32,19 @@ module _ (q : Question) (p : Spot) (inode : List ℕ) (s : Seen) (e : names_at q
   unfolding inode_then
   to_file f = ap from_inode e ∙ ap (asking q.kept came s) f
 
-  refused : (number : ℕ) → at_file (bounds_in q) q.index p.ino inode ≡ done (stop number)
-      → moved q inode s (no_target p (Stop number)) ≡ from_inode (names_at q p)
+  refused : (reason : r.Stop) → at_file (bounds_in q) q.index p.ino inode ≡ done (stop (stop_number reason))
+      → moved q inode s (no_target p (Stop reason)) ≡ from_inode (names_at q p)
   unfolding asking
-  refused number f = stop_moved q inode s p number ∙ sym (to_file f)
+  refused reason f = stop_moved q inode s p reason ∙ sym (to_file f)
 
   module _ {i : Inode} (read : i ≡ inode_of inode) where
-    pub kind_came : is_regular i ≡ false → moved q inode s (no_target p (Stop 12)) ≡ asking q.kept came s (inode_then q p.ino (names_at q p) inode)
-    kind_came r = refused 12 (file_other (bounds_in q) q.index p.ino inode read r)
+    pub kind_came : is_regular i ≡ false → moved q inode s (no_target p (Stop KindNotRead)) ≡ asking q.kept came s (inode_then q p.ino (names_at q p) inode)
+    kind_came r = refused KindNotRead (file_other (bounds_in q) q.index p.ino inode read r)
 
     module _ (regular : is_regular i ≡ true) where
       pub past_came : is_past i q.index ≡ true
-          → moved q inode s (no_target p (Stop 3)) ≡ asking q.kept came s (inode_then q p.ino (names_at q p) inode)
-      past_came past = refused 3 (file_past (bounds_in q) q.index p.ino inode read regular past)
+          → moved q inode s (no_target p (Stop PastEnd)) ≡ asking q.kept came s (inode_then q p.ino (names_at q p) inode)
+      past_came past = refused PastEnd (file_past (bounds_in q) q.index p.ino inode read regular past)
 
       module _ (count : ℕ) (inside : is_past i q.index ≡ false) (c : count ≡ count_in i q.index) where
         pub inline_came : has_inline_data i ≡ true

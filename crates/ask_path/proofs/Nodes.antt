@@ -5,6 +5,7 @@ use borrow.Author.Tests.{eq-eqb, ne_eqb}
 use mathlib.Core.Path.{◌≡◌, refl, sym, ap, ◌∙◌}
 use mathlib.Core.Bool.{true, false}
 use mathlib.Core.List.{List, []}
+use Rattle.answer.specs.declared.Stop.TheVariants.{ForeignNode}
 use Rattle.field.proofs.Choosing.{clash}
 use Rattle.walk.specs.Walk.{Seen, Walk, Outcome, and_then}
 use Rattle.inode.specs.Inode.{inode_of, count_in}
@@ -28,9 +29,9 @@ use Rattle.ask_directory.proofs.Fetches.{stop_moved, next_hops, hole_left, fetch
 -- ---- whether it belongs there
 module _ (q : Question) (number ino place table_inode : ℕ) (block : List ℕ) (s : Seen) (next : List ℕ → Walk (Outcome Block)) where
   pub foreign_came : (inode : List ℕ) (p : Spot) → belongs number ino place table_inode block ≡ false
-      → moved q inode s (no_target p (Stop 11)) ≡ asking q.kept came s (and_then (at_block number ino place table_inode block) next)
+      → moved q inode s (no_target p (Stop ForeignNode)) ≡ asking q.kept came s (and_then (at_block number ino place table_inode block) next)
   unfolding at_block
-  foreign_came inode p h = stop_moved q inode s p 11 ∙ rw h (sym (stop_asked q.kept s next 11))
+  foreign_came inode p h = stop_moved q inode s p ForeignNode ∙ rw h (sym (stop_asked q.kept s next 11))
 
   pub own_came : belongs number ino place table_inode block ≡ true
       → asking q.kept came s (and_then (at_block number ino place table_inode block) next) ≡ asking q.kept came s (next block)
@@ -54,7 +55,7 @@ is_hole_lem (w.Table b) e = absurd (clash e refl)
 is_hole_lem (w.Node b table_inode) e = absurd (clash e refl)
 is_hole_lem (w.Data b) e = absurd (clash e refl)
 is_hole_lem w.Hole e = refl
-is_hole_lem (w.Stop number) e = absurd (clash e refl)
+is_hole_lem (w.Stop reason) e = absurd (clash e refl)
 
 no_hole : (wants : Wants) → is_empty (goes_on 0 wants) ≡ false → wants ≡ w.Hole → ⊥
 no_hole wants e h = clash (ap (λ (x : Wants). is_empty (goes_on 0 x)) h) e

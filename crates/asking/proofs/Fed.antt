@@ -2,41 +2,37 @@
 use Prim.Native.Nat.{ℕ, ◌≤◌}
 use mathlib.Core.Path.{◌≡◌, refl, ◌∙◌}
 use mathlib.Core.Bool.{Bool, true, false, ◌&&◌}
+use mathlib.Core.List.{List}
+use Rattle.std.proofs.Common.{Option, Some, None}
 use Rattle.field.specs.Number.{le16}
 use Rattle.field.specs.Card.{Card}
 use Rattle.field.specs.Choice.{choose}
 use Rattle.superblock.specs.declared.Areas.{Areas}
-use Rattle.superblock.specs.declared.Found.{Found}
-use Rattle.superblock.specs.declared.Found.TheVariants as f
+use Rattle.superblock.specs.Areas as f
 use Rattle.superblock.specs.Superblock.{copy_passes}
-use Rattle.superblock.specs.Areas.{accepted_copy, found}
+use Rattle.superblock.specs.Areas.{Found, accepted_copy, found}
 use Rattle.checkpoint.specs.declared.Volume.{Volume}
-use Rattle.checkpoint.specs.declared.Opening.{Opening}
-use Rattle.checkpoint.specs.declared.Opening.TheVariants.{Opened, Refused}
-use Rattle.checkpoint.specs.declared.Chosen.TheVariants as c
 use Rattle.checkpoint.specs.Checkpoint.{header_of}
 use Rattle.checkpoint.specs.Pack.{first_passes, last_passes, last_block, pack_passes, newer, second_pack, chosen}
-use Rattle.checkpoint.specs.Volume.{header_readable, volume_of, journal_of, journal_readable, open_pack, open_chosen, open_areas, opened}
-use Rattle.nat.specs.declared.InJournal.{InJournal}
-use Rattle.nat.specs.declared.InJournal.TheVariants.{Held, Absent}
-use Rattle.nat.specs.declared.TableAnswer.{TableAnswer}
-use Rattle.nat.specs.declared.TableAnswer.TheVariants.{OutOfRange}
+use Rattle.checkpoint.specs.Volume.{Opening, Opened, Refused, header_readable, volume_of, journal_of, journal_readable}
+use Rattle.checkpoint.specs.Volume.{open_pack, open_chosen, open_areas, opened}
+use Rattle.nat.specs.declared.Entry.{Entry}
 use Rattle.nat.specs.Entry.{in_journal}
-use Rattle.nat.specs.Table.{in_range, table_address, in_table, or_table, table_answer}
+use Rattle.nat.specs.Table.{TableAnswer, OutOfRange, in_range, table_address, in_table, or_table, table_answer}
 use Rattle.walk.specs.Walk.{Seen, saw_node, saw_block, Walk, done, look, read, Ran, run, view_of}
 use Rattle.asking.specs.Asking.{Asking, ask, fed}
 use Rattle.asking.specs.Table.{kept_of, address_for, or_ask, lookup, asking}
-use Rattle.asking.specs.Open.{Opens, opens, refuses, opens_of, Tried, failed, tried_by, journal_came, journal_ask, choose_pack}
+use Rattle.asking.specs.Open.{Opens, opens, refuses, opens_of, tried_by, journal_came, journal_ask, choose_pack}
 use Rattle.asking.specs.Open.{two_last, two_first, two_ask, one_last, one_first, areas_ask, second_copy_after, first_copy_after, open_ask}
 use Rattle.asking.proofs.Journal.{short_journal}
 
 -- ---- a walk
 module _ (card : Card) (v : Volume) (few : le16 (journal_of card v) 0 ≤ 38) where
-  fed_said : {A : Type 0} (n : ℕ) (k : TableAnswer → Asking A) (j : InJournal)
+  fed_said : {A : Type 0} (n : ℕ) (k : TableAnswer → Asking A) (j : Option Entry)
       → fed card.block (or_ask (kept_of card v) n k j) ≡ fed card.block (k (or_table j (in_table card v n)))
   unfolding fed in_table address_for table_address
-  fed_said n k (Held i a) = refl
-  fed_said n k Absent = refl
+  fed_said n k (Some entry) = refl
+  fed_said n k None = refl
 
   fed_lookup : {A : Type 0} (n : ℕ) (k : TableAnswer → Asking A)
       → fed card.block (lookup (kept_of card v) n k) ≡ fed card.block (k (table_answer card v n))
@@ -95,12 +91,12 @@ module _ {A : Type 0} (card : Card) (k : Opens → Asking A) where
 
     -- which pack, by what was tried
     fed_choose : (p q : Bool) → fed card.block (choose_pack k a (tried_by p (card.block one)) (tried_by q (card.block two)))
-        ≡ follows (open_chosen card a (choose p (choose (q && wins) (c.Pack two) (c.Pack one)) (choose q (c.Pack two) c.Nothing)))
+        ≡ follows (open_chosen card a (choose p (choose (q && wins) (Some two) (Some one)) (choose q (Some two) None)))
     unfolding choose_pack
     fed_choose true true = go wins
       where
         go : (n : Bool) → fed card.block (choose n (journal_ask k a two (card.block two)) (journal_ask k a one (card.block one)))
-            ≡ follows (open_chosen card a (choose n (c.Pack two) (c.Pack one)))
+            ≡ follows (open_chosen card a (choose n (Some two) (Some one)))
         go true = fed_journal two
         go false = fed_journal one
     fed_choose true false = fed_journal one
@@ -112,11 +108,11 @@ module _ {A : Type 0} (card : Card) (k : Opens → Asking A) where
     last_passes_lem start = last_passes (card.block (last_block card start)) (header_of card start).checkpoint_ver
 
     -- a pack is tried by its first block, and if that passes by its last one
-    fed_two : (t : Tried) → fed card.block (two_ask k a t) ≡ fed card.block (choose_pack k a t (tried_by (pack_passes card two) (card.block two)))
+    fed_two : (t : Option (List ℕ)) → fed card.block (two_ask k a t) ≡ fed card.block (choose_pack k a t (tried_by (pack_passes card two) (card.block two)))
     unfolding fed two_first pack_passes
     fed_two t = go (first_passes (card.block two))
       where
-        go : (p : Bool) → fed card.block (choose p (ask (last_block card two) (two_last k a t (card.block two))) (choose_pack k a t failed))
+        go : (p : Bool) → fed card.block (choose p (ask (last_block card two) (two_last k a t (card.block two))) (choose_pack k a t None))
             ≡ fed card.block (choose_pack k a t (tried_by (p && last_passes_lem two) (card.block two)))
         go true = refl
         go false = refl
@@ -125,7 +121,7 @@ module _ {A : Type 0} (card : Card) (k : Opens → Asking A) where
     unfolding fed one_first pack_passes
     fed_one = go (first_passes (card.block one))
       where
-        go : (p : Bool) → fed card.block (choose p (ask (last_block card one) (one_last k a (card.block one))) (two_ask k a failed))
+        go : (p : Bool) → fed card.block (choose p (ask (last_block card one) (one_last k a (card.block one))) (two_ask k a None))
             ≡ fed card.block (two_ask k a (tried_by (p && last_passes_lem one) (card.block one)))
         go true = refl
         go false = refl

@@ -3,14 +3,12 @@ use Prim.Native.Nat.{ℕ, ◌≤◌}
 use native.Mathlib.Omega.{arith}
 use mathlib.Core.Bool.{Bool, true, false}
 use mathlib.Core.List.{List, []}
+use Rattle.std.proofs.Common.{Option, Some, None}
 use lib.ListN.{length}
 use Rattle.field.specs.Choice.{choose}
-use Rattle.nat.specs.declared.InJournal.{InJournal}
-use Rattle.nat.specs.declared.InJournal.TheVariants.{Held, Absent}
-use Rattle.nat.specs.declared.TableAnswer.{TableAnswer}
-use Rattle.nat.specs.declared.TableAnswer.TheVariants.{OutOfRange, Entry}
+use Rattle.nat.specs.declared.Entry.{Entry}
 use Rattle.nat.specs.Entry.{in_journal}
-use Rattle.nat.specs.Table.{in_range, entry_in}
+use Rattle.nat.specs.Table.{TableAnswer, OutOfRange, answered, in_range, entry_in}
 use Rattle.list.proofs.Rises.{insert_more}
 use Rattle.walk.specs.Walk.{Seen, saw_node, saw_block, Walk, done, look, read, Ran, ran, Outcome}
 use Rattle.pull.specs.Walk.{Block}
@@ -30,9 +28,9 @@ module _ {A : Type 0} {P : ℕ → Type 0} {Q : A → Type 0} where
   pub few_asked : {n b : ℕ} {k : List ℕ → Asking A} → Few P Q n (ask b k) → (l : List ℕ) → (m : ℕ) × Few P Q m (k l)
   few_asked (asks {n = m} p h) l = (m, h l)
 
-  few_said : {n : ℕ} (t : Kept) (number : ℕ) (k : TableAnswer → Asking A) (j : InJournal) → Few P Q n (or_ask t number k j) → GoesOn P Q k
-  few_said {n = n} t number k (Held i a) h = (Entry i a, n, h)
-  few_said t number k Absent h = let later = few_asked h [] in (entry_in [] number, later.0, later.1)
+  few_said : {n : ℕ} (t : Kept) (number : ℕ) (k : TableAnswer → Asking A) (j : Option Entry) → Few P Q n (or_ask t number k j) → GoesOn P Q k
+  few_said {n = n} t number k (Some entry) h = (answered entry, n, h)
+  few_said t number k None h = let later = few_asked h [] in (entry_in [] number, later.0, later.1)
 
   few_looked : {n : ℕ} (t : Kept) (number : ℕ) (k : TableAnswer → Asking A) → Few P Q n (lookup t number k) → GoesOn P Q k
   unfolding lookup

@@ -3,11 +3,10 @@ use Prim.Native.Nat.{ℕ, zero, suc, ◌+◌, ◌≤◌}
 use native.Mathlib.Omega.{arith}
 use mathlib.Core.Path.{◌≡◌, refl, ap, ◌∙◌}
 use mathlib.Core.List.{List}
+use Rattle.std.proofs.Common.{Option, Some, None}
 use lib.ListN.{take}
 use lib.Seq.{get_or-take}
 use Rattle.field.specs.Number.{le16, le32}
-use Rattle.journal.specs.declared.Sought.{Sought}
-use Rattle.journal.specs.declared.Sought.TheVariants.{At, Absent}
 use Rattle.journal.specs.Journal.{entry_start, search_from, journal_find}
 use Rattle.journal.proofs.Searching.{found_inside}
 use Rattle.nat.specs.Entry.{held_at, in_journal}
@@ -32,11 +31,11 @@ module _ (l : List ℕ) where
     short_find n = rw (short16 0 (omega arith)) (short_search n (le16 l 0) 0 (omega arith))
 
     -- an entry's two numbers
-    short_held : (n : ℕ) (s : Sought) → journal_find 13 l n ≡ s → held_at (take 512 l) s ≡ held_at l s
-    short_held n (At at) e =
+    short_held : (n : ℕ) (s : Option ℕ) → journal_find 13 l n ≡ s → held_at (take 512 l) s ≡ held_at l s
+    short_held n (Some at) e =
         let inside : at + 13 ≤ entry_start 13 (le16 l 0) = found_inside 13 l n at e in
         rw (short32 (at + 4 + 1) (omega arith), short32 (at + 4 + 5) (omega arith))
-    short_held n Absent e = refl
+    short_held n None e = refl
 
     pub short_journal : (n : ℕ) → in_journal (take 512 l) n ≡ in_journal l n
     unfolding in_journal

@@ -6,11 +6,12 @@ use mathlib.Core.Bool.{Bool, true, false, ◌&&◌}
 use mathlib.Core.List.{List}
 use lib.ListN.{drop}
 use lib.Dec.{eqb}
+use Rattle.std.proofs.Common.{Option, Some, None}
 use Rattle.field.specs.Choice.{choose}
 use Rattle.field.proofs.Maps.{top_bit_lem}
 use Rattle.superblock.specs.declared.Areas.{Areas}
 use Rattle.superblock.specs.declared.Superblock.{Superblock}
-use Rattle.superblock.specs.declared.Found.TheVariants as f
+use Rattle.superblock.specs.Areas as f
 use Rattle.superblock.specs.Superblock.{copy_of, superblock_of, passes}
 use Rattle.superblock.specs.Areas.{areas_of, accepted, AreasIn}
 use Rattle.superblock.proofs.Finding.{passing}
@@ -23,7 +24,7 @@ use Rattle.nat.specs.Table.{in_range, table_block, nat_map_in}
 use Rattle.nat.proofs.Range.{block_in_range}
 use Rattle.asking.specs.Asking.{Asking, Few, asks}
 use Rattle.asking.specs.Table.{Kept, address_for}
-use Rattle.asking.specs.Open.{Opens, opens, refuses, Tried, passed, failed, tried_by, last_of, journal_came, journal_ask, choose_pack}
+use Rattle.asking.specs.Open.{Opens, opens, refuses, tried_by, last_of, journal_came, journal_ask, choose_pack}
 use Rattle.asking.specs.Open.{two_first, two_ask, one_first, areas_ask, second_copy_after, first_copy_after, open_ask}
 use Rattle.asking.proofs.Sizes.{few_le, few_if}
 
@@ -33,11 +34,11 @@ OpensIn blocks (opens t) = AreasIn blocks t.volume.areas
 OpensIn blocks (refuses n) = (5 ≤ n) × (n ≤ 8)
 
 -- a pack that was tried and passes has a total of 2 to 512
-abbrev Whole : Tried → Type 0
-Whole (passed first) = (2 ≤ (checkpoint_of first).cp_pack_total_block_count) × ((checkpoint_of first).cp_pack_total_block_count ≤ 512)
-Whole failed = Unit {0}
+abbrev Whole : Option (List ℕ) → Type 0
+Whole (Some first) = (2 ≤ (checkpoint_of first).cp_pack_total_block_count) × ((checkpoint_of first).cp_pack_total_block_count ≤ 512)
+Whole None = Unit {0}
 
-tried_whole : (t : Bool) (first : List ℕ) → Whole (passed first) → Whole (tried_by t first)
+tried_whole : (t : Bool) (first : List ℕ) → Whole (Some first) → Whole (tried_by t first)
 tried_whole true first w = w
 tried_whole false first w = tt
 
@@ -52,7 +53,7 @@ module _ {A : Type 0} {Q : A → Type 0} {n : ℕ} (blocks : ℕ) (least : 2 ≤
 
   -- ---- the packs
   module _ (a : Areas) (i : AreasIn blocks a) where
-    few_journal : (start : ℕ) (first : List ℕ) → start + 512 ≤ blocks → Whole (passed first) → On (suc n) (journal_ask k a start first)
+    few_journal : (start : ℕ) (first : List ℕ) → start + 512 ≤ blocks → Whole (Some first) → On (suc n) (journal_ask k a start first)
     unfolding journal_ask journal_came
     few_journal start first inside whole =
         few_if (header_readable a (checkpoint_of first))
@@ -69,15 +70,15 @@ module _ {A : Type 0} {Q : A → Type 0} {n : ℕ} (blocks : ℕ) (least : 2 ≤
     one_inside : a.checkpoint + 512 ≤ blocks
     one_inside = let h = two_inside in omega arith
 
-    few_choose : (one two : Tried) → Whole one → Whole two → On (suc n) (choose_pack k a one two)
+    few_choose : (one two : Option (List ℕ)) → Whole one → Whole two → On (suc n) (choose_pack k a one two)
     unfolding choose_pack
-    few_choose (passed one) (passed two) p q =
+    few_choose (Some one) (Some two) p q =
         few_if (newer (checkpoint_of one) (checkpoint_of two)) (λ _. few_journal _ two two_inside q) (λ _. few_journal _ one one_inside p)
-    few_choose (passed one) failed p q = few_journal _ one one_inside p
-    few_choose failed (passed two) p q = few_journal _ two two_inside q
-    few_choose failed failed p q = refusal (suc n) 7 (omega arith) (omega arith) (omega arith)
+    few_choose (Some one) None p q = few_journal _ one one_inside p
+    few_choose None (Some two) p q = few_journal _ two two_inside q
+    few_choose None None p q = refusal (suc n) 7 (omega arith) (omega arith) (omega arith)
 
-    few_two : (one : Tried) → Whole one → On (n + 3) (two_ask k a one)
+    few_two : (one : Option (List ℕ)) → Whole one → On (n + 3) (two_ask k a one)
     unfolding two_first
     few_two one p =
         few_le (n + 3) (omega arith)
@@ -87,7 +88,7 @@ module _ {A : Type 0} {Q : A → Type 0} {n : ℕ} (blocks : ℕ) (least : 2 ≤
         let total = first_total first h in
         asks {b = last_of (second_pack a.checkpoint) first} (let g = two_inside in omega arith) (λ last.
         few_choose one _ p (tried_whole (last_passes last (checkpoint_of first).checkpoint_ver) first total)))
-        (λ _. few_le (suc (suc n)) (omega arith) (few_choose one failed p tt))))
+        (λ _. few_le (suc (suc n)) (omega arith) (few_choose one None p tt))))
 
     few_one : On (n + 5) (areas_ask k (f.At a))
     unfolding one_first
@@ -99,7 +100,7 @@ module _ {A : Type 0} {Q : A → Type 0} {n : ℕ} (blocks : ℕ) (least : 2 ≤
         let total = first_total first h in
         asks {b = last_of a.checkpoint first} (let g = one_inside in omega arith) (λ last.
         few_two _ (tried_whole (last_passes last (checkpoint_of first).checkpoint_ver) first total)))
-        (λ _. few_le (suc (n + 3)) (omega arith) (few_two failed tt))))
+        (λ _. few_le (suc (n + 3)) (omega arith) (few_two None tt))))
 
   -- ---- the superblock
   few_accepted : (s : Superblock) → AreasIn blocks (areas_of s) → On (n + 5) (areas_ask k (accepted s))

@@ -5,13 +5,11 @@ use native.Mathlib.Nat.{suc-add, add-suc}
 use mathlib.Core.Path.{◌≡◌, refl}
 use mathlib.Core.Bool.{Bool, true, false}
 use lib.ListN.{length}
+use Rattle.std.proofs.Common.{Option, Some, None}
 use Rattle.field.specs.Choice.{choose}
-use Rattle.nat.specs.declared.InJournal.{InJournal}
-use Rattle.nat.specs.declared.InJournal.TheVariants.{Held, Absent}
-use Rattle.nat.specs.declared.TableAnswer.{TableAnswer}
-use Rattle.nat.specs.declared.TableAnswer.TheVariants.{OutOfRange, Entry}
+use Rattle.nat.specs.declared.Entry.{Entry}
 use Rattle.nat.specs.Entry.{in_journal}
-use Rattle.nat.specs.Table.{in_range, entry_in}
+use Rattle.nat.specs.Table.{TableAnswer, OutOfRange, answered, in_range, entry_in}
 use Rattle.list.proofs.Rises.{length_insert, rising_insert}
 use Rattle.walk.specs.Walk as w
 use Rattle.walk.specs.Walk.{Seen, saw_node, saw_block, Walk, Ran, ran, Within, BothRise}
@@ -36,10 +34,10 @@ module _ {A : Type 0} {P : ℕ → Type 0} {Q : A → Type 0} where
 
 -- ---- a walk: a lookup asks for one block at most, a read for one
 module _ {B : Type 0} {R : ℕ → Type 0} {S : B → Type 0} (t : Kept) (table : (n : ℕ) → in_range t.volume n ≡ true → R (address_for t n)) where
-  few_said : {n : ℕ} (number : ℕ) (k : TableAnswer → Asking B) (j : InJournal) → in_range t.volume number ≡ true
+  few_said : {n : ℕ} (number : ℕ) (k : TableAnswer → Asking B) (j : Option Entry) → in_range t.volume number ≡ true
       → ((e : TableAnswer) → Few R S n (k e)) → Few R S (suc n) (or_ask t number k j)
-  few_said {n = n} number k (Held i a) e h = few_le (suc n) (omega arith) (h (Entry i a))
-  few_said number k Absent e h = asks (table number e) (λ l. h (entry_in l number))
+  few_said {n = n} number k (Some entry) e h = few_le (suc n) (omega arith) (h (answered entry))
+  few_said number k None e h = asks (table number e) (λ l. h (entry_in l number))
 
   few_lookup : {n : ℕ} (number : ℕ) (k : TableAnswer → Asking B) → ((e : TableAnswer) → Few R S n (k e)) → Few R S (suc n) (lookup t number k)
   unfolding lookup

@@ -14,9 +14,7 @@ use Rattle.field.proofs.Blocks.{length_block}
 use Rattle.superblock.specs.Shape.{in_shape}
 use Rattle.superblock.specs.Areas.{AreasIn}
 use Rattle.checkpoint.specs.declared.Volume.{Volume}
-use Rattle.checkpoint.specs.declared.Opening.{Opening}
-use Rattle.checkpoint.specs.declared.Opening.TheVariants.{Opened, Refused}
-use Rattle.checkpoint.specs.Volume.{opened}
+use Rattle.checkpoint.specs.Volume.{Opening, Opened, Refused, opened}
 use Rattle.checkpoint.proofs.Inside.{volume_in}
 use Rattle.checkpoint.proofs.Ways.{shape_opens}
 use Rattle.path.specs.Path.{part_count, is_path}

@@ -1,18 +1,15 @@
 -- Opening as a tree: the superblock's copies, the two packs by their first and last blocks, the journal. `k` is what follows.
-use Rattle.std.specs.Prelude.{ℕ, ◌+◌, ◌-◌, Bool, true, false, List, drop}
+use Rattle.std.specs.Prelude.{ℕ, ◌+◌, ◌-◌, Bool, true, false, List, drop, Option, Some, None}
 use Rattle.field.specs.Card.{Card}
 use Rattle.field.specs.Choice.{choose}
 use Rattle.superblock.specs.declared.Areas.{Areas}
-use Rattle.superblock.specs.declared.Found.{Found}
-use Rattle.superblock.specs.declared.Found.TheVariants as f
+use Rattle.superblock.specs.Areas as f
 use Rattle.superblock.specs.Superblock.{copy_of, superblock_of, passes}
-use Rattle.superblock.specs.Areas.{accepted}
+use Rattle.superblock.specs.Areas.{Found, accepted}
 use Rattle.checkpoint.specs.declared.Volume.{Volume}
-use Rattle.checkpoint.specs.declared.Opening.{Opening}
-use Rattle.checkpoint.specs.declared.Opening.TheVariants.{Opened, Refused}
 use Rattle.checkpoint.specs.Checkpoint.{checkpoint_of}
 use Rattle.checkpoint.specs.Pack.{first_passes, last_passes, newer, second_pack}
-use Rattle.checkpoint.specs.Volume.{header_readable, volume_of, journal_readable}
+use Rattle.checkpoint.specs.Volume.{Opening, Opened, Refused, header_readable, volume_of, journal_readable}
 use Rattle.asking.specs.Asking.{Asking, ask}
 use Rattle.asking.specs.Table.{Kept, keeping, journal_in, kept_of}
 
@@ -27,13 +24,9 @@ opens_of card (Opened v) = opens (kept_of card v)
 opens_of card (Refused n) = refuses n
 
 -- a pack that was tried: its first block, if it passes
-pub data Tried : Type 0 where
-  passed : List ℕ → Tried
-  failed : Tried
-
-abbrev pub tried_by : Bool → List ℕ → Tried
-tried_by true first = passed first
-tried_by false first = failed
+abbrev pub tried_by : Bool → List ℕ → Option (List ℕ)
+tried_by true first = Some first
+tried_by false first = None
 
 -- "block total − 1" of a pack
 abbrev pub last_of : ℕ → List ℕ → ℕ
@@ -52,22 +45,22 @@ module _ {A : Type 0} (k : Opens → Asking A) where
       (ask (volume_of a start (checkpoint_of first)).journal_block (journal_came (volume_of a start (checkpoint_of first)) first)) (k (refuses 8))
 
   -- which pack, by what was tried; 7 is "no checkpoint pack passes"
-  unfoldable pub choose_pack : Areas → Tried → Tried → Asking A
-  choose_pack a (passed one) (passed two) =
+  unfoldable pub choose_pack : Areas → Option (List ℕ) → Option (List ℕ) → Asking A
+  choose_pack a (Some one) (Some two) =
       choose (newer (checkpoint_of one) (checkpoint_of two)) (journal_ask a (second_pack a.checkpoint) two) (journal_ask a a.checkpoint one)
-  choose_pack a (passed one) failed = journal_ask a a.checkpoint one
-  choose_pack a failed (passed two) = journal_ask a (second_pack a.checkpoint) two
-  choose_pack a failed failed = k (refuses 7)
+  choose_pack a (Some one) None = journal_ask a a.checkpoint one
+  choose_pack a None (Some two) = journal_ask a (second_pack a.checkpoint) two
+  choose_pack a None None = k (refuses 7)
 
   -- the second pack's last block came
-  abbrev pub two_last : Areas → Tried → List ℕ → List ℕ → Asking A
+  abbrev pub two_last : Areas → Option (List ℕ) → List ℕ → List ℕ → Asking A
   two_last a one first last = choose_pack a one (tried_by (last_passes last (checkpoint_of first).checkpoint_ver) first)
 
   -- its first block came
-  unfoldable pub two_first : Areas → Tried → List ℕ → Asking A
-  two_first a one first = choose (first_passes first) (ask (last_of (second_pack a.checkpoint) first) (two_last a one first)) (choose_pack a one failed)
+  unfoldable pub two_first : Areas → Option (List ℕ) → List ℕ → Asking A
+  two_first a one first = choose (first_passes first) (ask (last_of (second_pack a.checkpoint) first) (two_last a one first)) (choose_pack a one None)
 
-  abbrev pub two_ask : Areas → Tried → Asking A
+  abbrev pub two_ask : Areas → Option (List ℕ) → Asking A
   two_ask a one = ask (second_pack a.checkpoint) (two_first a one)
 
   -- the same of the first pack, and then the second
@@ -75,7 +68,7 @@ module _ {A : Type 0} (k : Opens → Asking A) where
   one_last a first last = two_ask a (tried_by (last_passes last (checkpoint_of first).checkpoint_ver) first)
 
   unfoldable pub one_first : Areas → List ℕ → Asking A
-  one_first a first = choose (first_passes first) (ask (last_of a.checkpoint first) (one_last a first)) (two_ask a failed)
+  one_first a first = choose (first_passes first) (ask (last_of a.checkpoint first) (one_last a first)) (two_ask a None)
 
   -- the areas are found, or 6
   abbrev pub areas_ask : Found → Asking A

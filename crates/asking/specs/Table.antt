@@ -1,16 +1,13 @@
 -- A walk as a tree that asks for blocks alone: a lookup becomes the journal's entry, or one block of the node address table.
-use Rattle.std.specs.Prelude.{ℕ, ◌+◌, ◌*◌, ◌%◌, ◌≤◌, ◌≡◌, List, length, take, drop}
+use Rattle.std.specs.Prelude.{ℕ, ◌+◌, ◌*◌, ◌%◌, ◌≤◌, ◌≡◌, List, length, take, drop, Option, Some, None}
 use Rattle.field.specs.Number.{le16}
 use Rattle.field.specs.Map.{top_bit}
 use Rattle.field.specs.Card.{Card}
 use Rattle.field.specs.Choice.{choose}
 use Rattle.checkpoint.specs.declared.Volume.{Volume}
-use Rattle.nat.specs.declared.InJournal.{InJournal}
-use Rattle.nat.specs.declared.InJournal.TheVariants.{Held, Absent}
-use Rattle.nat.specs.declared.TableAnswer.{TableAnswer}
-use Rattle.nat.specs.declared.TableAnswer.TheVariants.{OutOfRange, Entry}
+use Rattle.nat.specs.declared.Entry.{Entry}
 use Rattle.nat.specs.Entry.{in_journal}
-use Rattle.nat.specs.Table.{in_range, table_block, copy_address, nat_map_in, entry_in}
+use Rattle.nat.specs.Table.{TableAnswer, OutOfRange, answered, in_range, table_block, copy_address, nat_map_in, entry_in}
 use Rattle.walk.specs.Walk.{Seen, saw_node, saw_block, Walk, done, look, read, Ran, ran}
 use Rattle.asking.specs.Asking.{Asking, answer, ask}
 
@@ -46,9 +43,9 @@ address_for t number =
     copy_address t.volume.areas.nat (table_block number) (top_bit (nat_map_in t.volume t.first) (table_block number))
 
 -- the journal's entry, or else the table's
-abbrev pub or_ask : {A : Type 0} → Kept → ℕ → (TableAnswer → Asking A) → InJournal → Asking A
-or_ask t number k (Held inode address) = k (Entry inode address)
-or_ask t number k Absent = ask (address_for t number) (λ block. k (entry_in block number))
+abbrev pub or_ask : {A : Type 0} → Kept → ℕ → (TableAnswer → Asking A) → Option Entry → Asking A
+or_ask t number k (Some entry) = k (answered entry)
+or_ask t number k None = ask (address_for t number) (λ block. k (entry_in block number))
 
 unfoldable pub lookup : {A : Type 0} → Kept → ℕ → (TableAnswer → Asking A) → Asking A
 lookup t number k = choose (in_range t.volume number) (or_ask t number k (in_journal t.journal number)) (k OutOfRange)

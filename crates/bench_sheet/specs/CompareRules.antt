@@ -5,8 +5,7 @@ use Rattle.field.specs.Number.{le16, le32}
 use Rattle.field.specs.Choice.{choose}
 use Rattle.list.specs.Lists.{numbers, bytes_of, listing}
 use Rattle.list.specs.Search.{searched}
-use Rattle.nat.specs.declared.TableAnswer.{TableAnswer}
-use Rattle.nat.specs.declared.TableAnswer.TheVariants.{OutOfRange, Entry}
+use Rattle.nat.specs.Table.{TableAnswer, OutOfRange, Entry}
 use Rattle.walk.specs.Walk.{View}
 use Rattle.node.specs.Node.{Bounds, in_main}
 use Rattle.compare.specs.declared.Compared.{Compared}

@@ -1,6 +1,6 @@
 -- The rules for opening a card, by number: what the definitions compute on both sides of each boundary, and what the sentence of
 -- document 01, or of a request, says. 1 is yes, 0 no; of two packs it is which.
-use Rattle.std.specs.Prelude.{refl, List, [], ◌∷◌, ◌++◌, ℕ, zero, suc, ◌+◌, ◌-◌, ◌*◌, ◌/◌, length, set, replicate, eqb, leb}
+use Rattle.std.specs.Prelude.{refl, List, [], ◌∷◌, ◌++◌, ℕ, zero, suc, ◌+◌, ◌-◌, ◌*◌, ◌/◌, length, set, replicate, eqb, leb, None}
 use mathlib.Core.List as List
 use Rattle.field.specs.Number.{le16, le32, le64}
 use Rattle.field.specs.Bytes.{same_at}
@@ -9,18 +9,15 @@ use Rattle.field.specs.Choice.{choose}
 use Rattle.list.specs.Lists.{bytes_of}
 use Rattle.journal.specs.Journal.{search_from, twice_among, names_twice}
 use Rattle.superblock.specs.declared.Areas.{Areas}
-use Rattle.superblock.specs.declared.Found.TheVariants as f
+use Rattle.superblock.specs.Areas as f
 use Rattle.superblock.specs.Shape.{in_shape}
 use Rattle.superblock.specs.Superblock.{superblock_of, logs_pass, units_pass, counts_pass, areas_pass, ends_pass, fields_pass, passes}
 use Rattle.superblock.specs.Areas.{found}
 use Rattle.checkpoint.specs.declared.Checkpoint.{Checkpoint}
-use Rattle.checkpoint.specs.declared.Chosen.TheVariants.{Nothing}
-use Rattle.checkpoint.specs.declared.Opening.{Opening}
-use Rattle.checkpoint.specs.declared.Opening.TheVariants.{Opened, Refused}
+use Rattle.checkpoint.specs.Volume.{Opening, Opened, Refused, maps_readable, header_readable, journal_readable, open_pack, open_chosen, open_areas}
 use Rattle.checkpoint.specs.Checkpoint.{checkpoint_of}
 use Rattle.checkpoint.specs.Pack.{newer}
 use Rattle.checkpoint.specs.Journal.{damaged, journal_in, journal_placed, journal_offset}
-use Rattle.checkpoint.specs.Volume.{maps_readable, header_readable, journal_readable, open_pack, open_chosen, open_areas}
 use Rattle.bench_sheet.specs.Line.{Line, ◌is◌, Holds, yes}
 use Rattle.bench_sheet.specs.Volume004.{words, superblock, card004, main_numbers}
 
@@ -264,7 +261,7 @@ checkpoint_rules =
     ∷ ((counted 2 (5 ∷ 6 ∷ 5 ∷ []) ∷ counted 1 (5 ∷ 5 ∷ []) ∷ []) is (1 ∷ 1 ∷ []))
     -- 8: "chosen pack not readable"; 7: "no checkpoint pack passes"; 5 and 6 come before them
     ∷ (opening (open_pack (pack_card 0x404 (different 38)) (areas 2 2) 512) is (8 ∷ []))
-    ∷ (opening (open_chosen (pack_card 4 (different 38)) (areas 2 2) Nothing) is (7 ∷ []))
+    ∷ (opening (open_chosen (pack_card 4 (different 38)) (areas 2 2) None) is (7 ∷ []))
     ∷ (opening (open_areas (pack_card 4 (different 38)) (f.Refused 5)) ++ opening (open_areas (pack_card 4 (different 38)) (f.Refused 6)) is (5 ∷ 6 ∷ []))
     ∷ []
 

@@ -3,8 +3,7 @@ use Rattle.std.specs.Prelude.{List, [], ◌∷◌, ◌++◌, ℕ, replicate}
 use Rattle.field.specs.Card.{Card}
 use Rattle.list.specs.Lists.{bytes_of}
 use Rattle.superblock.specs.declared.Areas.{Areas}
-use Rattle.superblock.specs.declared.Found.{Found}
-use Rattle.superblock.specs.declared.Found.TheVariants.{At, Refused}
+use Rattle.superblock.specs.Areas.{Found, At, Refused}
 
 -- its first 108 bytes, four a number
 abbrev pub words : List ℕ

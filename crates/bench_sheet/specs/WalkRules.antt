@@ -9,11 +9,9 @@ use Rattle.field.specs.Choice.{choose}
 use Rattle.list.specs.Lists.{bytes_of, insert}
 use Rattle.place.specs.Place.{place_of}
 use Rattle.checkpoint.specs.declared.Volume.{Volume}
-use Rattle.nat.specs.declared.TableAnswer.{TableAnswer}
-use Rattle.nat.specs.declared.TableAnswer.TheVariants.{OutOfRange, Entry}
+use Rattle.nat.specs.Table.{TableAnswer, OutOfRange, Entry, in_range, table_address, entry_in, in_table, table_answer}
 use Rattle.journal.specs.Journal.{search_from, journal_find}
 use Rattle.nat.specs.Entry.{in_journal}
-use Rattle.nat.specs.Table.{in_range, table_address, entry_in, in_table, table_answer}
 use Rattle.walk.specs.Walk.{Walk, done, Outcome, ok, stop, Ran, empty, run, bind, onward, and_then}
 use Rattle.inode.specs.declared.Inode.{Inode}
 use Rattle.inode.specs.Inode.{inode_of, has_inline_data, has_inline_dentry, has_extra_attr, data_room, is_directory, is_regular}

@@ -1,11 +1,10 @@
 -- Pieces laid one behind the other are laid as one.
-use Prim.Native.Nat.{ℕ, suc, ◌+◌, ◌-◌, ◌%◌, ◌/◌, ◌≤◌}
+use Prim.Native.Nat.{ℕ, suc, ◌+◌, ◌%◌, ◌/◌, ◌≤◌}
 use native.Mathlib.Omega.{arith}
 use mathlib.Core.Path.{◌≡◌, sym, ap, ◌∙◌}
 use mathlib.Core.List.{List, [], ◌∷◌, ◌++◌, append_assoc, append-nil}
-use lib.ListN.{length, take, drop, take-append-drop, length-append, length-drop, drop_of_length-le}
-use lib.Seq.{length-take-le, take_at, take-length, drop-append-add, drop-drop, sets-eq}
-use borrow.Rule.Slice.PartMut.{put_mid}
+use lib.ListN.{length, take, drop, take-append-drop, length-append}
+use lib.Seq.{length-take-le, take_at, drop-append-add, drop-drop, sets-eq}
 use Rattle.field.specs.Number.{put32_at}
 use Rattle.list.specs.Lists.{bytes_of}
 use Rattle.buffer.specs.Laid.{laid_at}
@@ -47,17 +46,6 @@ laid_number d at x h =
     let f : at + 2 ≡ suc (suc at) = omega arith in
     let g : at + 3 ≡ suc (suc (suc at)) = omega arith in
     rw (e, f, g) (sets-eq (x % 256 ∷ x / 256 % 256 ∷ x / 65536 % 256 ∷ x / 16777216 ∷ []) d at h)
-
--- a part of the bytes, lent as a slice and filled
-pub laid_part : (at : ℕ) (p d : List ℕ) {left : List ℕ} → at + length p ≤ length d
-    → left ≡ p ++ drop (length p) (take (at + length p - at) (drop at d)) → put_mid at (at + length p - at) d left ≡ laid_at at p d
-unfolding laid_at
-laid_part at p d {left} h e =
-    let n : at + length p - at ≡ length p = omega arith in
-    let size : length (take (length p) (drop at d)) ≡ length p = length-take-le (length p) (drop at d) (rw (length-drop at d) (omega arith)) in
-    let none : drop (length p) (take (length p) (drop at d)) ≡ [] = drop_of_length-le _ {i = length p} (omega arith) in
-    let is : left ≡ p = e ∙ rw (n, none) (append-nil p) in
-    rw (n, is, drop-drop (length p) at d) (sym (append_assoc (take at d) p (drop (at + length p) d)))
 
 -- ---- piece by piece
 

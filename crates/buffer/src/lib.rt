@@ -8,11 +8,7 @@ ghost use Rattle.buffer.specs.Laid.{laid_at};
 pub fn clear(bytes: &mut [u8])
     ensures { bytes.new ≡ replicate (length bytes.old) 0 }
 {
-    let mut i = 0;
-    while i < bytes.len() {
-        bytes[i] = 0;
-        i += 1;
-    }
+    bytes.fill(0);
 }
 
 // Bytes laid over the first ones of others.
@@ -32,14 +28,15 @@ pub fn put_block(block: &[u8], start: usize, count: usize, buffer: &mut [u8])
     clear(&mut buffer[count..]);
 }
 
+#[tactic(auto, unfolding(crate::specs::Laid::laid_at))]
 pub fn put_bytes(room: &mut [u8], at: usize, bytes: &[u8])
     requires { at + length bytes.now ≤ length room.old }
     ensures { room.new ≡ laid_at at bytes.now room.old }
 {
-    let end = at + bytes.len();
-    copy(bytes, &mut room[at..end]);
+    room[at..at + bytes.len()].copy_from_slice(bytes);
 }
 
+#[tactic(auto, using(crate::proofs::Laying::laid_number))]
 pub fn put_number(room: &mut [u8], at: usize, x: u32)
     requires { at + 4 ≤ length room.old }
     ensures { room.new ≡ laid_at at (bytes_of (x ∷ [])) room.old }

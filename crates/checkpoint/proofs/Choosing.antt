@@ -4,8 +4,7 @@ use Rattle.std.proofs.Common.{◌≡◌, ℕ, ◌≤◌, Bool, true, false, ◌&
 use Rattle.field.specs.Card.{Card}
 use Rattle.field.specs.Choice.{choose}
 use Rattle.field.proofs.Choosing.{either}
-use Rattle.checkpoint.specs.declared.Chosen.{Chosen}
-use Rattle.checkpoint.specs.declared.Chosen.TheVariants.{Pack, Nothing}
+use Rattle.std.specs.Prelude.{Option, Some, None}
 use Rattle.checkpoint.specs.Checkpoint.{header_of}
 use Rattle.checkpoint.specs.Pack.{pack_passes, newer, second_pack, chosen}
 
@@ -23,11 +22,11 @@ winner_first false false true a b none = refl
 winner_first false false false a b none = refl
 
 -- the first of two packs that passes
-abbrev pub first_passing : Card → ℕ → ℕ → Chosen
+abbrev pub first_passing : Card → ℕ → ℕ → Option ℕ
 first_passing card one other =
-    choose (pack_passes card one) (Pack one) (choose (pack_passes card other) (Pack other) Nothing)
+    choose (pack_passes card one) (Some one) (choose (pack_passes card other) (Some other) None)
 
-passing_of_two : (card : Card) (one other most start : ℕ) → one ≤ most → other ≤ most → first_passing card one other ≡ Pack start
+passing_of_two : (card : Card) (one other most start : ℕ) → one ≤ most → other ≤ most → first_passing card one other ≡ Some start
     → (pack_passes card start ≡ true) × (start ≤ most)
 passing_of_two card one other most start l m h =
     ⊎_elim (λ p. let e = rw p at h in let s : start ≡ one = cc in (rw s p, omega arith))
@@ -47,11 +46,11 @@ module _ (card : Card) (address : ℕ) where
   chosen_in_order =
       winner_first (pack_passes card address) (pack_passes card (second_pack address))
       (newer (header_of card address) (header_of card (second_pack address)))
-      (Pack address)
-      (Pack (second_pack address))
-      Nothing
+      (Some address)
+      (Some (second_pack address))
+      None
 
-  pub chosen_passes : (start : ℕ) → chosen card address ≡ Pack start → (pack_passes card start ≡ true) × (start ≤ second_pack address)
+  pub chosen_passes : (start : ℕ) → chosen card address ≡ Some start → (pack_passes card start ≡ true) × (start ≤ second_pack address)
   chosen_passes start h =
       let inOrder = sym chosen_in_order ∙ h in
       ⊎_elim (λ w. passing_of_two card (second_pack address) address (second_pack address) start (omega arith) (omega arith) (rw w at inOrder))
@@ -60,9 +59,9 @@ module _ (card : Card) (address : ℕ) where
 
   -- a pack that passes and wins by its version is chosen, whatever the other holds: the first wins unless the second is newer
   pub chosen_second : pack_passes card (second_pack address) ≡ true → newer (header_of card address) (header_of card (second_pack address)) ≡ true
-      → chosen card address ≡ Pack (second_pack address)
+      → chosen card address ≡ Some (second_pack address)
   chosen_second p wins = rw (chosen_in_order, wins, p)
 
   pub chosen_first : pack_passes card address ≡ true → newer (header_of card address) (header_of card (second_pack address)) ≡ false
-      → chosen card address ≡ Pack address
+      → chosen card address ≡ Some address
   chosen_first p stays = rw (chosen_in_order, stays, p)

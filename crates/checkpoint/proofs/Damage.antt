@@ -8,13 +8,12 @@ use Rattle.field.specs.Card.{Card}
 use Rattle.field.proofs.Choosing.{either}
 use Rattle.journal.specs.Journal.{number_of, names_twice}
 use Rattle.journal.proofs.Once.{twice, two_entries}
-use Rattle.superblock.specs.Areas.{found}
+use Rattle.superblock.specs.Areas.{found, At}
 use Rattle.superblock.specs.declared.Areas.{Areas}
-use Rattle.superblock.specs.declared.Found.TheVariants.{At}
 use Rattle.checkpoint.specs.declared.Checkpoint.{Checkpoint}
-use Rattle.checkpoint.specs.declared.Chosen.TheVariants.{Pack}
+use Rattle.std.specs.Prelude.{Some}
 use Rattle.checkpoint.specs.declared.Volume.{Volume}
-use Rattle.checkpoint.specs.declared.Opening.TheVariants.{Opened, Refused}
+use Rattle.checkpoint.specs.Volume.{Opened, Refused}
 use Rattle.checkpoint.specs.Checkpoint.{header_of}
 use Rattle.checkpoint.specs.Pack.{block_passes, first_passes, last_passes, last_block, pack_passes, chosen}
 use Rattle.checkpoint.specs.Journal.{flag_set, damaged}
@@ -37,7 +36,7 @@ passes_marked card start first least most last =
     rw (first, le-leb 2 total least, le-leb total 512 most, last)
 
 -- a card with a superblock and a chosen pack
-module _ (card : Card) (a : Areas) (start : ℕ) (areas : found card ≡ At a) (pack : chosen card a.checkpoint ≡ Pack start) where
+module _ (card : Card) (a : Areas) (start : ℕ) (areas : found card ≡ At a) (pack : chosen card a.checkpoint ≡ Some start) where
   abbrev header : Checkpoint
   header = header_of card start
 

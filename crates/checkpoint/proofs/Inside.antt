@@ -9,24 +9,20 @@ use Rattle.field.proofs.Choosing.{either, needed, needed_le}
 use Rattle.field.proofs.Blocks.{length_block}
 use Rattle.journal.specs.Journal.{names_twice}
 use Rattle.superblock.specs.Shape.{in_shape}
-use Rattle.superblock.specs.Areas.{found, AreasIn}
+use Rattle.superblock.specs.Areas.{found, AreasIn, Found}
 use Rattle.superblock.specs.declared.Areas.{Areas}
-use Rattle.superblock.specs.declared.Found.{Found}
-use Rattle.superblock.specs.declared.Found.TheVariants as f
+use Rattle.superblock.specs.Areas as f
 use Rattle.superblock.proofs.Finding.{areas_in_lem, found_kinds, not_both}
 use Rattle.checkpoint.specs.declared.Checkpoint.{Checkpoint}
-use Rattle.checkpoint.specs.declared.Chosen.{Chosen}
-use Rattle.checkpoint.specs.declared.Chosen.TheVariants as c
+use Rattle.std.specs.Prelude.{Option, Some, None}
 use Rattle.checkpoint.specs.declared.Volume.{Volume}
-use Rattle.checkpoint.specs.declared.Opening.{Opening}
-use Rattle.checkpoint.specs.declared.Opening.TheVariants.{Opened, Refused}
+use Rattle.checkpoint.specs.Volume.{Opening, Opened, Refused, opened, opened_image, PlacesIn, VolumeIn}
 use Rattle.checkpoint.specs.Pack.{second_pack, pack_passes, chosen}
 use Rattle.checkpoint.specs.Checkpoint.{header_of}
 use Rattle.checkpoint.specs.Volume.{maps_readable, header_readable, volume_of, journal_of, journal_readable, open_pack, open_chosen, open_areas}
-use Rattle.checkpoint.specs.Volume.{opened, opened_image, PlacesIn, VolumeIn}
 use Rattle.checkpoint.proofs.Choosing.{chosen_passes}
 use Rattle.checkpoint.proofs.Passing.{passing_total}
-use Rattle.checkpoint.proofs.Reading.{journal_starts_lem, map_starts_lem, map_inside_lem, cold_inside_lem, journal_inside_lem, readable_maps}
+use Rattle.checkpoint.proofs.Reading.{starts_most, journal_starts_lem, map_starts_lem, map_inside_lem, cold_inside_lem, journal_inside_lem, readable_maps}
 use Rattle.checkpoint.proofs.Ways.{header_refuses, journal_refuses, pack_opens, shape_refuses, shape_opens}
 
 -- an opening is an answer from 5 to 8, or a volume inside the card
@@ -83,10 +79,10 @@ module _ (card : Card) (a : Areas) (areas : AreasIn card.blocks a) where
         (λ h. ends_refused 8 (omega arith) (omega arith) (header_refuses card a start header refl h))
         (either (header_readable a header))
 
-  chosen_ends : (k : Chosen) → chosen card a.checkpoint ≡ k → OpeningEnds card (open_chosen card a k)
-  chosen_ends (c.Pack start) e =
+  chosen_ends : (k : Option ℕ) → chosen card a.checkpoint ≡ k → OpeningEnds card (open_chosen card a k)
+  chosen_ends (Some start) e =
       let w = chosen_passes card a.checkpoint start e in pack_ends start w.1 w.0
-  chosen_ends c.Nothing e = ends_refused 7 (omega arith) (omega arith) refl
+  chosen_ends None e = ends_refused 7 (omega arith) (omega arith) refl
 
 -- an opening isn't both
 opens_or_refuses : {o : Opening} {v : Volume} {n : ℕ} → o ≡ Opened v → o ≡ Refused n → ⊥
@@ -141,4 +137,4 @@ journal_room image v inside starts = rw length-drop (omega (arith, length_block 
 
 -- where it starts, as a bound
 pub journal_start : {blocks : ℕ} {v : Volume} → PlacesIn blocks v → v.journal_at ≤ 3584
-journal_start h = ⊎_elim (λ e. omega arith) (λ e. omega arith) h.journal_starts
+journal_start h = starts_most _ h.journal_starts

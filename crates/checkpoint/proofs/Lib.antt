@@ -1,4 +1,5 @@
 pub mod Inside
+pub mod OpenImages
 pub mod Negated
 pub mod Passing
 pub mod Choosing

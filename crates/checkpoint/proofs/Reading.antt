@@ -1,5 +1,5 @@
 -- Where the maps and the journals of a readable pack are: inside its first block, and inside the pack.
-use Rattle.std.proofs.Common.{◌≡◌, ◌+◌, ◌-◌, ◌*◌, ◌≤◌, true, false, ◌||◌, ◌⊎◌, inl, inr, ⊎_elim, arith}
+use Rattle.std.proofs.Common.{◌≡◌, ℕ, ◌+◌, ◌-◌, ◌*◌, ◌≤◌, ◌==◌, Bool, true, false, ◌||◌, ⊎_elim, refl, subst, arith}
 use mathlib.Core.Bool.{and-false}
 use Rattle.field.specs.Choice.{choose}
 use Rattle.field.proofs.Choosing.{either, needed, needed_eq, needed_le}
@@ -8,13 +8,21 @@ use Rattle.checkpoint.specs.declared.Checkpoint.{Checkpoint}
 use Rattle.checkpoint.specs.Journal.{unmount, fastboot, compact, journal_in, journal_placed, journal_offset}
 use Rattle.checkpoint.specs.Volume.{nat_map_at, maps_readable, header_readable}
 
+-- where a journal can start in its block
+pub starts_most : (m : ℕ) → (m == 0 || m == 3584) ≡ true → m ≤ 3584
+starts_most m h = go (m == 0) refl
+  where
+    go : (t : Bool) → (m == 0) ≡ t → m ≤ 3584
+    go true p = let e : m ≡ 0 = needed_eq (λ q. q) p in omega arith
+    go false p = let e : m ≡ 3584 = needed_eq (λ q. q) (subst (λ (t : Bool). (t || m == 3584) ≡ true) p h) in omega arith
+
 module _ (cp : Checkpoint) where
-  pub journal_starts_lem : (journal_offset cp ≡ 0) ⊎ (journal_offset cp ≡ 3584)
+  pub journal_starts_lem : (journal_offset cp == 0 || journal_offset cp == 3584) ≡ true
   unfolding journal_offset
-  journal_starts_lem = ⊎_elim (λ p. inl (rw p)) (λ p. inr (rw p)) (either (compact cp))
+  journal_starts_lem = ⊎_elim (λ p. rw p) (λ p. rw p) (either (compact cp))
 
   pub journal_at_most : journal_offset cp ≤ 3584
-  journal_at_most = ⊎_elim (λ s. omega arith) (λ s. omega arith) journal_starts_lem
+  journal_at_most = starts_most _ journal_starts_lem
 
   journal_before : journal_placed cp ≡ true → journal_in cp ≤ cp.cp_pack_total_block_count - 2
   unfolding journal_placed

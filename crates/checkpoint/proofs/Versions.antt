@@ -6,7 +6,7 @@ use Rattle.field.specs.Card.{Card}
 use Rattle.field.proofs.Choosing.{either, needed}
 use Rattle.field.proofs.Widths.{le64_fits}
 use Rattle.checkpoint.specs.declared.Checkpoint.{Checkpoint}
-use Rattle.checkpoint.specs.declared.Chosen.TheVariants.{Pack}
+use Rattle.std.specs.Prelude.{Some}
 use Rattle.checkpoint.specs.Checkpoint.{checkpoint_of, header_of}
 use Rattle.checkpoint.specs.Pack.{pack_passes, wrapped_difference, above_zero, newer, second_pack, chosen}
 use Rattle.checkpoint.proofs.Choosing.{chosen_first, chosen_second}
@@ -95,15 +95,15 @@ module _ (card : Card) (address : ℕ) where
 
   pub next_second_chosen : pack_passes card (second_pack address) ≡ true → one.checkpoint_ver < 2 ^ 64
       → two.checkpoint_ver ≡ (one.checkpoint_ver + 1) % 2 ^ 64
-      → chosen card address ≡ Pack (second_pack address)
+      → chosen card address ≡ Some (second_pack address)
   next_second_chosen p b e = chosen_second card address p (next_second one two b e)
 
   pub next_first_chosen : pack_passes card address ≡ true
       → one.checkpoint_ver ≡ (two.checkpoint_ver + 1) % 2 ^ 64
-      → chosen card address ≡ Pack address
+      → chosen card address ≡ Some address
   next_first_chosen p e = chosen_first card address p (next_first one two e)
 
   pub half_apart_chosen : pack_passes card address ≡ true
       → two.checkpoint_ver ≡ (one.checkpoint_ver + 2 ^ 63) % 2 ^ 64
-      → chosen card address ≡ Pack address
+      → chosen card address ≡ Some address
   half_apart_chosen p e = chosen_first card address p (half_apart one two e).0

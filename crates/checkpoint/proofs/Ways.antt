@@ -1,14 +1,18 @@
 -- The ways that opening goes: what the code follows, and what the laws on opened volumes stand on.
-use Rattle.std.proofs.Common.{◌≡◌, ℕ, Bool, true, false, ◌&&◌, List, length}
+use Rattle.std.proofs.Common.{◌≡◌, ℕ, Bool, true, false, ◌&&◌, List, length, sym, ap, subst, ◌∙◌}
+use Rattle.std.specs.Prelude.{Result, Ok, Err}
+use Rattle.answer.specs.declared.Refusal.{Refusal}
+use Rattle.answer.specs.Number.{refusal_number}
 use Rattle.field.specs.Card.{Card, card_of}
 use Rattle.field.specs.Choice.{choose}
 use Rattle.superblock.specs.Shape.{in_shape}
-use Rattle.superblock.specs.Areas.{found}
+use Rattle.superblock.specs.declared.shaped_image.ShapedImage.{ShapedImage}
+use Rattle.superblock.specs.Shaped.{shaped_card, Shaped}
+use Rattle.superblock.specs.Areas.{found, Found}
 use Rattle.superblock.specs.declared.Areas.{Areas}
-use Rattle.superblock.specs.declared.Found.{Found}
 use Rattle.checkpoint.specs.declared.Checkpoint.{Checkpoint}
 use Rattle.checkpoint.specs.declared.Volume.{Volume}
-use Rattle.checkpoint.specs.declared.Opening.TheVariants.{Opened, Refused}
+use Rattle.checkpoint.specs.Volume.{Opened, Refused}
 use Rattle.checkpoint.specs.Checkpoint.{header_of}
 use Rattle.checkpoint.specs.Volume.{header_readable, volume_of, journal_of, journal_readable, open_pack, open_areas, opened, opened_image}
 
@@ -42,6 +46,18 @@ module _ (image : List ℕ) where
   pub shape_opens : in_shape (length image) ≡ true → opened_image image ≡ opened (card_of image)
   unfolding opened_image
   shape_opens p = rw p
+
+-- what the test of its shape came to
+module _ (image : List ℕ) {r : Result ShapedImage Refusal} where
+  pub tested_opens : {s : ShapedImage} → r ≡ Ok s → Shaped image r → opened_image image ≡ opened (shaped_card s)
+  tested_opens e h =
+      let whole = subst (Shaped image) e h in
+      shape_opens image whole.0 ∙ ap (λ (l : List ℕ). opened (card_of l)) (sym whole.1)
+
+  pub tested_refuses : {refusal : Refusal} → r ≡ Err refusal → Shaped image r → opened_image image ≡ Refused (refusal_number refusal)
+  tested_refuses e h =
+      let out = subst (Shaped image) e h in
+      shape_refuses image out.0 ∙ ap (λ x. Refused (refusal_number x)) (sym out.1)
 
 pub opened_at : (card : Card) (found' : Found) → found card ≡ found' → opened card ≡ open_areas card found'
 unfolding opened

@@ -2,3 +2,4 @@ pub mod Checkpoint
 pub mod Pack
 pub mod Journal
 pub mod Volume
+pub mod OpenImage

@@ -1,12 +1,10 @@
 -- The two checkpoint packs: which of them pass, and which is chosen.
-use Rattle.std.specs.Prelude.{ℕ, ◌+◌, ◌-◌, ◌%◌, ◌^◌, Bool, ◌&&◌, List, take, ◌==◌, nat_le, nat_lt}
+use Rattle.std.specs.Prelude.{ℕ, ◌+◌, ◌-◌, ◌%◌, ◌^◌, Bool, ◌&&◌, List, take, ◌==◌, nat_le, nat_lt, Option, Some, None}
 use Rattle.field.specs.Number.{le32}
 use Rattle.field.specs.Card.{Card}
 use Rattle.field.specs.Choice.{choose}
 use Rattle.crc32.specs.Checksum.{checksum_of}
 use Rattle.checkpoint.specs.declared.Checkpoint.{Checkpoint}
-use Rattle.checkpoint.specs.declared.Chosen.{Chosen}
-use Rattle.checkpoint.specs.declared.Chosen.TheVariants.{Pack, Nothing}
 use Rattle.checkpoint.specs.Checkpoint.{checkpoint_of, header_of}
 
 -- "A block passes if its checksum offset (164) is 4,092 and the number there is the .. CRC-32 .. over the first 4,092 bytes."
@@ -48,10 +46,10 @@ newer first second = above_zero (wrapped_difference first.checkpoint_ver second.
 abbrev pub second_pack : ℕ → ℕ
 second_pack address = address + 512
 
--- which pack is chosen, by its first block: "Of two that pass" the second if it wins, else the first; Nothing is answer 7
-unfoldable pub chosen : Card → ℕ → Chosen
+-- which pack is chosen, by its first block: "Of two that pass" the second if it wins, else the first; None is answer 7
+unfoldable pub chosen : Card → ℕ → Option ℕ
 chosen card address =
     choose (pack_passes card address)
     (choose (pack_passes card (second_pack address) && newer (header_of card address) (header_of card (second_pack address)))
-    (Pack (second_pack address)) (Pack address))
-    (choose (pack_passes card (second_pack address)) (Pack (second_pack address)) Nothing)
+    (Some (second_pack address)) (Some address))
+    (choose (pack_passes card (second_pack address)) (Some (second_pack address)) None)

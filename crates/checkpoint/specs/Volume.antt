@@ -1,23 +1,23 @@
 -- Opening a card: the volume that its superblock and its chosen pack describe, or the answer 5 to 8.
-use Rattle.std.specs.Prelude.{◌≡◌, ℕ, ◌+◌, ◌*◌, ◌<◌, ◌≤◌, Bool, false, not, ◌&&◌, ◌⊎◌, List, length, drop, ◌==◌, nat_le}
+use Rattle.std.specs.Prelude.{◌≡◌, ℕ, ◌+◌, ◌*◌, ◌<◌, ◌≤◌, Bool, false, true, not, ◌&&◌, ◌||◌, List, length, drop, ◌==◌, nat_le, Option, Some, None}
 use Rattle.field.specs.Number.{le16}
 use Rattle.field.specs.Card.{Card, card_of}
 use Rattle.field.specs.Choice.{choose}
 use Rattle.journal.specs.Journal.{count_within, names_twice}
 use Rattle.superblock.specs.Shape.{in_shape}
-use Rattle.superblock.specs.Areas.{found, AreasIn}
+use Rattle.superblock.specs.Areas.{found, AreasIn, Found}
 use Rattle.superblock.specs.declared.Areas.{Areas}
-use Rattle.superblock.specs.declared.Found.{Found}
-use Rattle.superblock.specs.declared.Found.TheVariants as f
+use Rattle.superblock.specs.Areas as f
 use Rattle.checkpoint.specs.declared.Checkpoint.{Checkpoint}
-use Rattle.checkpoint.specs.declared.Chosen.{Chosen}
-use Rattle.checkpoint.specs.declared.Chosen.TheVariants as c
 use Rattle.checkpoint.specs.declared.Volume.{Volume}
-use Rattle.checkpoint.specs.declared.Opening.{Opening}
-use Rattle.checkpoint.specs.declared.Opening.TheVariants.{Opened, Refused}
 use Rattle.checkpoint.specs.Checkpoint.{header_of}
 use Rattle.checkpoint.specs.Pack.{chosen}
 use Rattle.checkpoint.specs.Journal.{compact_in, large_nat_map, damaged, journal_in, journal_placed, journal_offset}
+
+-- what opening comes to: the volume, or the number of the answer that refuses the image
+pub data Opening : Type 0 where
+  Opened : Volume → Opening
+  Refused : ℕ → Opening
 
 -- "The SIT map starts at 192, the NAT map after it"
 abbrev pub nat_map_at : Checkpoint → ℕ
@@ -62,9 +62,9 @@ open_pack card a start =
     let v : Volume = volume_of a start (header_of card start) in
     choose (header_readable a (header_of card start) && journal_readable (journal_of card v)) (Opened v) (Refused 8)
 
-abbrev pub open_chosen : Card → Areas → Chosen → Opening
-open_chosen card a (c.Pack start) = open_pack card a start
-open_chosen card a c.Nothing = Refused 7
+abbrev pub open_chosen : Card → Areas → Option ℕ → Opening
+open_chosen card a (Some start) = open_pack card a start
+open_chosen card a None = Refused 7
 
 abbrev pub open_areas : Card → Found → Opening
 open_areas card (f.At a) = open_chosen card a (chosen card a.checkpoint)
@@ -91,7 +91,7 @@ pub record PlacesIn (blocks : ℕ) (v : Volume) : Type 0 where
   pub map_inside : v.nat_map + 32 * v.areas.nat_segments ≤ 4092
   pub journal_inside : v.journal_block < blocks
   pub cold_inside : is_compact v ≡ false → v.journal_block + 2 < v.areas.sit
-  pub journal_starts : (v.journal_at ≡ 0) ⊎ (v.journal_at ≡ 3584)
+  pub journal_starts : (v.journal_at == 0 || v.journal_at == 3584) ≡ true
 
 -- and what the card holds there is readable
 pub record VolumeIn (card : Card) (v : Volume) : Type 0 where

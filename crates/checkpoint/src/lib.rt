@@ -2,15 +2,23 @@
 // What each means is in specs/: Checkpoint, Pack, Journal, Volume.
 #![tactic(auto)]
 
-ghost use Rattle.std.specs.Prelude.{◌≡◌, ◌+◌, ◌<◌, ◌≤◌, true, ◌||◌, length};
+ghost use Rattle.std.specs.Prelude.{◌≡◌, ◌+◌, ◌<◌, ◌≤◌, true, ◌||◌, length, Some, None};
 ghost use Rattle.field.specs.Card.{card_of};
 ghost use Rattle.field.specs.Choice.{choose};
-ghost use Rattle.superblock.specs.Shape.{InShape};
+ghost use Rattle.superblock.specs.Shaped.{shaped_card};
 ghost use Rattle.superblock.specs.Areas.{AreasIn};
 ghost use Rattle.checkpoint.specs.Checkpoint.{checkpoint_of};
 ghost use Rattle.checkpoint.specs.Pack.{block_passes, first_passes, last_passes, pack_passes, newer, chosen};
 ghost use Rattle.checkpoint.specs.Journal.{flag_set, damaged, unmount, fastboot, journal_in, journal_placed, journal_offset};
 ghost use Rattle.checkpoint.specs.Volume.{maps_readable, header_readable, volume_of, journal_of, journal_readable, open_pack, open_chosen, opened_image};
+ghost use Rattle.checkpoint.specs.OpenImage.{volume_read, opening_of, IsOf};
+
+use answer::Refusal;
+use superblock::ShapedImage;
+
+mod open_image;
+
+pub use open_image::OpenImage;
 
 // The flags of a pack.
 const UNMOUNT: u32 = 1;
@@ -37,13 +45,6 @@ pub struct Checkpoint {
     pub checksum_offset: u32,
 }
 
-// The chosen pack's first block, or that no pack passes.
-#[derive(Clone, Copy)]
-pub enum Chosen {
-    Pack(u32),
-    Nothing,
-}
-
 // An opened volume: what every later step reads the card by.
 #[repr(C)]
 #[derive(Clone, Copy)]
@@ -59,13 +60,6 @@ pub struct Volume {
     // The block of the NAT journal, and where the journal starts in it, in bytes.
     pub journal_block: u32,
     pub journal_at: u32,
-}
-
-// An opened volume, or the answer that refuses the image.
-#[derive(Clone, Copy)]
-pub enum Opening {
-    Opened(Volume),
-    Refused(u32),
 }
 
 pub fn checkpoint_of(block: &[u8]) -> Checkpoint
@@ -123,17 +117,16 @@ pub fn last_passes(last: &[u8], version: u64) -> bool
 }
 
 // A pack has 512 blocks of the checkpoint area.
-fn pack_passes(image: &[u8], start: u32) -> bool
-    requires in_shape { InShape (card_of image.now) }
-    requires start_bound { start + 512 ≤ (card_of image.now).blocks }
-    ensures { result ≡ pack_passes (card_of image.now) start }
+fn pack_passes(image: ShapedImage, start: u32) -> bool
+    requires start_bound { start + 512 ≤ (shaped_card image).blocks }
+    ensures { result ≡ pack_passes (shaped_card image.entry) start }
 {
-    let first = field::block_at(image, start);
+    let first = field::block_at(image.bytes, start);
     let cp = checkpoint_of(first);
     if !first_passes(first, cp) {
         return false;
     }
-    let last = field::block_at(image, start + (cp.cp_pack_total_block_count - 1));
+    let last = field::block_at(image.bytes, start + (cp.cp_pack_total_block_count - 1));
     last_passes(last, cp.checkpoint_ver)
 }
 
@@ -147,34 +140,32 @@ pub fn is_newer(first: Checkpoint, second: Checkpoint) -> bool
     (0 < difference) & (difference < 0x8000000000000000)
 }
 
-// The first of two packs that passes; the other is tested only if that one doesn't.
-fn first_passing(image: &[u8], one: u32, other: u32) -> Chosen
-    requires in_shape { InShape (card_of image.now) }
-    requires one_bound { one + 512 ≤ (card_of image.now).blocks }
-    requires other_bound { other + 512 ≤ (card_of image.now).blocks }
+// The start of the first of two packs that passes; the other is tested only if that one doesn't.
+fn first_passing(image: ShapedImage, one: u32, other: u32) -> Option<u32>
+    requires one_bound { one + 512 ≤ (shaped_card image).blocks }
+    requires other_bound { other + 512 ≤ (shaped_card image).blocks }
     ensures { result
-        ≡ choose (pack_passes (card_of image.now) one) (Chosen.Pack one)
-        (choose (pack_passes (card_of image.now) other) (Chosen.Pack other) Chosen.Nothing) }
+        ≡ choose (pack_passes (shaped_card image.entry) one) (Some one)
+        (choose (pack_passes (shaped_card image.entry) other) (Some other) None) }
 {
     if pack_passes(image, one) {
-        return Chosen::Pack(one);
+        return Some(one);
     }
     if pack_passes(image, other) {
-        return Chosen::Pack(other);
+        return Some(other);
     }
-    Chosen::Nothing
+    None
 }
 
 // The pack that wins by its version, if it passes, is chosen whatever the other holds: so it is tested first. Usually that
 // spares the other's two checksums.
-fn choose_pack(image: &[u8], address: u32) -> Chosen
-    requires in_shape { InShape (card_of image.now) }
-    requires address_bound { address + 1024 ≤ (card_of image.now).blocks }
-    ensures { result ≡ chosen (card_of image.now) address }
+fn choose_pack(image: ShapedImage, address: u32) -> Option<u32>
+    requires address_bound { address + 1024 ≤ (shaped_card image).blocks }
+    ensures { result ≡ chosen (shaped_card image.entry) address }
 {
     let second = address + 512;
-    let one = checkpoint_of(field::block_at(image, address));
-    let other = checkpoint_of(field::block_at(image, second));
+    let one = checkpoint_of(field::block_at(image.bytes, address));
+    let other = checkpoint_of(field::block_at(image.bytes, second));
     if is_newer(one, other) {
         first_passing(image, second, address)
     } else {
@@ -297,45 +288,39 @@ pub fn journal_readable(journal: &[u8]) -> bool
     !journal::names_twice(journal, 13)
 }
 
-fn open_pack(image: &[u8], areas: superblock::Areas, start: u32) -> Opening
-    requires in_shape { InShape (card_of image.now) }
-    requires start_bound { start + 512 ≤ (card_of image.now).blocks }
-    requires start_value { pack_passes (card_of image.now) start ≡ true }
-    ensures { result ≡ open_pack (card_of image.now) areas start }
+fn open_pack(image: ShapedImage, areas: superblock::Areas, start: u32) -> Result<Volume, Refusal>
+    requires start_bound { start + 512 ≤ (shaped_card image).blocks }
+    requires start_value { pack_passes (shaped_card image) start ≡ true }
+    ensures { volume_read result ≡ open_pack (shaped_card image.entry) areas start }
 {
-    let cp = checkpoint_of(field::block_at(image, start));
+    let cp = checkpoint_of(field::block_at(image.bytes, start));
     if !header_readable(areas, cp) {
-        return Opening::Refused(answer::UNREADABLE);
+        return Err(Refusal::Unreadable);
     }
     let volume = volume_of(areas, start, cp);
-    if !journal_readable(journal_of(image, volume)) {
-        return Opening::Refused(answer::UNREADABLE);
+    if !journal_readable(journal_of(image.bytes, volume)) {
+        return Err(Refusal::Unreadable);
     }
-    Opening::Opened(volume)
+    Ok(volume)
 }
 
-fn open_areas(image: &[u8], areas: superblock::Areas) -> Opening
-    requires in_shape { InShape (card_of image.now) }
-    requires areas_in { AreasIn (card_of image.now).blocks areas }
-    ensures { result ≡ open_chosen (card_of image.now) areas (chosen (card_of image.now) areas.checkpoint) }
+fn open_areas(image: ShapedImage, areas: superblock::Areas) -> Result<Volume, Refusal>
+    requires areas_in { AreasIn (shaped_card image).blocks areas }
+    ensures { volume_read result ≡ open_chosen (shaped_card image.entry) areas (chosen (shaped_card image.entry) areas.checkpoint) }
 {
-    let pack = choose_pack(image, areas.checkpoint);
-    match pack {
-        Chosen::Pack(start) => open_pack(image, areas, start),
-        Chosen::Nothing => Opening::Refused(answer::NO_CHECKPOINT),
+    match choose_pack(image, areas.checkpoint) {
+        Some(start) => open_pack(image, areas, start),
+        None => Err(Refusal::NoCheckpoint),
     }
 }
 
 // The image's shape first, then its superblock, then its checkpoint.
-pub fn open(image: &[u8]) -> Opening
-    ensures { result ≡ opened_image image.now }
+pub fn open(image: &[u8]) -> Result<OpenImage<'_>, Refusal>
+    ensures opening { opening_of result ≡ opened_image image.now }
+    ensures same_image { IsOf image.now result }
 {
-    if !superblock::in_shape(image.len()) {
-        return Opening::Refused(answer::OUT_OF_SHAPE);
-    }
-    let found = superblock::find_superblock(image);
-    match found {
-        superblock::Found::At(areas) => open_areas(image, areas),
-        superblock::Found::Refused(number) => Opening::Refused(number),
-    }
+    let shaped = ShapedImage::of(image)?;
+    let areas = superblock::find_superblock(shaped)?;
+    let volume = open_areas(shaped, areas)?;
+    Ok(OpenImage { image, volume })
 }

@@ -6,36 +6,34 @@ use mathlib.Core.List.{List}
 use Prim.Native.Nat.{ℕ}
 use native.Mathlib.Omega.{arith}
 use lib.ListN.{length}
+use Rattle.std.proofs.Common.{Ok, Err}
 use Rattle.field.specs.Card.{Card, card_of}
 use Rattle.superblock.specs.Shape.{in_shape}
 use Rattle.checkpoint.specs.declared.Volume.{Volume}
-use Rattle.checkpoint.specs.declared.Opening.{Opening}
-use Rattle.checkpoint.specs.declared.Opening.TheVariants.{Opened, Refused}
-use Rattle.checkpoint.specs.Volume.{opened, opened_image}
+use Rattle.checkpoint.specs.Volume.{Opening, Opened, Refused, Opening, Opened, Refused, opened, opened_image}
 use Rattle.checkpoint.proofs.Ways.{shape_opens}
 use Rattle.checkpoint.proofs.Inside.{image_shaped}
 use Rattle.walk.specs.Walk.{view_of}
 use Rattle.list.proofs.Entries.{length_numbers}
 use Rattle.node.specs.Node.{Bounds, bounds_of}
-use Rattle.compare.specs.declared.Difference.{Difference}
-use Rattle.compare.specs.declared.Difference.TheVariants.{Same, BoundsDiffer, NodeDiffers, BlockDiffers}
+use Rattle.compare.specs.declared.Difference.TheVariants.{BoundsDiffer, NodeDiffers, BlockDiffers}
 use Rattle.list.specs.Lists.{Listed, entries, count_fits}
 use Rattle.compare.specs.Lists.{lists_in_shape}
-use Rattle.compare.specs.Difference.{difference}
+use Rattle.compare.specs.Difference.{Told, same, difference}
 use Rattle.compare.specs.Compare.{refused, verdict, compared_open, after_fresh, after_kept, compared}
 
 -- ---- "same" is said of no difference, and "changed" of any other
-pub says_same : (d : Difference) → (verdict d).answer ≡ 15 → d ≡ Same
-says_same Same h = refl
-says_same BoundsDiffer h = absurd (omega arith)
-says_same (NodeDiffers k) h = absurd (omega arith)
-says_same (BlockDiffers b) h = absurd (omega arith)
+pub says_same : (d : Told) → (verdict d).answer ≡ 15 → d ≡ same
+says_same (Ok none) h = refl
+says_same (Err BoundsDiffer) h = absurd (omega arith)
+says_same (Err (NodeDiffers k)) h = absurd (omega arith)
+says_same (Err (BlockDiffers b)) h = absurd (omega arith)
 
-pub says_changed : (d : Difference) → (d ≡ Same → ⊥) → (verdict d).answer ≡ 16
-says_changed Same h = absurd (h refl)
-says_changed BoundsDiffer h = refl
-says_changed (NodeDiffers k) h = refl
-says_changed (BlockDiffers b) h = refl
+pub says_changed : (d : Told) → (d ≡ same → ⊥) → (verdict d).answer ≡ 16
+says_changed (Ok none) h = absurd (h refl)
+says_changed (Err BoundsDiffer) h = refl
+says_changed (Err (NodeDiffers k)) h = refl
+says_changed (Err (BlockDiffers b)) h = refl
 
 -- ---- both opened: the lists' shape, then the difference
 module _ (kept : Card) (v : Volume) (fresh : Card) (u : Volume) (nodes blocks : Listed) where

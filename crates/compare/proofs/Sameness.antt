@@ -1,14 +1,13 @@
 -- What each test of sameness says: a test is passed exactly by equal things.
-use mathlib.Core.Path.{◌≡◌, refl}
-use mathlib.Core.Bool.{true, ◌&&◌, and-eq-true_iff}
+use mathlib.Core.Path.{◌≡◌, refl, ap}
+use mathlib.Core.Bool.{Bool, true, ◌&&◌, and-eq-true_iff}
 use mathlib.Core.List.{List, [], ◌∷◌}
 use Prim.Native.Nat.{ℕ}
-use native.Mathlib.Omega.{arith}
 use lib.Dec.{eqb}
+use lib.Pointwise.{pointwise}
 use borrow.Author.Tests.{eqb-true, eq-eqb}
 use Rattle.field.proofs.Choosing.{clash}
-use Rattle.nat.specs.declared.TableAnswer.{TableAnswer}
-use Rattle.nat.specs.declared.TableAnswer.TheVariants.{OutOfRange, Entry}
+use Rattle.nat.specs.Table.{TableAnswer, OutOfRange, Entry}
 use Rattle.node.specs.Node.{Bounds}
 use Rattle.compare.specs.Difference.{same_bounds, same_answer, same_bytes}
 
@@ -54,3 +53,11 @@ bytes_itself (x ∷ xs) = rw (eq-eqb x x refl) (bytes_itself xs)
 
 pub bytes_same : {xs ys : List ℕ} → xs ≡ ys → same_bytes xs ys ≡ true
 bytes_same {xs = xs} e = rw (← e) (bytes_itself xs)
+
+-- what `==` says of two slices
+pub pointwise_same : (xs ys : List ℕ) → pointwise eqb xs ys ≡ same_bytes xs ys
+unfolding same_bytes
+pointwise_same [] [] = refl
+pointwise_same [] (y ∷ ys) = refl
+pointwise_same (x ∷ xs) [] = refl
+pointwise_same (x ∷ xs) (y ∷ ys) = ap (λ (t : Bool). eqb x y && t) (pointwise_same xs ys)

@@ -1,6 +1,6 @@
 -- Lists in shape: what each test of them says, and the whole from its parts.
-use mathlib.Core.Path.{◌≡◌, refl, ap, ◌∙◌}
-use mathlib.Core.Bool.{Bool, true, false, ◌&&◌, and-eq-true_iff, and-false}
+use mathlib.Core.Path.{◌≡◌, refl, ap}
+use mathlib.Core.Bool.{true, false, ◌&&◌, and-eq-true_iff, and-false, and-true}
 use mathlib.Core.List.{List, [], ◌∷◌}
 use mathlib.Core.Logic.{⊎_elim}
 use Prim.Native.Nat.{ℕ, ◌*◌, ◌/◌, ◌≤◌, ◌<◌}
@@ -89,23 +89,20 @@ count_fits_lem l h = le-leb l.count (length l.bytes / 4) (omega arith)
 pub fits_count : (l : Listed) → count_fits l ≡ true → 4 * l.count ≤ length l.bytes
 fits_count l h = let t = leb-true l.count (length l.bytes / 4) h in omega arith
 
--- what the code tests before it reads a number
-module _ (nodes blocks : Listed) where
-  abbrev pub CountsFit : Bool
-  CountsFit = leb 1 nodes.count && count_fits nodes && count_fits blocks
-
-  pub counts_held : CountsFit ≡ true → (4 * nodes.count ≤ length nodes.bytes) × (4 * blocks.count ≤ length blocks.bytes)
-  counts_held h = (fits_count nodes (needed (λ p. simp (p, and-false)) h), fits_count blocks (needed (λ p. simp (p, and-false)) h))
-
 module _ (m : Bounds) (nodes blocks : Listed) where
-  pub counts_refuse : CountsFit nodes blocks ≡ false → lists_in_shape m nodes blocks ≡ false
+  -- the counts are tested first
+  pub nodes_refuse : count_fits nodes ≡ false → lists_in_shape m nodes blocks ≡ false
   unfolding lists_in_shape
-  counts_refuse h = rw h
+  nodes_refuse h = simp (h, and-false)
 
-  pub counts_pass_lem : CountsFit nodes blocks ≡ true → lists_in_shape m nodes blocks
-      ≡ (is_rising (entries nodes) && is_rising (entries blocks) && all_in_main m (entries blocks))
+  pub blocks_refuse : count_fits blocks ≡ false → lists_in_shape m nodes blocks ≡ false
   unfolding lists_in_shape
-  counts_pass_lem h = rw h
+  blocks_refuse h = simp (h, and-false)
+
+  pub counts_pass_lem : count_fits nodes ≡ true → count_fits blocks ≡ true → lists_in_shape m nodes blocks
+      ≡ (leb 1 nodes.count && is_rising (entries nodes) && is_rising (entries blocks) && all_in_main m (entries blocks))
+  unfolding lists_in_shape
+  counts_pass_lem h g = simp (h, g, and-true)
 
   pub lists_in_shape_lem : ListsFit m nodes blocks → lists_in_shape m nodes blocks ≡ true
   unfolding lists_in_shape

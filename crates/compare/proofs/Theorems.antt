@@ -6,22 +6,20 @@ use mathlib.Core.Bool.{Bool, true, false, ◌&&◌}
 use mathlib.Core.Logic.{◌⊎◌, inl, inr, ⊎_elim}
 use mathlib.Core.List.{List}
 use lib.ListN.{length}
+use Rattle.std.proofs.Common.{Ok, Err}
 use Rattle.field.specs.Card.{card_of}
 use Rattle.field.proofs.Choosing.{either}
 use Rattle.superblock.specs.Shape.{in_shape}
 use Rattle.checkpoint.specs.declared.Volume.{Volume}
-use Rattle.checkpoint.specs.declared.Opening.{Opening}
-use Rattle.checkpoint.specs.declared.Opening.TheVariants.{Opened, Refused}
-use Rattle.checkpoint.specs.Volume.{opened_image}
+use Rattle.checkpoint.specs.Volume.{Opening, Opened, Refused, Opening, Opened, Refused, opened_image}
 use Rattle.checkpoint.proofs.Inside.{refusals}
 use Rattle.walk.specs.Walk.{view_of}
 use Rattle.node.specs.Node.{bounds_of}
 use Rattle.compare.specs.declared.Compared.{Compared}
-use Rattle.compare.specs.declared.Difference.{Difference}
-use Rattle.compare.specs.declared.Difference.TheVariants.{Same, BoundsDiffer, NodeDiffers, BlockDiffers}
+use Rattle.compare.specs.declared.Difference.TheVariants.{BoundsDiffer, NodeDiffers, BlockDiffers}
 use Rattle.list.specs.Lists.{Listed, entries}
 use Rattle.compare.specs.Lists.{lists_in_shape}
-use Rattle.compare.specs.Difference.{difference}
+use Rattle.compare.specs.Difference.{Told, difference}
 use Rattle.compare.specs.Compare.{refused, verdict, compared}
 use Rattle.compare.proofs.Openings.{lists_refused, lists_compared, shape_refused, kept_refused_lem, fresh_refused_lem, compared_opened}
 
@@ -66,11 +64,11 @@ module _ (kept fresh : List ℕ) (nodes blocks : Listed) where
       ⊎ ((15 ≤ (compared kept fresh nodes blocks).answer) × ((compared kept fresh nodes blocks).answer ≤ 16))
   answers = go ends
     where
-      ended : (d : Difference) → (15 ≤ (verdict d).answer) × ((verdict d).answer ≤ 16)
-      ended Same = (omega arith, omega arith)
-      ended BoundsDiffer = (omega arith, omega arith)
-      ended (NodeDiffers n) = (omega arith, omega arith)
-      ended (BlockDiffers b) = (omega arith, omega arith)
+      ended : (d : Told) → (15 ≤ (verdict d).answer) × ((verdict d).answer ≤ 16)
+      ended (Ok none) = (omega arith, omega arith)
+      ended (Err BoundsDiffer) = (omega arith, omega arith)
+      ended (Err (NodeDiffers n)) = (omega arith, omega arith)
+      ended (Err (BlockDiffers b)) = (omega arith, omega arith)
 
       go : {r : Compared} → CompareEnds kept fresh nodes blocks r → ((4 ≤ r.answer) × (r.answer ≤ 8)) ⊎ ((15 ≤ r.answer) × (r.answer ≤ 16))
       go (bad_length h e) = rw e (inl (omega arith, omega arith))

@@ -1,82 +1,85 @@
--- The loops turn by turn: a search of listed numbers, the test that they rise, and the comparison of two blocks.
--- The listed numbers stand w bytes apart. Turn i of n stands at an offset: `column w l at (n - i)` are left, and the next turn stands at `on`.
-use mathlib.Core.Path.{◌≡◌, refl, sym, ◌∙◌}
-use mathlib.Core.Bool.{Bool, true, false, ◌&&◌, and_assoc, and-true}
-use mathlib.Core.List.{List}
-use Prim.Native.Nat.{ℕ, ◌+◌, ◌-◌, ◌≤◌, ◌<◌}
-use native.Mathlib.Numerals.{add-one}
+-- The loops turn by turn: the test of a column's numbers, and the test that they rise.
+-- At turn i of n the numbers of `column w l at (n - i)` are left, and number i stands there.
+use mathlib.Core.Path.{◌≡◌, refl, sym, ap, ◌∙◌}
+use mathlib.Core.Bool.{Bool, true, false}
+use mathlib.Core.List.{List, [], ◌∷◌}
+use Prim.Native.Nat.{ℕ, zero, suc, ◌+◌, ◌-◌, ◌*◌, ◌≤◌, ◌<◌}
+use native.Mathlib.Nat.{mul-zero, mul-suc}
 use native.Mathlib.Omega.{arith}
-use lib.Dec.{eqb}
-use lib.ListN.{length, get_or, drop, drop_of_length-le}
-use lib.Seq.{drop-cons}
 use borrow.Author.Tests.{lt-ltb, le-ltb}
 use Rattle.field.specs.Number.{le32}
-use Rattle.list.specs.Lists.{AllOf, numbers, column}
-use Rattle.list.proofs.Columns.{numbers_column, column_starts, column_next, column_over}
+use Rattle.field.specs.Choice.{choose}
+use Rattle.list.specs.Lists.{AllOf, column}
+use Rattle.list.proofs.Columns.{column_first, column_next, column_over, offset_next}
 use Rattle.compare.specs.Lists.{rising_after, is_rising}
-use Rattle.compare.specs.Difference.{same_bytes}
 use Rattle.list.specs.Search.{searched}
 use Rattle.list.proofs.Searching.{none_left, passed, failed}
 
--- the entries of a list, before the first turn
-pub entries_left : (l : List ℕ) (n : ℕ) → numbers l 0 n ≡ column 4 l 0 (n - 0)
-entries_left l n = rw (column_starts 4 l 0 n) (numbers_column l 0 n)
-
--- what holds of all that are left, at a turn: of the next, and of all left then
-pub all_next : (P : ℕ → Type 0) (w : ℕ) (l : List ℕ) (at on : ℕ) → on ≡ at + w → (i n : ℕ) → i < n → AllOf P (column w l at (n - i))
-    → P (le32 l at) × AllOf P (column w l on (n - (i + 1)))
-all_next P w l at on s i n h a = rw (column_next w l at on s i n h) at a
-
 -- ---- a search
-module _ {A : Type 0} (test : ℕ → Bool) (found : ℕ → A) (other : A) (w : ℕ) (l : List ℕ) where
-  abbrev pub Left : ℕ → ℕ → ℕ → A
-  Left at i n = searched test found other (column w l at (n - i))
+module _ {A : Type 0} (test : ℕ → Bool) (found : ℕ → A) (other : A) (w : ℕ) (l : List ℕ) (s n : ℕ) where
+  -- what the search of the numbers from number i on comes to
+  abbrev pub Left : ℕ → A
+  Left i = searched test found other (column w l (s + w * i) (n - i))
 
-  pub search_starts : (at n : ℕ) → searched test found other (column w l at n) ≡ Left at 0 n
-  search_starts at n = rw (column_starts w l at n)
+  pub search_starts : searched test found other (column w l s n) ≡ Left 0
+  search_starts = rw (column_first w l s n)
 
-  pub search_over : (at i n : ℕ) → n ≤ i → Left at i n ≡ other
-  search_over at i n h = rw (column_over w l at i n h) (none_left test found other)
+  pub search_over : (i : ℕ) → n ≤ i → Left i ≡ other
+  search_over i h = rw (column_over w l (s + w * i) i n h) (none_left test found other)
 
-  -- x stands here, and r is whether it passes
-  module _ (at i n : ℕ) (h : i < n) {x : ℕ} (e : x ≡ le32 l at) {r : Bool} (t : r ≡ test x) where
-    pub search_on : r ≡ true → (on : ℕ) → on ≡ at + w → Left at i n ≡ Left on (i + 1) n
-    search_on p on s = rw (column_next w l at on s i n h, ← e) (passed test found other _ (sym t ∙ p))
+  -- r is whether number i passes
+  module _ (i : ℕ) (h : i < n) {r : Bool} (t : r ≡ test (le32 l (s + w * i))) where
+    pub search_on : r ≡ true → Left i ≡ Left (i + 1)
+    search_on p = rw (column_next w l (s + w * i) (s + w * (i + 1)) (offset_next w i s) i n h) (passed test found other _ (sym t ∙ p))
 
-    pub search_stops : r ≡ false → Left at i n ≡ found x
-    search_stops p = rw (column_next w l at (at + w) refl i n h, ← e) (failed test found other _ (sym t ∙ p))
+    pub search_stops : r ≡ false → Left i ≡ found (le32 l (s + w * i))
+    search_stops p = rw (column_next w l (s + w * i) (s + w * (i + 1)) (offset_next w i s) i n h) (failed test found other _ (sym t ∙ p))
+
+-- what holds of all numbers holds of number i
+pub all_at : (P : ℕ → Type 0) (w : ℕ) (l : List ℕ) (s n : ℕ) → AllOf P (column w l s n) → (i : ℕ) → i < n → P (le32 l (s + w * i))
+unfolding column
+all_at P w l s zero a i h = absurd (omega arith)
+all_at P w l s (suc n) a zero h = let e : s + w * 0 ≡ s = omega (arith, mul-zero w) in rw e a.0
+all_at P w l s (suc n) a (suc i) h =
+    let e : s + w * suc i ≡ s + w + w * i = omega (arith, mul-suc w i) in
+    rw e (all_at P w l (s + w) n a.1 i (omega arith))
+
+-- what is found may be looked at afterwards
+choose_then : {A B : Type 0} (f : A → B) (t : Bool) (a b : A) → f (choose t a b) ≡ choose t (f a) (f b)
+choose_then f true a b = refl
+choose_then f false a b = refl
+
+pub searched_then : {A B : Type 0} (f : A → B) (test : ℕ → Bool) (found : ℕ → A) (other : A) (l : List ℕ)
+    → f (searched test found other l) ≡ searched test (λ x. f (found x)) (f other) l
+unfolding searched
+searched_then f test found other [] = refl
+searched_then {B = B} f test found other (x ∷ xs) =
+    choose_then f (test x) _ _ ∙ ap (λ (y : B). choose (test x) y (f (found x))) (searched_then f test found other xs)
 
 -- ---- rising
-module _ (w : ℕ) (l : List ℕ) (at : ℕ) where
-  pub rises_empty : (n : ℕ) → n ≡ 0 → is_rising (column w l at n) ≡ true
+module _ (w : ℕ) (l : List ℕ) (s n : ℕ) where
+  pub rises_empty : n ≡ 0 → is_rising (column w l s n) ≡ true
   unfolding column is_rising
-  rises_empty n e = rw e
+  rises_empty e = rw e
 
-  pub rises_first : (n : ℕ) → (n ≡ 0 → ⊥) → {x : ℕ} → x ≡ le32 l at → is_rising (column w l at n) ≡ rising_after x (column w l (at + w) (n - 1))
+  -- what is left after number i - 1, which is x
+  abbrev pub RisesOn : ℕ → ℕ → Bool
+  RisesOn x i = rising_after x (column w l (s + w * i) (n - i))
+
+  pub rises_first : (n ≡ 0 → ⊥) → {x : ℕ} → x ≡ le32 l (s + w * 0) → is_rising (column w l s n) ≡ RisesOn x 1
   unfolding is_rising
-  rises_first n z e = rw (← column_starts w l at n, column_next w l at (at + w) refl 0 n (omega arith), ← e)
+  rises_first z e = rw (← column_first w l s n, column_next w l (s + w * 0) (s + w * 1) (offset_next w 0 s) 0 n (omega arith), ← e)
 
-  module _ (i n x : ℕ) where
-    pub rises_over : n ≤ i → rising_after x (column w l at (n - i)) ≡ true
+  module _ (i x : ℕ) where
+    pub rises_over : n ≤ i → RisesOn x i ≡ true
     unfolding rising_after
-    rises_over h = rw (column_over w l at i n h)
+    rises_over h = rw (column_over w l (s + w * i) i n h)
 
-    module _ (h : i < n) {y : ℕ} (e : y ≡ le32 l at) where
-      pub rises_on : x < y → rising_after x (column w l at (n - i)) ≡ rising_after y (column w l (at + w) (n - (i + 1)))
+    module _ (h : i < n) {y : ℕ} (e : y ≡ le32 l (s + w * i)) where
+      pub rises_on : x < y → RisesOn x i ≡ RisesOn y (i + 1)
       unfolding rising_after
-      rises_on p = rw (column_next w l at (at + w) refl i n h, ← e, lt-ltb x y p)
+      rises_on p = rw (column_next w l (s + w * i) (s + w * (i + 1)) (offset_next w i s) i n h, ← e, lt-ltb x y p)
 
-      pub rises_stops : y ≤ x → rising_after x (column w l at (n - i)) ≡ false
+      pub rises_stops : y ≤ x → RisesOn x i ≡ false
       unfolding rising_after
-      rises_stops p = rw (column_next w l at (at + w) refl i n h, ← e, le-ltb x y p)
-
--- ---- two blocks: `same` says whether their first i bytes are
-module _ (one other : List ℕ) (i : ℕ) (same : Bool) where
-  pub bytes_on : i < length one → i < length other → (same && same_bytes (drop i one) (drop i other))
-      ≡ (same && eqb (get_or one i 0) (get_or other i 0) && same_bytes (drop (i + 1) one) (drop (i + 1) other))
-  unfolding same_bytes
-  bytes_on h g = rw (drop-cons one i 0 h, drop-cons other i 0 g, add-one i) (sym (and_assoc same (eqb (get_or one i 0) (get_or other i 0)) _))
-
-  pub bytes_over : length one ≤ i → length other ≤ i → (same && same_bytes (drop i one) (drop i other)) ≡ same
-  unfolding same_bytes
-  bytes_over h g = rw (drop_of_length-le one h, drop_of_length-le other g) (and-true same)
+      rises_stops p = rw (column_next w l (s + w * i) (s + w * (i + 1)) (offset_next w i s) i n h, ← e, le-ltb x y p)

@@ -1,20 +1,17 @@
 -- What Compare answers.
-use Rattle.std.specs.Prelude.{ℕ, Bool, ◌&&◌, List, length}
+use Rattle.std.specs.Prelude.{ℕ, ◌&&◌, List, length, Ok, Err}
 use Rattle.field.specs.Card.{Card, card_of}
 use Rattle.field.specs.Choice.{choose}
 use Rattle.superblock.specs.Shape.{in_shape}
 use Rattle.checkpoint.specs.declared.Volume.{Volume}
-use Rattle.checkpoint.specs.declared.Opening.{Opening}
-use Rattle.checkpoint.specs.declared.Opening.TheVariants.{Opened, Refused}
-use Rattle.checkpoint.specs.Volume.{opened}
+use Rattle.checkpoint.specs.Volume.{Opening, Opened, Refused, opened}
 use Rattle.walk.specs.Walk.{view_of}
 use Rattle.node.specs.Node.{bounds_of}
 use Rattle.compare.specs.declared.Compared.{Compared}
-use Rattle.compare.specs.declared.Difference.{Difference}
-use Rattle.compare.specs.declared.Difference.TheVariants.{Same, BoundsDiffer, NodeDiffers, BlockDiffers}
+use Rattle.compare.specs.declared.Difference.TheVariants.{BoundsDiffer, NodeDiffers, BlockDiffers}
 use Rattle.list.specs.Lists.{Listed, entries}
 use Rattle.compare.specs.Lists.{lists_in_shape}
-use Rattle.compare.specs.Difference.{difference}
+use Rattle.compare.specs.Difference.{Told, difference}
 
 -- "a result number that the answer doesn't name .. is 0"
 abbrev pub answered : ℕ → ℕ → ℕ → ℕ → Compared
@@ -26,11 +23,11 @@ refused answer side = answered answer side 0 0
 
 -- "16, changed, with kind and number of the first difference: 1 main area bounds (number 0), 2 lowest node number (table answer),
 -- 3 lowest block (bytes); else 15, same"
-abbrev pub verdict : Difference → Compared
-verdict Same = answered 15 0 0 0
-verdict BoundsDiffer = answered 16 0 1 0
-verdict (NodeDiffers n) = answered 16 0 2 n
-verdict (BlockDiffers b) = answered 16 0 3 b
+abbrev pub verdict : Told → Compared
+verdict (Ok same) = answered 15 0 0 0
+verdict (Err BoundsDiffer) = answered 16 0 1 0
+verdict (Err (NodeDiffers n)) = answered 16 0 2 n
+verdict (Err (BlockDiffers b)) = answered 16 0 3 b
 
 -- both images opened: "then 4 if [the lists are out of shape]; then 16 ..; else 15"
 unfoldable pub compared_open : Card → Volume → Card → Volume → Listed → Listed → Compared

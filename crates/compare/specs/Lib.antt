@@ -1,3 +1,4 @@
+pub mod Column
 pub mod Lists
 pub mod Difference
 pub mod Compare

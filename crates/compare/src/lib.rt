@@ -1,22 +1,28 @@
 // Compare: whether a new image gives a pull's answer again, from the lists of what that answer rested on.
-// What each means is in specs/: Lists, Difference, Compare.
+// What each means is in specs/: Column, Lists, Difference, Compare.
 #![tactic(auto)]
 
-ghost use Rattle.std.specs.Prelude.{◌≡◌, true, ◌&&◌, ◌+◌, ◌*◌, ◌≤◌, leb, length};
+ghost use Rattle.std.specs.Prelude.{◌≡◌, ℕ, Bool, ◌+◌, ◌*◌, ◌≤◌, ◌<◌, Ok, Err, length};
 ghost use Rattle.field.specs.Card.{card_of};
-ghost use Rattle.checkpoint.specs.Volume.{VolumeIn};
-ghost use Rattle.nat.specs.Table.{table_answer};
-ghost use Rattle.list.specs.Lists.{AllOf, column, listing, entries, count_fits};
-ghost use Rattle.walk.specs.Walk.{view_of};
+ghost use Rattle.checkpoint.specs.OpenImage.{card_in};
+ghost use Rattle.list.specs.Lists.{AllOf, listing};
+ghost use Rattle.walk.specs.Lent.{view_in};
 ghost use Rattle.node.specs.Node.{bounds_of};
-ghost use Rattle.compare.specs.Lists.{is_rising, all_in_main, lists_in_shape};
-ghost use Rattle.compare.specs.Difference.{same_bounds, same_answer, same_bytes, blocks_differ, nodes_differ, difference, InBoth};
+ghost use Rattle.compare.specs.Column.{bounds_in, numbers_in, place_of, number_at, all_pass, ListedIn};
+ghost use Rattle.compare.specs.Lists.{is_rising, all_in_main, InMain, ListsIn};
+ghost use Rattle.compare.specs.Difference.{same_answer, same_bytes, bounds_differ, blocks_differ, nodes_differ, difference, InBoth};
 ghost use Rattle.compare.specs.Compare.{answered, verdict, compared_open, compared};
 
+use answer::Refusal;
+use checkpoint::OpenImage;
+
+mod column;
+
+pub use column::Column;
+
 // The first difference between two cards, on what the lists name.
-#[derive(Clone, Copy)]
+#[derive(Clone, Copy, Debug, PartialEq, Eq)]
 pub enum Difference {
-    Same,
     BoundsDiffer,
     NodeDiffers(u32),
     BlockDiffers(u32),
@@ -32,227 +38,174 @@ pub struct Compared {
     pub number: u32,
 }
 
+// The bounds of the main area: its first block, and the one behind its last.
+#[derive(Clone, Copy, Debug, PartialEq, Eq)]
+pub struct Bounds {
+    pub start: u32,
+    pub end: u32,
+}
+
+pub fn main_area(v: checkpoint::Volume) -> Bounds
+    ensures { bounds_in result ≡ bounds_of v }
+{
+    let areas = v.areas;
+    Bounds {
+        start: areas.main,
+        end: areas.main_end,
+    }
+}
+
+// ---- numbers a width apart
+
+impl Column<'_> {
+    // Where number i stands.
+    fn place(self, i: usize) -> usize
+        requires { i < self.count }
+        ensures { (result ≡ self.entry.start + self.entry.width * i) × (result + 4 ≤ length self.entry.bytes.now) }
+    {
+        self.start + self.width * i
+    }
+
+    pub fn is_rising(self) -> bool
+        ensures { result ≡ is_rising (numbers_in self.entry) }
+    {
+        if self.count == 0 {
+            return true;
+        }
+        let mut last = field::get32(self.bytes, self.place(0));
+        for i in 1..self.count {
+            let next = field::get32(self.bytes, self.place(i));
+            if next <= last {
+                return false;
+            }
+            last = next;
+        }
+        true
+    }
+
+    // Ok if each number passes a test, which is given the number's place too; else the first that doesn't.
+    pub fn all_pass<F: Fn(usize, u32) -> bool>(self, test: F) -> Result<(), u32>
+        requires { (i : ℕ) → i < self.count → F.pre test (place_of self i) (number_at self i) }
+        ensures { (passes : ℕ → Bool)
+            → ((i : ℕ) → i < self.entry.count → (r : Bool) → F.post test (place_of self.entry i) (number_at self.entry i) r
+            → r ≡ passes (number_at self.entry i))
+            → result ≡ all_pass passes (numbers_in self.entry) }
+    {
+        for i in 0..self.count {
+            let at = self.place(i);
+            let number = field::get32(self.bytes, at);
+            if !test(at, number) {
+                return Err(number);
+            }
+        }
+        Ok(())
+    }
+
+    pub fn all_in(self, main: Bounds) -> bool
+        ensures { result ≡ all_in_main (bounds_in main) (numbers_in self.entry) }
+    {
+        self.all_pass(|_, b| (main.start <= b) & (b < main.end))
+            .is_ok()
+    }
+}
+
 // ---- the lists' shape
 
-// Some node is listed, and both counts are within their slices.
-fn counts_fit(nodes: &[u8], node_count: u32, blocks: &[u8], block_count: u32) -> bool
-    ensures { result
-        ≡ (leb 1 node_count && count_fits (listing nodes.now node_count)
-        && count_fits (listing blocks.now block_count)) }
-{
-    (1 <= node_count)
-        & (node_count as usize <= nodes.len() / 4)
-        & (block_count as usize <= blocks.len() / 4)
+// The nodes and blocks that an answer rested on.
+#[derive(Clone, Copy)]
+struct Lists<'a> {
+    nodes: Column<'a>,
+    blocks: Column<'a>,
 }
 
-// Here and in `all_in_main` the numbers stand `width` bytes apart, the first at `start`: in a list by itself 4, in a keep file more.
-pub fn is_rising(bytes: &[u8], start: usize, width: usize, count: usize) -> bool
-    requires { (4 ≤ width) × (start + width * count ≤ length bytes.now) }
-    ensures { result ≡ is_rising (column width bytes.now start count) }
+// A list as it comes, unless its count exceeds its slice.
+fn listed(bytes: &[u8], count: u32) -> Option<Column<'_>>
+    ensures { ListedIn (listing bytes.now count) result }
 {
-    if count == 0 {
-        return true;
+    let count = count as usize;
+    if count <= bytes.len() / 4 {
+        Some(Column {
+            bytes,
+            start: 0,
+            width: 4,
+            count,
+        })
+    } else {
+        None
     }
-    let mut last = field::get32(bytes, start);
-    let mut at = start + width;
-    let mut i: usize = 1;
-    while i < count {
-        let next = field::get32(bytes, at);
-        if next <= last {
-            return false;
-        }
-        last = next;
-        at += width;
-        i += 1;
-    }
-    true
 }
 
-pub fn all_in_main(
-    main: u32,
-    main_end: u32,
-    bytes: &[u8],
-    start: usize,
-    width: usize,
-    count: usize,
-) -> bool
-    requires { (4 ≤ width) × (start + width * count ≤ length bytes.now) }
-    ensures { result ≡ all_in_main (record { start = main; end = main_end }) (column width bytes.now start count) }
-{
-    let mut at = start;
-    let mut i: usize = 0;
-    while i < count {
-        let b = field::get32(bytes, at);
-        if !((main <= b) & (b < main_end)) {
-            return false;
-        }
-        at += width;
-        i += 1;
-    }
-    true
-}
-
-// The counts first: no number is read past its slice.
-fn lists_in_shape(
+// Both lists, if they are in shape. The counts first: no number is read past its slice.
+fn lists_in_shape<'a>(
     v: checkpoint::Volume,
-    nodes: &[u8],
+    nodes: &'a [u8],
     node_count: u32,
-    blocks: &[u8],
+    blocks: &'a [u8],
     block_count: u32,
-) -> bool
-    ensures { result
-        ≡ lists_in_shape (bounds_of v) (listing nodes.now node_count) (listing blocks.now block_count) }
+) -> Option<Lists<'a>>
+    ensures { ListsIn (bounds_of v) (listing nodes.now node_count) (listing blocks.now block_count) result }
 {
-    if !counts_fit(nodes, node_count, blocks, block_count) {
-        return false;
+    let nodes = listed(nodes, node_count)?;
+    let blocks = listed(blocks, block_count)?;
+    if (1 <= nodes.count) & nodes.is_rising() & blocks.is_rising() & blocks.all_in(main_area(v)) {
+        Some(Lists { nodes, blocks })
+    } else {
+        None
     }
-    let areas = v.areas;
-    is_rising(nodes, 0, 4, node_count as usize)
-        & is_rising(blocks, 0, 4, block_count as usize)
-        & all_in_main(
-            areas.main,
-            areas.main_end,
-            blocks,
-            0,
-            4,
-            block_count as usize,
-        )
 }
 
 // ---- the first difference
 
-fn same_bounds(v: checkpoint::Volume, u: checkpoint::Volume) -> bool
-    ensures { result ≡ same_bounds (bounds_of v) (bounds_of u) }
+pub fn compare_bounds(kept: Bounds, fresh: Bounds) -> Result<(), Difference>
+    ensures { result ≡ bounds_differ (bounds_in kept) (bounds_in fresh) }
 {
-    let a = v.areas;
-    let b = u.areas;
-    (a.main == b.main) & (a.main_end == b.main_end)
-}
-
-pub fn same_answer(one: nat::TableAnswer, other: nat::TableAnswer) -> bool
-    ensures { result ≡ same_answer one other }
-{
-    match one {
-        nat::TableAnswer::OutOfRange => match other {
-            nat::TableAnswer::OutOfRange => true,
-            nat::TableAnswer::Entry(_, _) => false,
-        },
-        nat::TableAnswer::Entry(i, a) => match other {
-            nat::TableAnswer::OutOfRange => false,
-            nat::TableAnswer::Entry(j, b) => (i == j) & (a == b),
-        },
+    if kept == fresh {
+        Ok(())
+    } else {
+        Err(Difference::BoundsDiffer)
     }
 }
 
-fn same_node(
-    kept: &[u8],
-    v: checkpoint::Volume,
-    fresh: &[u8],
-    u: checkpoint::Volume,
-    number: u32,
-) -> bool
-    requires volume_in { VolumeIn (card_of kept.now) v }
-    requires volume_in_2 { VolumeIn (card_of fresh.now) u }
-    ensures { result
-        ≡ same_answer (table_answer (card_of kept.now) v number) (table_answer (card_of fresh.now) u number) }
+fn same_node(kept: OpenImage, fresh: OpenImage, number: u32) -> bool
+    ensures { result ≡ same_answer ((view_in kept.entry).table number) ((view_in fresh.entry).table number) }
 {
-    same_answer(
-        nat::table_answer(kept, v, number),
-        nat::table_answer(fresh, u, number),
-    )
-}
-
-// Two blocks. There is no way out of the loop before its end, so that it is compiled to wide loads: sixteen bytes a step.
-pub fn same_bytes(one: &[u8], other: &[u8]) -> bool
-    requires { (length one.now ≡ 4096) × (length other.now ≡ 4096) }
-    ensures { result ≡ same_bytes one.now other.now }
-{
-    let mut same = true;
-    let mut i: usize = 0;
-    while i < 4096 {
-        same = same & (one[i] == other[i]);
-        i += 1;
-    }
-    same
+    nat::table_answer(kept, number) == nat::table_answer(fresh, number)
 }
 
 fn same_block(kept: &[u8], fresh: &[u8], b: u32) -> bool
     requires { InBoth (card_of kept.now) (card_of fresh.now) b }
     ensures { result ≡ same_bytes ((card_of kept.now).block b) ((card_of fresh.now).block b) }
 {
-    same_bytes(field::block_at(kept, b), field::block_at(fresh, b))
+    field::block_at(kept, b) == field::block_at(fresh, b)
 }
 
-fn nodes_differ(
-    kept: &[u8],
-    v: checkpoint::Volume,
-    fresh: &[u8],
-    u: checkpoint::Volume,
-    nodes: &[u8],
-    count: u32,
-) -> Difference
-    requires volume_in { VolumeIn (card_of kept.now) v }
-    requires volume_in_2 { VolumeIn (card_of fresh.now) u }
-    requires count_in_bounds { 4 * count ≤ length nodes.now }
-    ensures { result
-        ≡ nodes_differ (table_answer (card_of kept.now) v) (table_answer (card_of fresh.now) u) Difference.Same
-        (entries (listing nodes.now count)) }
+fn compare_nodes(kept: OpenImage, fresh: OpenImage, nodes: Column) -> Result<(), Difference>
+    ensures { result ≡ nodes_differ (view_in kept.entry).table (view_in fresh.entry).table (Ok tt) (numbers_in nodes.entry) }
 {
-    let mut i: usize = 0;
-    while i < count as usize {
-        let number = field::get32(nodes, 4 * i);
-        if !same_node(kept, v, fresh, u, number) {
-            return Difference::NodeDiffers(number);
-        }
-        i += 1;
-    }
-    Difference::Same
+    nodes
+        .all_pass(|_, number| same_node(kept, fresh, number))
+        .map_err(|number| Difference::NodeDiffers(number))
 }
 
-fn blocks_differ(kept: &[u8], fresh: &[u8], blocks: &[u8], count: u32) -> Difference
-    requires all_of { AllOf (InBoth (card_of kept.now) (card_of fresh.now)) (entries (listing blocks.now count)) }
-    requires count_in_bounds { 4 * count ≤ length blocks.now }
-    ensures { result
-        ≡ blocks_differ (card_of kept.now).block (card_of fresh.now).block
-        (entries (listing blocks.now count)) }
+fn compare_blocks(kept: &[u8], fresh: &[u8], blocks: Column) -> Result<(), Difference>
+    requires { AllOf (InBoth (card_of kept.now) (card_of fresh.now)) (numbers_in blocks) }
+    ensures { result ≡ blocks_differ (card_of kept.now).block (card_of fresh.now).block (numbers_in blocks.entry) }
 {
-    let mut i: usize = 0;
-    while i < count as usize {
-        let b = field::get32(blocks, 4 * i);
-        if !same_block(kept, fresh, b) {
-            return Difference::BlockDiffers(b);
-        }
-        i += 1;
-    }
-    Difference::Same
+    blocks
+        .all_pass(|_, b| same_block(kept, fresh, b))
+        .map_err(|b| Difference::BlockDiffers(b))
 }
 
 // The bounds first: equal bounds put each listed block inside both images.
-fn first_difference(
-    kept: &[u8],
-    v: checkpoint::Volume,
-    fresh: &[u8],
-    u: checkpoint::Volume,
-    nodes: &[u8],
-    node_count: u32,
-    blocks: &[u8],
-    block_count: u32,
-) -> Difference
-    requires volume_in { VolumeIn (card_of kept.now) v }
-    requires volume_in_2 { VolumeIn (card_of fresh.now) u }
-    requires block_count_value { lists_in_shape (bounds_of v) (listing nodes.now node_count) (listing blocks.now block_count) ≡ true }
+fn first_difference(kept: OpenImage, fresh: OpenImage, lists: Lists) -> Result<(), Difference>
+    requires { InMain (bounds_of kept.volume) (numbers_in lists.blocks) }
     ensures { result
-        ≡ difference (bounds_of v) (bounds_of u) (view_of (card_of kept.now) v) (view_of (card_of fresh.now) u)
-        (entries (listing nodes.now node_count)) (entries (listing blocks.now block_count)) }
+        ≡ difference (bounds_of kept.entry.volume) (bounds_of fresh.entry.volume) (view_in kept.entry) (view_in fresh.entry)
+        (numbers_in lists.entry.nodes) (numbers_in lists.entry.blocks) }
 {
-    if !same_bounds(v, u) {
-        return Difference::BoundsDiffer;
-    }
-    let first = nodes_differ(kept, v, fresh, u, nodes, node_count);
-    if let Difference::Same = first {
-        return blocks_differ(kept, fresh, blocks, block_count);
-    }
-    first
+    compare_bounds(main_area(kept.volume), main_area(fresh.volume))?;
+    compare_nodes(kept, fresh, lists.nodes)?;
+    compare_blocks(kept.image, fresh.image, lists.blocks)
 }
 
 // ---- the answer
@@ -268,37 +221,33 @@ pub fn numbers_of(answer: u32, side: u32, kind: u32, number: u32) -> Compared
     }
 }
 
-pub fn verdict_of(first: Difference) -> Compared
+pub fn verdict_of(first: Result<(), Difference>) -> Compared
     ensures { result ≡ verdict first }
 {
     match first {
-        Difference::Same => numbers_of(answer::SAME, 0, 0, 0),
-        Difference::BoundsDiffer => numbers_of(answer::CHANGED, 0, 1, 0),
-        Difference::NodeDiffers(n) => numbers_of(answer::CHANGED, 0, 2, n),
-        Difference::BlockDiffers(b) => numbers_of(answer::CHANGED, 0, 3, b),
+        Ok(()) => numbers_of(answer::SAME, 0, 0, 0),
+        Err(Difference::BoundsDiffer) => numbers_of(answer::CHANGED, 0, 1, 0),
+        Err(Difference::NodeDiffers(n)) => numbers_of(answer::CHANGED, 0, 2, n),
+        Err(Difference::BlockDiffers(b)) => numbers_of(answer::CHANGED, 0, 3, b),
     }
 }
 
 fn compare_opened(
-    kept: &[u8],
-    v: checkpoint::Volume,
-    fresh: &[u8],
-    u: checkpoint::Volume,
+    kept: OpenImage,
+    fresh: OpenImage,
     nodes: &[u8],
     node_count: u32,
     blocks: &[u8],
     block_count: u32,
 ) -> Compared
-    requires volume_in { VolumeIn (card_of kept.now) v }
-    requires volume_in_2 { VolumeIn (card_of fresh.now) u }
     ensures { result
-        ≡ compared_open (card_of kept.now) v (card_of fresh.now) u
+        ≡ compared_open (card_in kept.entry) kept.entry.volume (card_in fresh.entry) fresh.entry.volume
         (listing nodes.now node_count) (listing blocks.now block_count) }
 {
-    if !lists_in_shape(v, nodes, node_count, blocks, block_count) {
-        return numbers_of(answer::OUT_OF_SHAPE, 0, 0, 0);
+    match lists_in_shape(kept.volume, nodes, node_count, blocks, block_count) {
+        Some(lists) => verdict_of(first_difference(kept, fresh, lists)),
+        None => numbers_of(Refusal::OutOfShape.number(), 0, 0, 0),
     }
-    verdict_of(first_difference(kept, v, fresh, u, nodes, node_count, blocks, block_count))
 }
 
 // Each image is opened once. The lists come as they are: nobody has checked anything beforehand.
@@ -315,15 +264,15 @@ pub fn compare(
         (listing blocks.now block_count) }
 {
     if !(superblock::in_shape(kept.len()) & superblock::in_shape(fresh.len())) {
-        return numbers_of(answer::OUT_OF_SHAPE, 0, 0, 0);
+        return numbers_of(Refusal::OutOfShape.number(), 0, 0, 0);
     }
-    let v = match checkpoint::open(kept) {
-        checkpoint::Opening::Opened(v) => v,
-        checkpoint::Opening::Refused(number) => return numbers_of(number, 1, 0, 0),
+    let kept = match checkpoint::open(kept) {
+        Ok(card) => card,
+        Err(refusal) => return numbers_of(refusal.number(), 1, 0, 0),
     };
-    let u = match checkpoint::open(fresh) {
-        checkpoint::Opening::Opened(u) => u,
-        checkpoint::Opening::Refused(number) => return numbers_of(number, 2, 0, 0),
+    let fresh = match checkpoint::open(fresh) {
+        Ok(card) => card,
+        Err(refusal) => return numbers_of(refusal.number(), 2, 0, 0),
     };
-    compare_opened(kept, v, fresh, u, nodes, node_count, blocks, block_count)
+    compare_opened(kept, fresh, nodes, node_count, blocks, block_count)
 }

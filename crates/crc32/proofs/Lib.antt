@@ -1,4 +1,3 @@
-pub mod Xor
 pub mod Linear
 pub mod EightBytes
 pub mod Turns

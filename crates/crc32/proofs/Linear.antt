@@ -5,9 +5,14 @@ use native.Mathlib.Nat.{mod-lt, zero-add, suc-add, mul-one}
 use native.Mathlib.Omega.{arith}
 use lib.Dec.{lit<}
 use lib.Pow.{pow_pos, split}
-use lib.Bits.{bit_xor, xor_shr, xor_mod, xor_comm, xor_zero_r, xor_shifted, shifted_half, shifted_even}
+use lib.Bits.{bit_xor, xor_shr, xor_mod, xor_comm, xor_assoc, xor_zero_r, xor_shifted, shifted_half, shifted_even}
 use Rattle.crc32.specs.Checksum.{polynomial, crc_bit, crc_bits}
-use Rattle.crc32.proofs.Xor.{xor_four}
+
+-- For a step of a sum: two pairs, regrouped.
+xor_four : (a b c d : ℕ) → bit_xor (bit_xor a b) (bit_xor c d) ≡ bit_xor (bit_xor a c) (bit_xor b d)
+xor_four a b c d =
+    xor_assoc a b (bit_xor c d) ∙ ap (bit_xor a) (sym (xor_assoc b c d) ∙ ap (λ (x : ℕ). bit_xor x d) (xor_comm b c) ∙ xor_assoc c b d)
+    ∙ sym (xor_assoc a c (bit_xor b d))
 
 -- For `bit_xor_lem`: a digit's multiple of the polynomial.
 times : (x y : ℕ) → x < 2 → y < 2 → bit_xor x y * polynomial ≡ bit_xor (x * polynomial) (y * polynomial)

@@ -1,3 +1,3 @@
-pub mod Slots
+pub mod Cases
 pub mod Runs
 pub mod Scans

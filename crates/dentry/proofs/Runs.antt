@@ -17,7 +17,7 @@ use Rattle.dentry.specs.declared.Slot.{Slot}
 use Rattle.dentry.specs.declared.Slot.TheVariants.{Free, Match, Other, Malformed}
 use Rattle.dentry.specs.Slot.{Wanted, slot_at, slots_from}
 use Rattle.dentry.specs.Scan.{free_run, tally_after, tally_from, ends_run, entries_from, runs_from, turns_from, entries_in, turns_in, turns_most}
-use Rattle.dentry.proofs.Slots.{bit_of, slot_free, slot_bit}
+use Rattle.dentry.proofs.Cases.{bit_of, slot_free, slot_bit}
 
 -- ---- a run from a slot on
 module _ (l : Layout) (part : List ℕ) (slot : ℕ) where

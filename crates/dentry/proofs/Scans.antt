@@ -10,26 +10,24 @@ use Rattle.dentry.specs.declared.Layout.{Layout}
 use Rattle.dentry.specs.declared.Slot.{Slot}
 use Rattle.dentry.specs.declared.Slot.TheVariants.{Free, Match, Other, Malformed}
 use Rattle.dentry.specs.declared.Scan.{Scan}
-use Rattle.dentry.specs.declared.Turn.{Turn}
 use Rattle.dentry.specs.Slot.{Wanted, slot_at, Sought, absent, found, malformed, after_slot, slots_from, in_part, in_slots}
-use Rattle.dentry.specs.Scan.{free_run, entries_from, runs_from, turns_from, tally_after, ends_run, turns_in, turns_most, Scanning, Took}
+use Rattle.dentry.specs.Scan.{free_run, entries_from, runs_from, turns_from, tally_after, ends_run, turns_in, turns_most, Scanning}
 use Rattle.field.proofs.Zeros.{zeros_le}
-use Rattle.dentry.proofs.Slots.{bit_of, slot_bit, other_bounds_lem}
+use Rattle.dentry.proofs.Cases.{bit_of, slot_bit, other_bounds_lem}
 use Rattle.dentry.proofs.Runs.{tally_over, run_free, slots_run, turns_run, step_used, turns_most_lem, entries_most}
 
--- what a turn came to, by the variant that was told
-pub took_told : (l : Layout) (part : List ℕ) (w : Wanted) (scan next : Scan) {turn told : Turn}
-    → Took l part w scan turn next → turn ≡ told → Took l part w scan told next
-took_told l part w scan next took e = subst (λ (turn : Turn). Took l part w scan turn next) e took
-
--- what the slots of a block come to, by the layout and the part of it that were given
-pub by_part : {l m : Layout} {part : List ℕ} {o : Sought} (block : List ℕ) (w : Wanted) → l ≡ m → part ≡ drop l.start block → in_part l part w ≡ o
+-- what the slots of a block come to, by what was said of the layout and of the part of it (`slots_of`)
+pub by_part : {l m : Layout} {part : List ℕ} {o : Sought} (block : List ℕ) (w : Wanted) → (l ≡ m) × (part ≡ drop m.start block) → in_part l part w ≡ o
     → in_slots m block w ≡ o
-by_part {l = l} block w e p f =
-    ap (λ (k : Layout). in_slots k block w) (sym e) ∙ ap (λ (q : List ℕ). in_part l q w) (sym p) ∙ f
+by_part block w slots came = rw (slots.0, slots.1) at came
 
-pub scanning_start : (l : Layout) (part : List ℕ) (w : Wanted) → Scanning l part w (record { slot = 0; turns = 0 })
-scanning_start l part w = record { left = l.slots; enough = omega arith; same = refl; counted = omega arith }
+-- it starts at the first slot
+pub scanning_start : (l : Layout) (part : List ℕ) (w : Wanted) {scan : Scan} → (scan.slot ≡ 0) × (scan.turns ≡ 0) → Scanning l part w scan
+scanning_start l part w {scan} start =
+    record { left = l.slots; enough = omega arith; same = ap (slots_from l part w l.slots) (sym start.0); counted = all }
+  where
+    all : scan.turns + turns_from l part w l.slots scan.slot ≡ turns_in l part w
+    all = rw (start.0, start.1) (omega arith)
 
 module _ {l : Layout} {part : List ℕ} {w : Wanted} {scan : Scan} (go : Scanning l part w scan) where
   abbrev slot : ℕ

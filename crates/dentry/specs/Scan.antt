@@ -1,14 +1,14 @@
 -- The scan of a layout's slots, counted, by the bytes from its start on. K5: "A block's scan counts its turns, one an entry looked at
 -- and one a run skipped: at most 2e + 1 for e entries."
-use Rattle.std.specs.Prelude.{ℕ, zero, suc, ◌+◌, ◌-◌, ◌*◌, ◌≤◌, ◌<◌, ◌≡◌, List, ltb, eqb}
+use Rattle.std.specs.Prelude.{ℕ, zero, suc, ◌+◌, ◌-◌, ◌*◌, ◌≤◌, ◌<◌, ◌≡◌, List, ltb, eqb, Option, Some, None, Result, Ok, Err}
+use Rattle.answer.specs.declared.Stop.{Stop}
+use Rattle.answer.specs.declared.Stop.TheVariants.{MalformedSlot}
 use Rattle.field.specs.Choice.{choose}
 use Rattle.field.specs.Map.{low_bit, low_zeros}
 use Rattle.dentry.specs.declared.Layout.{Layout}
 use Rattle.dentry.specs.declared.Slot.{Slot}
 use Rattle.dentry.specs.declared.Slot.TheVariants.{Free, Match, Other, Malformed}
 use Rattle.dentry.specs.declared.Scan.{Scan}
-use Rattle.dentry.specs.declared.Turn.{Turn}
-use Rattle.dentry.specs.declared.Turn.TheVariants as t
 use Rattle.dentry.specs.Slot.{Wanted, slot_at, Sought, absent, found, malformed, slots_from, in_part}
 
 -- "a run of free slots": those from a slot on, up to the first that is in use or the last of all
@@ -67,13 +67,13 @@ pub record Scanning (l : Layout) (part : List ℕ) (w : Wanted) (scan : Scan) : 
   pub counted : scan.turns + turns_from l part w left scan.slot ≡ turns_in l part w
 
 -- what a scan came to by its last turn: one that went on to the end found nothing
-abbrev pub sought_of : Turn → Sought
-sought_of t.On = absent
-sought_of (t.Found ino) = found ino
-sought_of t.Malformed = malformed
+abbrev pub sought_of : Result (Option ℕ) Stop → Sought
+sought_of (Ok None) = absent
+sought_of (Ok (Some ino)) = found ino
+sought_of (Err stop) = malformed
 
 -- What a turn comes to: the scan goes on, further than it was, or it has ended and took all turns.
-abbrev pub Took : Layout → List ℕ → Wanted → Scan → Turn → Scan → Type 0
-Took l part w scan t.On next = (scan.slot < next.slot) × Scanning l part w next
-Took l part w scan (t.Found ino) next = (in_part l part w ≡ found ino) × (next.turns ≡ turns_in l part w)
-Took l part w scan t.Malformed next = (in_part l part w ≡ malformed) × (next.turns ≡ turns_in l part w)
+abbrev pub Took : Layout → List ℕ → Wanted → Scan → Result (Option ℕ) Stop → Scan → Type 0
+Took l part w scan (Ok None) next = (scan.slot < next.slot) × Scanning l part w next
+Took l part w scan (Ok (Some ino)) next = (in_part l part w ≡ found ino) × (next.turns ≡ turns_in l part w)
+Took l part w scan (Err stop) next = (stop ≡ MalformedSlot) × (in_part l part w ≡ malformed) × (next.turns ≡ turns_in l part w)

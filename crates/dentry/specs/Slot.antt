@@ -6,6 +6,7 @@ use Rattle.field.specs.Choice.{choose}
 use Rattle.field.specs.Bytes.{same_at}
 use Rattle.inode.specs.Inode.{inline_start}
 use Rattle.dentry.specs.declared.Layout.{Layout}
+use Rattle.dentry.specs.declared.Name.{Name}
 use Rattle.dentry.specs.declared.Slot.{Slot}
 use Rattle.dentry.specs.declared.Slot.TheVariants.{Free, Match, Other, Malformed}
 
@@ -16,6 +17,10 @@ pub record Wanted : Type 0 where
 
 abbrev pub wanted : ℕ → List ℕ → Wanted
 wanted hash name = record { hash = hash; name = name }
+
+-- the same as the code has it
+abbrev pub wanted_in : Name → Wanted
+wanted_in n = wanted n.hash n.bytes.now
 
 -- ---- where slots are
 

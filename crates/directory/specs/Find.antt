@@ -1,15 +1,14 @@
 -- The search of a name in a directory: levels, in each its bucket's blocks, in each its slots; in an inline directory, the slots of its inode.
-use Rattle.std.specs.Prelude.{ℕ, zero, suc, ◌+◌, Bool, List, eqb}
+use Rattle.std.specs.Prelude.{ℕ, zero, suc, ◌+◌, Bool, List, eqb, Result, Ok, Err}
+use Rattle.answer.specs.declared.Stop.{Stop}
+use Rattle.answer.specs.Number.{stop_number}
 use Rattle.field.specs.Choice.{choose}
 use Rattle.walk.specs.Walk.{Walk, done, Outcome, ok, stop, and_then}
-use Rattle.field.specs.Card.{Card}
-use Rattle.checkpoint.specs.declared.Volume.{Volume}
-use Rattle.node.specs.declared.File.{File}
 use Rattle.node.specs.Node.{Bounds, bounds_of}
+use Rattle.node.specs.Found.{inode_of}
 use Rattle.node.specs.Block.{Fetched, hole, held, block_walk}
 use Rattle.hash_level.specs.Level.{blocks_of, bucket_of}
-use Rattle.directory.specs.declared.Entry.{Entry}
-use Rattle.directory.specs.declared.Entry.TheVariants.{Found, Stop}
+use Rattle.directory.specs.declared.dir.Directory as code
 use Rattle.dentry.specs.Slot.{layout_of, Wanted, Sought, absent, found, malformed, in_slots, in_inode}
 
 -- a directory: the main area bounds, its inode's number and bytes, how many addresses the inode holds, whether it is inline, and its
@@ -26,10 +25,9 @@ abbrev pub directory : Bounds → ℕ → List ℕ → ℕ → Bool → ℕ → 
 directory m ino inode A inline dir =
     record { bounds = m; ino = ino; inode = inode; addresses = A; inline = inline; dir_level = dir }
 
--- the directory that the code has as a file of an opened card
-abbrev pub directory_of : Card → Volume → File → Bool → ℕ → Directory
-directory_of card v file inline dir =
-    directory (bounds_of v) file.ino (card.block file.inode) file.addresses inline dir
+-- the directory that the code has
+abbrev pub directory_of : code.Directory → Directory
+directory_of d = directory (bounds_of d.file.card.volume) d.file.ino (inode_of d.file) d.file.addresses d.inline d.dir_level
 
 -- its block of an index. K4: of an inline directory the inode's own is the first, and there is no other
 unfoldable pub fetch_from : Bool → Bounds → ℕ → List ℕ → ℕ → ℕ → Walk (Outcome Fetched)
@@ -68,6 +66,6 @@ find_walk d w depth =
     choose d.inline (after_slots (done (stop 2)) (in_inode d.inode w)) (levels_walk d w depth 0)
 
 -- the code's answer as the walk's
-abbrev pub entry_of : Entry → Outcome ℕ
-entry_of (Found ino) = ok ino
-entry_of (Stop answer) = stop answer
+abbrev pub entry_of : Result ℕ Stop → Outcome ℕ
+entry_of (Ok ino) = ok ino
+entry_of (Err e) = stop (stop_number e)

@@ -1,23 +1,23 @@
--- One turn of a comparison with a byte string: what is left to compare once its first `i` bytes are passed.
-use mathlib.Core.Path.{◌≡◌, ◌∙◌}
-use mathlib.Core.List.{List}
-use mathlib.Core.Bool.{false, ◌&&◌}
-use Prim.Native.Nat.{ℕ, ◌+◌, ◌<◌}
-use native.Mathlib.Nat.{add_assoc}
+-- A comparison of a part of the bytes with a byte string, element by element.
+use mathlib.Core.Path.{◌≡◌, refl, ap}
+use mathlib.Core.List.{List, [], ◌∷◌}
+use mathlib.Core.Bool.{◌&&◌}
+use Prim.Native.Nat.{ℕ, suc, ◌+◌, ◌-◌, ◌≤◌}
+use native.Mathlib.Omega.{arith}
 use native.Mathlib.Numerals.{add-one}
 use lib.Dec.{eqb}
-use lib.ListN.{length, get_or, drop}
+use lib.ListN.{length, get_or, take, drop}
 use lib.Seq.{drop-cons}
+use Rattle.std.specs.Cmp.Lexicographic.{pointwise}
 use Rattle.field.specs.Bytes.{same_at}
-use borrow.Author.Tests.{eq-eqb, ne_eqb}
 
-module _ (bytes : List ℕ) (at : ℕ) (string : List ℕ) (i : ℕ) (h : i < length string) where
-  same_step : same_at bytes (at + i) (drop i string) ≡ eqb (get_or bytes (at + i) 0) (get_or string i 0) && same_at bytes (at + (i + 1)) (drop (i + 1) string)
-  unfolding same_at
-  same_step = rw (drop-cons string i 0 h, add_assoc at i 1, add-one i)
+same_drop : (bytes : List ℕ) (at : ℕ) (string : List ℕ) → at + length string ≤ length bytes
+    → pointwise eqb (take (length string) (drop at bytes)) string ≡ same_at bytes at string
+unfolding same_at
+same_drop bytes at [] h = refl
+same_drop bytes at (x ∷ xs) h =
+    rw (drop-cons bytes at 0 (omega arith)) (rw add-one (ap (λ t. eqb (get_or bytes at 0) x && t) (same_drop bytes (suc at) xs (omega arith))))
 
-  pub same_next : get_or bytes (at + i) 0 ≡ get_or string i 0 → same_at bytes (at + i) (drop i string) ≡ same_at bytes (at + (i + 1)) (drop (i + 1) string)
-  same_next e = same_step ∙ rw (eq-eqb _ _ e)
-
-  pub same_stops : (get_or bytes (at + i) 0 ≡ get_or string i 0 → ⊥) → same_at bytes (at + i) (drop i string) ≡ false
-  same_stops e = same_step ∙ rw (ne_eqb _ _ e)
+pub same_is : (bytes : List ℕ) (at : ℕ) (string : List ℕ) → at + length string ≤ length bytes
+    → pointwise eqb (take (at + length string - at) (drop at bytes)) string ≡ same_at bytes at string
+same_is bytes at string h = let n : at + length string - at ≡ length string = omega arith in rw n (same_drop bytes at string h)

@@ -1,6 +1,6 @@
 -- Zeros of a map counted in words. A count over any digits is cut, stopped and gone on with by the same laws; the digits of a word
 -- that is read from a map are the map's bits, lowest first.
-use Prim.Native.Nat.{ℕ, zero, suc, ◌+◌, ◌-◌, ◌*◌, ◌/◌, ◌%◌, ◌^◌, ◌≤◌, ◌<◌}
+use Prim.Native.Nat.{ℕ, zero, suc, min, ◌+◌, ◌-◌, ◌*◌, ◌/◌, ◌%◌, ◌^◌, ◌≤◌, ◌<◌}
 use native.Mathlib.Nat.{mul_assoc, add-mul-div_left, add-mul-mod_self_left, div-eq_of_lt, eq-zero-or-pos}
 use native.Mathlib.Omega.{arith}
 use mathlib.Core.Path.{◌≡◌, refl, sym, ap, ap₂, ◌∙◌}
@@ -190,7 +190,7 @@ module _ (map : List ℕ) (bytes : (k : ℕ) → get_or map k 0 < 256) where
             shown_64 (b / 8) (b % 8 + i) (omega arith) ∙ ap (low_bit map) e
 
     -- zeros that end in the word, and zeros to its end: the shift brings in more that aren't the map's
-    pub word_ends : count_trailing_zeros 64 (word / 2 ^ (b % 8)) < most → count_trailing_zeros 64 (word / 2 ^ (b % 8)) ≡ low_zeros map most b
+    word_ends : count_trailing_zeros 64 (word / 2 ^ (b % 8)) < most → count_trailing_zeros 64 (word / 2 ^ (b % 8)) ≡ low_zeros map most b
     word_ends h =
         let e = trailing_zeros word 64 (b % 8) in
         e ∙ sym (zeros_stop (digit word) 64 most (b % 8) (omega arith) (omega arith)) ∙ word_digits
@@ -200,7 +200,17 @@ module _ (map : List ℕ) (bytes : (k : ℕ) → get_or map k 0 < 256) where
         let e = single_zero (word / 2 ^ (b % 8)) h in
         sym e ∙ word_ends (omega arith)
 
-    pub word_passed : most ≤ count_trailing_zeros 64 (word / 2 ^ (b % 8)) → most ≡ low_zeros map most b
+    word_passed : most ≤ count_trailing_zeros 64 (word / 2 ^ (b % 8)) → most ≡ low_zeros map most b
     word_passed h =
         let e = trailing_zeros word 64 (b % 8) in
         sym (zeros_part (digit word) 64 most (b % 8) (omega arith)) ∙ word_digits
+
+    -- either way there are as many as the lower of the two
+    pub word_least : min (count_trailing_zeros 64 (word / 2 ^ (b % 8))) most ≡ low_zeros map most b
+    word_least = ⊎_elim (λ z. passed (omega arith)) (λ z. ends (omega arith)) (eq-zero-or-pos (most - count_trailing_zeros 64 (word / 2 ^ (b % 8))))
+      where
+        passed : most ≤ count_trailing_zeros 64 (word / 2 ^ (b % 8)) → min (count_trailing_zeros 64 (word / 2 ^ (b % 8))) most ≡ low_zeros map most b
+        passed h = let e = word_passed h in omega arith
+
+        ends : count_trailing_zeros 64 (word / 2 ^ (b % 8)) < most → min (count_trailing_zeros 64 (word / 2 ^ (b % 8))) most ≡ low_zeros map most b
+        ends h = let e = word_ends h in omega arith

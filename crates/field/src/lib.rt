@@ -2,37 +2,41 @@
 // What each means is in specs/: Number, Map, Bytes, Card.
 #![tactic(auto)]
 
-ghost use Rattle.std.specs.Prelude.{◌≡◌, ◌+◌, ◌-◌, ◌*◌, ◌/◌, ◌%◌, ◌≤◌, ◌<◌, length};
+ghost use Rattle.std.specs.Prelude.{◌≡◌, ◌+◌, ◌-◌, ◌*◌, ◌/◌, ◌%◌, ◌≤◌, ◌<◌, length, take, drop};
 ghost use Rattle.field.specs.Number.{le16, le32, le64, put32_at};
 ghost use Rattle.field.specs.Map.{top_bit, low_bit, low_zeros};
 ghost use Rattle.field.specs.Bytes.{same_at};
 ghost use Rattle.field.specs.Card.{card_of};
 
-fn wide(x: u8) -> u16
-    ensures { (result ≡ x) × (result < 256) }
+// N bytes from an offset on.
+fn bytes_at<const N: usize>(bytes: &[u8], at: usize) -> [u8; N]
+    requires { at + N ≤ length bytes.now }
+    ensures { result ≡ take N (drop at bytes.now) }
 {
-    x as u16
+    let mut taken = [0; N];
+    taken.copy_from_slice(&bytes[at..at + N]);
+    taken
 }
 
 pub fn get16(bytes: &[u8], at: usize) -> u16
     requires { at + 2 ≤ length bytes.now }
     ensures { result ≡ le16 bytes.now at }
 {
-    wide(bytes[at]) + wide(bytes[at + 1]) * 256
+    u16::from_le_bytes(bytes_at(bytes, at))
 }
 
 pub fn get32(bytes: &[u8], at: usize) -> u32
     requires { at + 4 ≤ length bytes.now }
     ensures { result ≡ le32 bytes.now at }
 {
-    (get16(bytes, at) as u32) + (get16(bytes, at + 2) as u32) * 65536
+    u32::from_le_bytes(bytes_at(bytes, at))
 }
 
 pub fn get64(bytes: &[u8], at: usize) -> u64
     requires { at + 8 ≤ length bytes.now }
     ensures { result ≡ le64 bytes.now at }
 {
-    (get32(bytes, at) as u64) + (get32(bytes, at + 4) as u64) * 4294967296
+    u64::from_le_bytes(bytes_at(bytes, at))
 }
 
 // x in four bytes, the lowest first.
@@ -40,33 +44,25 @@ pub fn put32(bytes: &mut [u8], at: usize, x: u32)
     requires { at + 4 ≤ length bytes.old }
     ensures { bytes.new ≡ put32_at bytes.old at x }
 {
-    bytes[at] = (x % 256) as u8;
-    bytes[at + 1] = (x / 256 % 256) as u8;
-    bytes[at + 2] = (x / 65536 % 256) as u8;
-    bytes[at + 3] = (x / 16777216) as u8;
-}
-
-// The mask's rule is proved here once for both orders.
-fn last_bit(x: u8) -> u8
-    ensures { result ≡ x % 2 }
-{
-    x & 1
+    bytes[at..at + 4].copy_from_slice(&x.to_le_bytes());
 }
 
 // Bit b of a NAT or SIT map.
+#[tactic(auto, unfolding(crate::specs::Map::top_bit))]
 pub fn top_bit(map: &[u8], b: usize) -> u8
     requires { b < 8 * length map.now }
     ensures { result ≡ top_bit map.now b }
 {
-    last_bit(map[b / 8] >> (7 - b % 8))
+    (map[b / 8] >> (7 - b % 8)) % 2
 }
 
 // Bit b of a directory map.
+#[tactic(auto, unfolding(crate::specs::Map::low_bit))]
 pub fn low_bit(map: &[u8], b: usize) -> u8
     requires { b < 8 * length map.now }
     ensures { result ≡ low_bit map.now b }
 {
-    last_bit(map[b / 8] >> (b % 8))
+    (map[b / 8] >> (b % 8)) % 2
 }
 
 // How many bits of a directory map from bit b on are 0, up to the first that is set, counted in one word: the eight bytes from
@@ -78,14 +74,11 @@ fn word_zeros(map: &[u8], b: usize) -> usize
 {
     let word = get64(map, b / 8) >> (b % 8);
     if word % 4 == 2 {
-        return 1;
+        1
+    } else {
+        let zeros = word.trailing_zeros() as usize;
+        zeros.min(64 - b % 8)
     }
-    let zeros = u64::trailing_zeros(word) as usize;
-    let most = 64 - b % 8;
-    if zeros < most {
-        return zeros;
-    }
-    most
 }
 
 // The same up to bit `end` at most, word by word. What a word has from that bit on isn't counted. Each word has at least 57 bits
@@ -113,14 +106,7 @@ pub fn same_at(bytes: &[u8], at: usize, string: &[u8]) -> bool
     requires { at + length string.now ≤ length bytes.now }
     ensures { result ≡ same_at bytes.now at string.now }
 {
-    let mut i = 0;
-    while i < string.len() {
-        if bytes[at + i] != string[i] {
-            return false;
-        }
-        i += 1;
-    }
-    true
+    &bytes[at..at + string.len()] == string
 }
 
 // How many blocks an image has. Its length may pass 32 bits.

@@ -3,4 +3,3 @@ pub mod Once
 pub mod Unless
 pub mod Turns
 pub mod Asked
-pub mod Found

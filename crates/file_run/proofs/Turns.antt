@@ -5,17 +5,16 @@ use mathlib.Core.Path.{◌≡◌, refl, sym, ap, subst, ◌∙◌}
 use mathlib.Core.List.{List, [], ◌∷◌, ◌++◌, append-nil, append_assoc}
 use lib.ListN.{length, take, drop, length-append, length-drop}
 use lib.Seq.{drop-drop, take-append_seam, drop-append-add}
-use Rattle.field.specs.Card.{Card}
-use Rattle.checkpoint.specs.declared.Volume.{Volume}
-use Rattle.walk.specs.Walk.{view_of, Outcome, ok, stop, Lists, Walked, Fits}
-use Rattle.node.specs.declared.File.{File}
+use Rattle.walk.specs.Walk.{Outcome, ok, stop, Lists, Walked, Fits}
+use Rattle.walk.specs.Lent.{view_in}
+use Rattle.node.specs.declared.file.File.{File}
 use Rattle.node.specs.declared.Leaf.{Leaf}
-use Rattle.node.specs.Node.{bounds_of}
 use Rattle.node.specs.Leaf.{Keeps}
-use Rattle.pull.specs.Walk.{Block, at_file}
+use Rattle.pull.specs.Walk.{Block, inode_file_walk}
 use Rattle.pull.specs.Pull.{content_bytes}
+use Rattle.file_run.specs.declared.BlockBuffer.{BlockBuffer}
 use Rattle.file_run.specs.Standing.{last_count, bytes_standing, FilledAs}
-use Rattle.file_run.specs.Walks.{blocks_walk, put_at, RoomFor}
+use Rattle.file_run.specs.Walks.{file_blocks_walk, put_at, RoomFor}
 use Rattle.file_run.proofs.Filling.{Filling, filling_start, filling_fits, filling_stop, filling_next, filling_end}
 
 -- ---- one more block
@@ -61,80 +60,86 @@ module _ (B C old new new' : List ℕ) (k : ℕ) (sized : length B ≡ 4096 * k)
       let r = length-drop (4096 * (k + 1)) old in
       omega arith
 
--- ---- the invariant: k blocks stand, the next index is j, and `leaf` is kept for it
-pub record Turn (card : Card) (v : Volume) (file : File) (n index : ℕ) (old : List ℕ) (s : Lists) (last : ℕ) (leaf : Leaf) (j k : ℕ) (new : List ℕ)
-    (t : Lists) : Type 0 where
+-- ---- the invariant: k blocks stand in the buffer, and `leaf` is kept for the next index
+pub record Turn (file : File) (n index : ℕ) (old : List ℕ) (s : Lists) (leaf : Leaf) (k : ℕ) (buffer : BlockBuffer) (t : Lists) : Type 0 where
   pub stood : List Block
-  pub filling : Filling (view_of card v) (λ h. at_file (bounds_of v) h file.ino (card.block file.inode)) n index s k stood t
-  pub keeps : Keeps card v file j leaf t
-  pub next : j ≡ index + k
-  pub last_is : last ≡ last_count stood
-  pub same : length new ≡ length old
-  pub wrote : new ≡ bytes_standing stood ++ drop (4096 * k) old
+  pub filling : Filling (view_in file.card) (inode_file_walk file) n index s k stood t
+  pub keeps : Keeps file (index + k) leaf t
+  pub near : index + k < 4294967296
+  pub count_is : buffer.count ≡ k
+  pub last_is : buffer.last ≡ last_count stood
+  pub same : length buffer.bytes.now ≡ length old
+  pub wrote : buffer.bytes.now ≡ bytes_standing stood ++ drop (4096 * k) old
   pub sized : length (bytes_standing stood) ≡ 4096 * k
 
-module _ {card : Card} {v : Volume} {file : File} {n index : ℕ} {old : List ℕ} {s : Lists} where
-  pub turn_start : {leaf : Leaf} → Keeps card v file index leaf s → Turn card v file n index old s 0 leaf index 0 old s
+module _ {file : File} {n index : ℕ} where
+  pub turn_start : {leaf : Leaf} {buffer : BlockBuffer} {s : Lists} → Keeps file index leaf s → index < 4294967296 → RoomFor n buffer
+      → Turn file n index buffer.bytes.now s leaf 0 buffer s
   unfolding bytes_standing
-  turn_start keeps = record {
-    stood = [];
-    filling = filling_start _ n index;
-    keeps = keeps;
-    next = omega arith;
-    last_is = refl;
-    same = refl;
-    wrote = refl;
-    sized = refl;
-  }
+  turn_start {leaf = leaf} {s = s} keeps near room =
+      let start : index ≡ index + 0 = omega arith in
+      record {
+        stood = [];
+        filling = filling_start _ n index;
+        keeps = subst (λ (j : ℕ). Keeps file j leaf s) start keeps;
+        near = omega arith;
+        count_is = room.none;
+        last_is = room.no_last;
+        same = refl;
+        wrote = refl;
+        sized = refl;
+      }
 
-  module _ {last : ℕ} {leaf : Leaf} {j k : ℕ} {new : List ℕ} {t : Lists} (go : Turn card v file n index old s last leaf j k new t) where
-    pub turn_end : n ≤ k → FilledAs (view_of card v) (blocks_walk (bounds_of v) file.ino (card.block file.inode) n index) s 0 k last t old new
+  module _ {old : List ℕ} {s : Lists} {leaf : Leaf} {k : ℕ} {buffer : BlockBuffer} {t : Lists} (go : Turn file n index old s leaf k buffer t) where
+    stands : buffer.bytes.now ≡ bytes_standing go.stood ++ drop (4096 * length go.stood) old
+    stands = go.wrote ∙ ap (λ (i : ℕ). bytes_standing go.stood ++ drop (4096 * i) old) (sym go.filling.many)
+
+    pub turn_end : n ≤ k → FilledAs (view_in file.card) (file_blocks_walk file n index) s 0 buffer.count buffer.last t old buffer.bytes.now
     turn_end h = record {
       stood = go.stood;
       walked = filling_end go.filling h;
-      many = go.filling.many;
+      many = go.filling.many ∙ sym go.count_is;
       last = go.last_is;
-      wrote = go.wrote ∙ ap (λ (i : ℕ). bytes_standing go.stood ++ drop (4096 * i) old) (sym go.filling.many);
+      wrote = stands;
     }
 
     module _ (h : k < n) where
-      pub turn_fits : Fits (view_of card v) (blocks_walk (bounds_of v) file.ino (card.block file.inode) n index) s
-          → Fits (view_of card v) (at_file (bounds_of v) j file.ino (card.block file.inode)) t
-      turn_fits fits =
-          subst (λ (i : ℕ). Fits (view_of card v) (at_file (bounds_of v) i file.ino (card.block file.inode)) t) (sym go.next)
-          (filling_fits go.filling h fits)
+      pub turn_fits : Fits (view_in file.card) (file_blocks_walk file n index) s → Fits (view_in file.card) (inode_file_walk file (index + k)) t
+      turn_fits fits = filling_fits go.filling h fits
 
-      module _ {x : Outcome Block} {u : Lists} (step : Walked (view_of card v) (at_file (bounds_of v) j file.ino (card.block file.inode)) t x u) where
-        here : Walked (view_of card v) (at_file (bounds_of v) (index + k) file.ino (card.block file.inode)) t x u
-        here = subst (λ (i : ℕ). Walked (view_of card v) (at_file (bounds_of v) i file.ino (card.block file.inode)) t x u) go.next step
-
+      module _ {x : Outcome Block} {u : Lists} (step : Walked (view_in file.card) (inode_file_walk file (index + k)) t x u) where
         pub turn_stop : {answer : ℕ} → x ≡ stop answer
-            → FilledAs (view_of card v) (blocks_walk (bounds_of v) file.ino (card.block file.inode) n index) s answer k last u old new
+            → FilledAs (view_in file.card) (file_blocks_walk file n index) s answer buffer.count buffer.last u old buffer.bytes.now
         turn_stop e = record {
           stood = go.stood;
-          walked = filling_stop go.filling h here e;
-          many = go.filling.many;
+          walked = filling_stop go.filling h step e;
+          many = go.filling.many ∙ sym go.count_is;
           last = go.last_is;
-          wrote = go.wrote ∙ ap (λ (i : ℕ). bytes_standing go.stood ++ drop (4096 * i) old) (sym go.filling.many);
+          wrote = stands;
         }
 
-        pub turn_next : {b : Block} {leaf' : Leaf} {new' : List ℕ} {last' : ℕ} → x ≡ ok b → Keeps card v file (j + 1) leaf' u → RoomFor n old
-            → length new' ≡ length new → last' ≡ b.count → new' ≡ put_at (4096 * k) (content_bytes b.count b.content) new
-            → Turn card v file n index old s last' leaf' (j + 1) (k + 1) new' u
-        turn_next {b = b} {new' = new'} e keeps room z c w =
-            let is = go.next in
-            let all = room.room in
+        pub turn_next : {b : Block} {leaf' : Leaf} {buffer' : BlockBuffer} → x ≡ ok b → index + k < 2147483648 → Keeps file (index + k + 1) leaf' u
+            → 4096 * n ≤ length old → length buffer'.bytes.now ≡ length buffer.bytes.now → buffer'.count ≡ buffer.count + 1 → buffer'.last ≡ b.count
+            → buffer'.bytes.now ≡ put_at (4096 * buffer.count) (content_bytes b.count b.content) buffer.bytes.now
+            → Turn file n index old s leaf' (k + 1) buffer' u
+        turn_next {b = b} {leaf' = leaf'} {buffer' = buffer'} e near keeps room z c l w =
+            let new = buffer.bytes.now in
+            let new' = buffer'.bytes.now in
+            let is = go.count_is in
+            let next : index + k + 1 ≡ index + (k + 1) = omega arith in
             let B = bytes_standing go.stood in
             let C = content_bytes b.count b.content in
+            let put : new' ≡ put_at (4096 * k) C new = w ∙ ap (λ (i : ℕ). put_at (4096 * i) C new) is in
             let more = bytes_behind go.stood b in
-            let sized = put_sized B C old new new' k go.sized go.wrote w (z ∙ go.same) (omega arith) in
+            let sized = put_sized B C old new new' k go.sized go.wrote put (z ∙ go.same) (omega arith) in
             record {
               stood = go.stood ++ (b ∷ []);
-              filling = filling_next go.filling h here e;
-              keeps = keeps;
-              next = omega arith;
-              last_is = c ∙ sym (last_behind go.stood b);
+              filling = filling_next go.filling h step e;
+              keeps = subst (λ (j : ℕ). Keeps file j leaf' u) next keeps;
+              near = omega arith;
+              count_is = omega arith;
+              last_is = l ∙ sym (last_behind go.stood b);
               same = z ∙ go.same;
-              wrote = put_behind B C old new new' k go.sized go.wrote w ∙ ap (λ (l : List ℕ). l ++ drop (4096 * (k + 1)) old) (sym more);
+              wrote = put_behind B C old new new' k go.sized go.wrote put ∙ ap (λ (l : List ℕ). l ++ drop (4096 * (k + 1)) old) (sym more);
               sized = ap length more ∙ sized;
             }

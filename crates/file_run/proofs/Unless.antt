@@ -1,7 +1,7 @@
 -- A walk once, and unless it stopped a run behind it, each done by a function.
 use Prim.Native.Nat.{ℕ, zero, suc, ◌+◌, ◌≤◌}
 use native.Mathlib.Omega.{arith}
-use mathlib.Core.Path.{◌≡◌, refl, ap}
+use mathlib.Core.Path.{◌≡◌, refl, sym, ap}
 use mathlib.Core.Bool.{false}
 use mathlib.Core.List.{List, []}
 use Rattle.inode.specs.declared.Inode.{Inode}
@@ -16,15 +16,16 @@ use Rattle.file_run.specs.Standing.{Standing, standing, after_one, many_walk, un
 use Rattle.file_run.specs.Walks.{blocks_walk}
 
 -- a walk that came to an answer with no block standing leaves the buffer
-pub none_stands : {v : View} {w : Walk Standing} {s t : Lists} {answer : ℕ} {buffer : List ℕ} → Walked v w s (standing answer []) t
-    → FilledAs v w s answer 0 0 t buffer buffer
+pub none_stands : {v : View} {w : Walk Standing} {s t : Lists} {answer count last : ℕ} {bytes : List ℕ} → count ≡ 0 → last ≡ 0
+    → Walked v w s (standing answer []) t → FilledAs v w s answer count last t bytes bytes
 unfolding bytes_standing
-none_stands left = record { stood = []; walked = left; many = refl; last = refl; wrote = refl }
+none_stands c l left = record { stood = []; walked = left; many = sym c; last = l; wrote = refl }
 
 module _ {A : Type 0} {v : View} {p : Walk (Outcome A)} {s t : Lists} {x : Outcome A} (f : A → Walk Standing) (first : Walked v p s x t) where
   -- the first stopped
-  pub unless_stop : {answer : ℕ} {buffer : List ℕ} → x ≡ stop answer → FilledAs v (bind p (unless_stopped f)) s answer 0 0 t buffer buffer
-  unless_stop e = none_stands (reached_done (reached_to (reached_bind (unless_stopped f) (reached_start _ _ _) first) (ap (unless_stopped f) e)))
+  pub unless_stop : {answer count last : ℕ} {bytes : List ℕ} → count ≡ 0 → last ≡ 0 → x ≡ stop answer
+      → FilledAs v (bind p (unless_stopped f)) s answer count last t bytes bytes
+  unless_stop c l e = none_stands c l (reached_done (reached_to (reached_bind (unless_stopped f) (reached_start _ _ _) first) (ap (unless_stopped f) e)))
 
   -- it came to a value, so the run goes on
   behind : {a : A} → x ≡ ok a → Reached v (bind p (unless_stopped f)) s (f a) t

@@ -1,5 +1,7 @@
 -- K14: blocks of a file from an index on, those that stand and the answer that ended them; and the walks to them, one behind the other.
-use Rattle.std.specs.Prelude.{ℕ, zero, suc, ◌+◌, ◌*◌, ◌≡◌, List, [], ◌∷◌, ◌++◌, length, drop}
+use Rattle.std.specs.Prelude.{ℕ, zero, suc, ◌+◌, ◌*◌, ◌≡◌, List, [], ◌∷◌, ◌++◌, length, drop, Result, Ok, Err}
+use Rattle.answer.specs.declared.Stop.{Stop}
+use Rattle.answer.specs.Number.{stop_number}
 use Rattle.walk.specs.Walk.{View, Walk, done, bind, Outcome, ok, stop, Lists, Walked}
 use Rattle.pull.specs.Walk.{Block}
 use Rattle.pull.specs.Pull.{content_bytes}
@@ -46,6 +48,11 @@ many_walk one (suc n) index = bind (one index) (after_one (many_walk one n (inde
 abbrev pub unless_stopped : {A : Type 0} → (A → Walk Standing) → Outcome A → Walk Standing
 unless_stopped f (stop answer) = done (standing answer [])
 unless_stopped f (ok a) = f a
+
+-- the code's answer: 0, or the number of the error that ended the run
+abbrev pub ended : {A : Type 0} → Result A Stop → ℕ
+ended (Ok a) = 0
+ended (Err e) = stop_number e
 
 -- What code that fills a buffer leaves: the walk came to an answer and to blocks that stand, as many as it counts, `bytes` is the last
 -- one's count, and the buffer `old` has become `new`.

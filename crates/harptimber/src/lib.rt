@@ -4,6 +4,7 @@
 
 ghost use Rattle.std.specs.Prelude.{◌≡◌};
 ghost use Rattle.name_hash.specs.Answer.{hashed};
+ghost use Rattle.nat.specs.Table.{answer_in};
 ghost use Rattle.nat.specs.Lookup.{table_numbers, lookup_of};
 ghost use Rattle.pull.specs.Pull.{lending, result_in, pulled};
 ghost use Rattle.pull_run.specs.Run.{run_result, run_pulled};
@@ -18,6 +19,8 @@ ghost use Rattle.keep_compare.specs.Compare.{keep_compared};
 ghost use Rattle.harptimber.specs.NameHash.{name_hash};
 ghost use Rattle.harptimber.specs.FilePlace.{crossing, placed, file_place};
 
+use answer::{Refusal, Stop};
+
 #[repr(C)]
 #[derive(Clone, Copy)]
 pub struct NameHash {
@@ -29,12 +32,12 @@ pub fn harptimber_name_hash(name: &[u8]) -> NameHash
     ensures { result ≡ name_hash (hashed name.now) }
 {
     match name_hash::hash_answer(name) {
-        name_hash::Hashed::Hash(hash) => NameHash {
+        Some(hash) => NameHash {
             answer: answer::DATA,
             hash,
         },
-        name_hash::Hashed::BadName => NameHash {
-            answer: answer::OUT_OF_SHAPE,
+        None => NameHash {
+            answer: Refusal::OutOfShape.number(),
             hash: 0,
         },
     }
@@ -77,7 +80,7 @@ fn placed_by(way: place::Way) -> FilePlace
     ensures { result ≡ placed way }
 {
     if way.count == 0 {
-        answer_with(answer::PAST_END, way)
+        answer_with(Stop::PastEnd.number(), way)
     } else {
         answer_with(answer::DATA, way)
     }
@@ -89,23 +92,23 @@ pub fn harptimber_file_place(addresses: u32, index: u32) -> FilePlace
     if (addresses == 873) | (addresses == 923) {
         placed_by(place::find_way(addresses, index))
     } else {
-        answer_with(answer::OUT_OF_SHAPE, place::no_way())
+        answer_with(Refusal::OutOfShape.number(), place::no_way())
     }
 }
 
-fn table_numbers(said: nat::TableAnswer) -> nat::Lookup
-    ensures { result ≡ table_numbers said }
+fn table_numbers(said: Option<nat::Entry>) -> nat::Lookup
+    ensures { result ≡ table_numbers (answer_in said) }
 {
     match said {
-        nat::TableAnswer::OutOfRange => nat::Lookup {
-            answer: answer::NO_NODE,
+        Some(entry) => nat::Lookup {
+            answer: answer::DATA,
+            inode: entry.inode,
+            address: entry.address,
+        },
+        None => nat::Lookup {
+            answer: Stop::NoNode.number(),
             inode: 0,
             address: 0,
-        },
-        nat::TableAnswer::Entry(inode, address) => nat::Lookup {
-            answer: answer::DATA,
-            inode,
-            address,
         },
     }
 }
@@ -114,9 +117,9 @@ pub fn harptimber_node_lookup(image: &[u8], number: u32) -> nat::Lookup
     ensures { result ≡ lookup_of image.now number }
 {
     match checkpoint::open(image) {
-        checkpoint::Opening::Opened(v) => table_numbers(nat::table_answer(image, v, number)),
-        checkpoint::Opening::Refused(answer) => nat::Lookup {
-            answer,
+        Ok(card) => table_numbers(nat::table_answer(card, number)),
+        Err(refusal) => nat::Lookup {
+            answer: refusal.number(),
             inode: 0,
             address: 0,
         },
@@ -159,6 +162,8 @@ pub fn harptimber_reader_start(card_blocks: u32, path: &[u8], index: u32) -> rea
     reader::start(card_blocks, path, index)
 }
 
+// Inlined as the step is, so that the state isn't copied once more.
+#[inline(always)]
 pub fn harptimber_reader_step(reader: reader::Reader, bytes: &[u8]) -> reader::Reader
     ensures { Stepped reader bytes.now result }
 {

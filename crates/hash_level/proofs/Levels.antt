@@ -91,10 +91,6 @@ level_fits dir level hash h e p q =
     let f = first_most dir level in
     (rw p (buckets_some (level + dir)).0, rw (p, q) (bucket_start dir level hash), omega arith)
 
-pub next_fits : {first buckets count : ℕ} (dir level : ℕ) → level < 63 → first ≡ first_of dir level → buckets ≡ buckets_of (level + dir)
-    → count ≡ blocks_of level → (buckets * count ≤ 4294967296) × (first < 2 ^ 39)
-next_fits dir level h e p q = let f = first_most dir level in (rw (p, q) (level_size dir level), omega arith)
-
 pub bucket_small : (dir level hash : ℕ) → level < 63 → bucket_of dir level hash < 2 ^ 40
 unfolding bucket_of
 bucket_small dir level hash h =

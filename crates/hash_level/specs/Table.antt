@@ -14,3 +14,8 @@ follows dir level first (x ∷ xs) = eqb x first && follows dir (suc level) (fir
 
 abbrev pub passes : ℕ → List ℕ → Bool
 passes dir table = eqb (length table) 63 && follows dir 0 0 table
+
+-- the tables of one directory level after another, from a level on
+abbrev pub all_pass : ℕ → List (List ℕ) → Bool
+all_pass dir [] = true
+all_pass dir (table ∷ tables) = passes dir table && all_pass (suc dir) tables

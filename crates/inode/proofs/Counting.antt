@@ -1,10 +1,10 @@
 -- What is so of an index that isn't past a file's end: its block begins inside the file, so it holds 1 to 4,096 of its bytes.
-use Prim.Native.Nat.{ℕ, ◌-◌, ◌*◌, ◌%◌, ◌<◌, ◌≤◌}
+use Prim.Native.Nat.{ℕ, min, ◌-◌, ◌*◌, ◌%◌, ◌<◌, ◌≤◌}
 use native.Mathlib.Omega.{arith}
 use mathlib.Core.Path.{◌≡◌, refl}
 use mathlib.Core.Bool.{Bool, true, false, ◌||◌, and-false}
 use lib.Dec.{leb, ltb, eqb}
-use borrow.Author.Tests.{leb-false}
+use borrow.Author.Tests.{leb-true, leb-false}
 use Rattle.field.specs.Choice.{choose}
 use Rattle.place.specs.Place.{last_index}
 use Rattle.inode.specs.declared.Inode.{Inode}
@@ -32,6 +32,15 @@ count_in_block i index h = go (leb 4096 (i.size - index * 4096)) refl
         let l = leb-false 4096 (i.size - index * 4096) e in
         let m = inside in
         (omega arith, omega arith)
+
+-- "the smaller of 4,096" and what is left
+pub least_in : (i : Inode) (index : ℕ) → min (i.size - index * 4096) 4096 ≡ count_in i index
+unfolding count_in
+least_in i index = go (leb 4096 (i.size - index * 4096)) refl
+  where
+    go : (b : Bool) → leb 4096 (i.size - index * 4096) ≡ b → min (i.size - index * 4096) 4096 ≡ choose b 4096 (i.size - index * 4096)
+    go true e = let l = leb-true 4096 (i.size - index * 4096) e in omega arith
+    go false e = let l = leb-false 4096 (i.size - index * 4096) e in omega arith
 
 -- whichever of two numbers is chosen
 pub chosen_le : {x y most : ℕ} (b : Bool) → x ≤ most → y ≤ most → choose b x y ≤ most

@@ -4,6 +4,7 @@ use mathlib.Core.Path.{◌≡◌, refl, sym, ◌∙◌, ap}
 use mathlib.Core.List.{List}
 use mathlib.Core.Logic.{⊎_elim}
 use mathlib.Core.Bool.{true, false, or-true}
+use Rattle.std.specs.Prelude.{Option, Some, None, is_some}
 use Prim.Native.Nat.{ℕ, zero, suc, ◌+◌, ◌<◌}
 use native.Mathlib.Omega.{arith}
 use native.Mathlib.Numerals.{add-one}
@@ -11,9 +12,7 @@ use lib.Dec.{leb}
 use borrow.Author.Tests.{leb-true, leb-false}
 use Rattle.field.specs.Number.{le16}
 use Rattle.field.proofs.Choosing.{either, clash}
-use Rattle.journal.specs.declared.Sought.{Sought}
-use Rattle.journal.specs.declared.Sought.TheVariants.{At, Absent}
-use Rattle.journal.specs.Journal.{entry_start, number_of, search_from, journal_find, is_found, named_before, twice_among, names_twice}
+use Rattle.journal.specs.Journal.{entry_start, number_of, search_from, journal_find, named_before, twice_among, names_twice}
 use Rattle.journal.proofs.Searching.{found_entry, absent_entry}
 
 module _ (width : ℕ) (journal : List ℕ) where
@@ -50,9 +49,9 @@ module _ (width : ℕ) (journal : List ℕ) where
   named_by : (i j : ℕ) → i < j → number_of width journal i ≡ number_of width journal j → named_before width journal j ≡ true
   named_by i j l e = go (search_from width journal (number_of width journal j) j 0) refl
     where
-      go : (s : Sought) → search_from width journal (number_of width journal j) j 0 ≡ s → is_found s ≡ true
-      go (At at) f = refl
-      go Absent f = absurd (absent_entry width journal (number_of width journal j) j 0 f i (omega arith) (omega arith) e)
+      go : (s : Option ℕ) → search_from width journal (number_of width journal j) j 0 ≡ s → is_some s ≡ true
+      go (Some at) f = refl
+      go None f = absurd (absent_entry width journal (number_of width journal j) j 0 f i (omega arith) (omega arith) e)
 
   -- two entries that have one number make it
   pub twice : (i j : ℕ) → i < j → j < le16 journal 0 → number_of width journal i ≡ number_of width journal j → names_twice width journal ≡ true
@@ -69,11 +68,11 @@ module _ (width : ℕ) (journal : List ℕ) where
   two_named : (j : ℕ) → named_before width journal j ≡ true → Two (j + 1)
   two_named j h = go (search_from width journal (number_of width journal j) j 0) refl h
     where
-      go : (s : Sought) → search_from width journal (number_of width journal j) j 0 ≡ s → is_found s ≡ true → Two (j + 1)
-      go (At at) f t =
+      go : (s : Option ℕ) → search_from width journal (number_of width journal j) j 0 ≡ s → is_some s ≡ true → Two (j + 1)
+      go (Some at) f t =
           let w = found_entry width journal (number_of width journal j) j 0 at f in
           record { one = w.entry; other = j; before = omega (arith, w.below); counted = omega arith; same = w.named }
-      go Absent f t = absurd (clash t refl)
+      go None f t = absurd (clash t refl)
 
   two_among : (k : ℕ) → twice_among width journal k ≡ true → Two k
   unfolding twice_among
@@ -91,15 +90,15 @@ module _ (width : ℕ) (journal : List ℕ) where
   two_entries h = two_among (le16 journal 0) h
 
   -- without an entry that has the number, the search finds none
-  pub no_entry : (number : ℕ) → ((i : ℕ) → i < le16 journal 0 → number_of width journal i ≡ number → ⊥) → journal_find width journal number ≡ Absent
+  pub no_entry : (number : ℕ) → ((i : ℕ) → i < le16 journal 0 → number_of width journal i ≡ number → ⊥) → journal_find width journal number ≡ None
   unfolding journal_find
   no_entry number none = go (search_from width journal number (le16 journal 0) 0) refl
     where
-      go : (s : Sought) → search_from width journal number (le16 journal 0) 0 ≡ s → s ≡ Absent
-      go (At at) f =
+      go : (s : Option ℕ) → search_from width journal number (le16 journal 0) 0 ≡ s → s ≡ None
+      go (Some at) f =
           let w = found_entry width journal number (le16 journal 0) 0 at f in
           absurd (none w.entry (omega (arith, w.below)) w.named)
-      go Absent f = refl
+      go None f = refl
 
   module _ (once : names_twice width journal ≡ false) where
     -- "every entry with the number is the same one"
@@ -111,13 +110,16 @@ module _ (width : ℕ) (journal : List ℕ) where
 
     -- and the search finds it
     pub only_entry : (i number : ℕ) → i < le16 journal 0 → number_of width journal i ≡ number
-        → journal_find width journal number ≡ At (entry_start width i)
+        → journal_find width journal number ≡ Some (entry_start width i)
     unfolding journal_find
     only_entry i number l e = go (search_from width journal number (le16 journal 0) 0) refl
       where
-        go : (s : Sought) → search_from width journal number (le16 journal 0) 0 ≡ s → s ≡ At (entry_start width i)
-        go (At at) f =
+        go : (s : Option ℕ) → search_from width journal number (le16 journal 0) 0 ≡ s → s ≡ Some (entry_start width i)
+        go (Some at) f =
             let w = found_entry width journal number (le16 journal 0) 0 at f in
             let same : w.entry ≡ i = same_entry w.entry i (omega (arith, w.below)) l (w.named ∙ sym e) in
-            ap At (w.starts ∙ ap (entry_start width) same)
-        go Absent f = absurd (absent_entry width journal number (le16 journal 0) 0 f i (omega arith) (omega arith) e)
+            ap Some (w.starts ∙ ap (entry_start width) same)
+        go None f = absurd (absent_entry width journal number (le16 journal 0) 0 f i (omega arith) (omega arith) e)
+
+-- what an entry more makes of it
+pub ruleset once_steps = (once_starts, once_further, once_over, twice_found)

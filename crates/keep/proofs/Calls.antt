@@ -11,8 +11,7 @@ use Rattle.field.specs.Card.{card_of}
 use Rattle.field.proofs.Choosing.{needed}
 use Rattle.superblock.specs.Shape.{in_shape}
 use Rattle.checkpoint.specs.declared.Volume.{Volume}
-use Rattle.checkpoint.specs.declared.Opening.{Opening}
-use Rattle.checkpoint.specs.Volume.{opened_image, VolumeIn}
+use Rattle.checkpoint.specs.Volume.{Opening, opened_image, VolumeIn}
 use Rattle.path.specs.Path.{part_count, is_path, name_count}
 use Rattle.path.proofs.Counting.{parts_few, count_some}
 use Rattle.path.proofs.Lengths.{path_most}

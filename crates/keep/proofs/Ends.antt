@@ -9,9 +9,7 @@ use borrow.Author.Tests.{leb-true, leb-false}
 use Rattle.field.specs.Card.{card_of}
 use Rattle.superblock.specs.Shape.{in_shape}
 use Rattle.checkpoint.specs.declared.Volume.{Volume}
-use Rattle.checkpoint.specs.declared.Opening.{Opening}
-use Rattle.checkpoint.specs.declared.Opening.TheVariants.{Opened, Refused}
-use Rattle.checkpoint.specs.Volume.{opened_image}
+use Rattle.checkpoint.specs.Volume.{Opening, Opened, Refused, opened_image}
 use Rattle.path.specs.Path.{is_path}
 use Rattle.keep.specs.Writing.{file_from, Writing, writing, refused_keep, file_written, keep_written}
 use Rattle.keep.proofs.Found.{room_fits, room_short}

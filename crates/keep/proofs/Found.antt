@@ -7,7 +7,7 @@ use lib.ListN.{length, drop, length-append}
 use borrow.Author.Tests.{le-leb, lt-leb}
 use Rattle.field.specs.Card.{card_of}
 use Rattle.checkpoint.specs.declared.Volume.{Volume}
-use Rattle.nat.specs.Table.{table_answer}
+use Rattle.nat.specs.Table.{table_answer, TableAnswer}
 use Rattle.list.specs.Lists.{entries, bytes_of}
 use Rattle.list.proofs.Entries.{length_numbers}
 use Rattle.list.proofs.Rises.{all_map}
@@ -16,7 +16,6 @@ use Rattle.buffer.proofs.Laying.{LaidSo, laid_first, laid_more}
 use Rattle.pull.specs.declared.Pulled.{Pulled}
 use Rattle.pull.specs.Pull.{Result, nodes_left, blocks_left}
 use Rattle.field.proofs.Blocks.{length_block}
-use Rattle.nat.specs.declared.TableAnswer.{TableAnswer}
 use Rattle.keep_file.specs.Keep.{Kept, kept_by}
 use Rattle.keep_file.specs.Layout.{answer_bytes, layout}
 use Rattle.keep_file.specs.Readable.{Filled}

@@ -7,8 +7,7 @@ use lib.ListN.{length}
 use Rattle.field.specs.Card.{Card, card_of}
 use Rattle.field.proofs.Blocks.{length_block, length_of_block}
 use Rattle.checkpoint.specs.declared.Volume.{Volume}
-use Rattle.nat.specs.declared.TableAnswer.{TableAnswer}
-use Rattle.nat.specs.Table.{table_answer}
+use Rattle.nat.specs.Table.{TableAnswer, table_answer}
 use Rattle.list.specs.Lists.{bytes_of}
 use Rattle.buffer.specs.Laid.{laid_at}
 use Rattle.buffer.proofs.Laying.{LaidSo, laid_more}

@@ -7,7 +7,9 @@ use Rattle.nat.specs.Table.{table_answer}
 use Rattle.list.specs.Lists.{AllOf, Listed, entries, bytes_of}
 use Rattle.node.specs.Node.{bounds_of}
 use Rattle.pull.specs.declared.Pulled.{Pulled}
-use Rattle.pull.specs.Pull.{Result, nodes_left, blocks_left}
+use Rattle.pull.specs.Pull.{Result, lending, result_in, nodes_left, blocks_left}
+use Rattle.checkpoint.specs.OpenImage.{card_in}
+use Rattle.keep.specs.declared.KeptPull.{KeptPull}
 use Rattle.keep_file.specs.Keep.{kept_by, Keep}
 use Rattle.keep_file.specs.Layout.{file_end, header, answer_bytes, nodes_bytes, blocks_bytes}
 
@@ -56,3 +58,13 @@ pub record Keepable (card : Card) (v : Volume) (path : List ℕ) (r : Result) : 
   pub blocks_in : 4 * r.numbers.block_count ≤ length r.memory.blocks
   pub inside : AllOf (λ b. b < card.blocks) (entries (blocks_left r))
   pub fits : end_found path r < 4294967296
+
+-- what a pull left, as the code holds it, and what is kept of it
+abbrev pub left_by : KeptPull → Result
+left_by p = result_in p.pulled (lending p.block.now p.nodes.now p.blocks.now)
+
+abbrev pub kept_from : KeptPull → Keep
+kept_from p = keep_found (card_in p.card) p.card.volume p.path.now p.index (left_by p)
+
+abbrev pub CanKeep : KeptPull → Type 0
+CanKeep p = Keepable (card_in p.card) p.card.volume p.path.now (left_by p)

@@ -9,10 +9,9 @@ use lib.ListN.{length, drop, length-append}
 use lib.Seq.{take-append_seam}
 use Rattle.field.specs.Card.{card_of}
 use Rattle.checkpoint.specs.declared.Volume.{Volume}
-use Rattle.checkpoint.specs.declared.Opening.TheVariants.{Opened}
-use Rattle.checkpoint.specs.Volume.{opened_image}
+use Rattle.checkpoint.specs.Volume.{Opened, opened_image}
 use Rattle.checkpoint.proofs.Inside.{refusals}
-use Rattle.nat.specs.declared.TableAnswer.TheVariants.{OutOfRange}
+use Rattle.nat.specs.Table.{OutOfRange}
 use Rattle.walk.specs.Walk.{view_of, Ran, Outcome}
 use Rattle.node.specs.Node.{bounds_of}
 use Rattle.path.specs.Path.{is_path}

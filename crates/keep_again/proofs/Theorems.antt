@@ -10,9 +10,7 @@ use Rattle.field.specs.Card.{card_of}
 use Rattle.field.specs.Number.{le16, le32}
 use Rattle.superblock.specs.Shape.{in_shape}
 use Rattle.checkpoint.specs.declared.Volume.{Volume}
-use Rattle.checkpoint.specs.declared.Opening.{Opening}
-use Rattle.checkpoint.specs.declared.Opening.TheVariants.{Opened, Refused}
-use Rattle.checkpoint.specs.Volume.{opened_image}
+use Rattle.checkpoint.specs.Volume.{Opening, Opened, Refused, opened_image}
 use Rattle.checkpoint.proofs.Inside.{image_shaped, image_volume}
 use Rattle.walk.specs.Walk.{view_of}
 use Rattle.node.specs.Node.{bounds_of}

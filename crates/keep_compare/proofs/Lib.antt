@@ -1,4 +1,3 @@
-mod Turns
 mod Reading
 pub mod Openings
 pub mod Theorems

@@ -7,8 +7,7 @@ use lib.ListN.{length}
 use Rattle.field.specs.Card.{card_of}
 use Rattle.superblock.specs.Shape.{in_shape}
 use Rattle.checkpoint.specs.declared.Volume.{Volume}
-use Rattle.checkpoint.specs.declared.Opening.TheVariants.{Opened, Refused}
-use Rattle.checkpoint.specs.Volume.{opened_image}
+use Rattle.checkpoint.specs.Volume.{Opened, Refused, opened_image}
 use Rattle.checkpoint.proofs.Ways.{shape_opens}
 use Rattle.checkpoint.proofs.Inside.{image_shaped}
 use Rattle.compare.specs.Compare.{refused, verdict}

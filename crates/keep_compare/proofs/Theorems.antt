@@ -6,17 +6,16 @@ use mathlib.Core.Bool.{Bool, true, false}
 use mathlib.Core.List.{List}
 use mathlib.Core.Logic.{⊎_elim, ◌↔◌}
 use lib.ListN.{length}
+use Rattle.std.proofs.Common.{Ok, Err}
 use Rattle.field.specs.Card.{card_of}
 use Rattle.field.proofs.Choosing.{either}
 use Rattle.superblock.specs.Shape.{in_shape}
 use Rattle.checkpoint.specs.declared.Volume.{Volume}
-use Rattle.checkpoint.specs.declared.Opening.{Opening}
-use Rattle.checkpoint.specs.declared.Opening.TheVariants.{Opened, Refused}
-use Rattle.checkpoint.specs.Volume.{opened_image}
+use Rattle.checkpoint.specs.Volume.{Opening, Opened, Refused, opened_image}
 use Rattle.checkpoint.proofs.Inside.{refusals}
 use Rattle.compare.specs.declared.Compared.{Compared}
-use Rattle.compare.specs.declared.Difference.{Difference}
-use Rattle.compare.specs.declared.Difference.TheVariants.{Same, BoundsDiffer, NodeDiffers, BlockDiffers}
+use Rattle.compare.specs.declared.Difference.TheVariants.{BoundsDiffer, NodeDiffers, BlockDiffers}
+use Rattle.compare.specs.Difference.{Told}
 use Rattle.compare.specs.Compare.{refused, verdict}
 use Rattle.keep_file.specs.Reading.{keep_in, readable}
 use Rattle.keep_file.specs.Readable.{Readable}
@@ -51,11 +50,11 @@ module _ (file fresh : List ℕ) where
   pub refuses_exactly : ((keep_compared file fresh).answer ≡ 18) ↔ (Readable file → ⊥)
   refuses_exactly = (λ a. go ends a, λ none. ap (λ (c : Compared). c.answer) (file_refused file fresh ((refused_exactly file).1 none)))
     where
-      no_18 : (d : Difference) → (verdict d).answer ≡ 18 → ⊥
-      no_18 Same a = omega arith
-      no_18 BoundsDiffer a = omega arith
-      no_18 (NodeDiffers n) a = omega arith
-      no_18 (BlockDiffers b) a = omega arith
+      no_18 : (d : Told) → (verdict d).answer ≡ 18 → ⊥
+      no_18 (Ok none) a = omega arith
+      no_18 (Err BoundsDiffer) a = omega arith
+      no_18 (Err (NodeDiffers n)) a = omega arith
+      no_18 (Err (BlockDiffers b)) a = omega arith
 
       go : {r : Compared} → KeepCompareEnds file fresh r → r.answer ≡ 18 → Readable file → ⊥
       go (no_keep_file none e) a is = none is

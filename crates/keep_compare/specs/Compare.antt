@@ -4,20 +4,17 @@ use Rattle.field.specs.Card.{Card, card_of}
 use Rattle.field.specs.Choice.{choose}
 use Rattle.superblock.specs.Shape.{in_shape}
 use Rattle.checkpoint.specs.declared.Volume.{Volume}
-use Rattle.checkpoint.specs.declared.Opening.{Opening}
-use Rattle.checkpoint.specs.declared.Opening.TheVariants.{Opened, Refused}
-use Rattle.checkpoint.specs.Volume.{opened}
+use Rattle.checkpoint.specs.Volume.{Opening, Opened, Refused, opened}
 use Rattle.walk.specs.Walk.{view_of}
 use Rattle.node.specs.Node.{bounds_of}
 use Rattle.compare.specs.declared.Compared.{Compared}
-use Rattle.compare.specs.declared.Difference.{Difference}
-use Rattle.compare.specs.Difference.{difference}
+use Rattle.compare.specs.Difference.{Told, difference}
 use Rattle.compare.specs.Compare.{refused, verdict}
 use Rattle.keep_file.specs.Keep.{numbers_of, Keep, kept_view}
 use Rattle.keep_file.specs.Reading.{Read, unreadable, kept, read_keep}
 
 -- Compare's first difference, where the kept side is what the file holds of the card
-unfoldable pub keep_difference : Keep → Card → Volume → Difference
+unfoldable pub keep_difference : Keep → Card → Volume → Told
 keep_difference k fresh u =
     difference k.bounds (bounds_of u) (kept_view k) (view_of fresh u) (numbers_of k.nodes) (numbers_of k.blocks)
 

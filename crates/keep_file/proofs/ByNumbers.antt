@@ -1,5 +1,5 @@
 -- What a function knows of a file by the numbers that it read from it.
-use Prim.Native.Nat.{ℕ, ◌+◌, ◌-◌, ◌*◌, ◌≤◌}
+use Prim.Native.Nat.{ℕ, ◌+◌, ◌-◌, ◌≤◌}
 use native.Mathlib.Omega.{arith}
 use mathlib.Core.Path.{◌≡◌, sym, ap, ap₂, ◌∙◌}
 use mathlib.Core.Bool.{Bool, ◌&&◌}
@@ -7,37 +7,36 @@ use mathlib.Core.List.{List}
 use lib.Dec.{leb}
 use lib.ListN.{length}
 use Rattle.field.specs.Number.{le32}
-use Rattle.list.specs.Lists.{column}
+use Rattle.node.specs.Node.{Bounds}
+use Rattle.compare.specs.declared.column.Column.{Column}
+use Rattle.compare.specs.Column.{numbers_in}
+use Rattle.keep_file.specs.Keep.{numbers_of}
 use Rattle.compare.specs.Lists.{is_rising, all_in_main}
 use Rattle.keep_file.specs.Layout.{path_start, block_start, nodes_start, blocks_start, file_end}
 use Rattle.keep_file.specs.Reading.{kept_nodes_at, kept_blocks_at, are_answers, path_length_in}
 use Rattle.keep_file.specs.Reading.{node_count_in, block_count_in, keep_in, lists_readable, fields_of}
 use Rattle.keep_file.specs.Readable.{Measured}
+use Rattle.keep_file.specs.File.{NodesAt, BlocksAt}
 use Rattle.keep_file.proofs.Lengths.{path_length_lem, nodes_length, blocks_length, node_numbers, block_numbers}
 
--- all up to the lists lies inside
-pub front_inside : (file : List ℕ) {p : ℕ} → p ≡ path_length_in file → Measured file → p + 4140 ≤ length file
-front_inside file path m = let size = m.file_length in omega arith
-
--- and the lists start behind the block's bytes
+-- the lists start behind the block's bytes
 pub nodes_start_lem : (file : List ℕ) → Measured file → {at : ℕ} → at ≡ le32 file 12 → 4104 ≤ at
 nodes_start_lem file m e = let start = m.nodes_offset in omega arith
 
--- ---- the lists, where the header says that they are
-module _ (file : List ℕ) (m : Measured file) {at n : ℕ} where
-  pub nodes_inside : at ≡ le32 file 12 → n ≡ node_count_in file → at + 16 * n ≤ length file
-  nodes_inside e f = let start = m.nodes_offset in let size = m.file_length in omega arith
+-- ---- the lists
+pub nodes_told : (file : List ℕ) {nodes : Column} → NodesAt file nodes → numbers_in nodes ≡ numbers_of (keep_in file).nodes
+nodes_told file s = rw (s.bytes, s.starts, s.wide, s.counted) (sym (node_numbers file))
 
-  pub nodes_placed : at ≡ le32 file 12 → n ≡ node_count_in file → kept_nodes_at file at n ≡ (keep_in file).nodes
-  unfolding keep_in
-  nodes_placed e f = ap₂ (kept_nodes_at file) (e ∙ m.nodes_offset) f
+pub blocks_told : (file : List ℕ) {blocks : Column} → BlocksAt file blocks → numbers_in blocks ≡ numbers_of (keep_in file).blocks
+blocks_told file s = rw (s.bytes, s.starts, s.wide, s.counted) (sym (block_numbers file))
 
-  pub blocks_inside : at ≡ le32 file 16 → n ≡ block_count_in file → at + 4100 * n ≤ length file
-  blocks_inside e f = let start = m.blocks_offset in let size = m.file_length in omega arith
-
-  pub blocks_placed : at ≡ le32 file 16 → n ≡ block_count_in file → kept_blocks_at file at n ≡ (keep_in file).blocks
-  unfolding keep_in
-  blocks_placed e f = ap₂ (kept_blocks_at file) (e ∙ m.blocks_offset) f
+module _ (file : List ℕ) {nodes blocks : Column} (ns : NodesAt file nodes) (bs : BlocksAt file blocks) where
+  pub lists_tested : {m : Bounds} → m ≡ (keep_in file).bounds → {nodes_rise answers blocks_rise inside : Bool} → nodes_rise ≡ is_rising (numbers_in nodes)
+      → answers ≡ are_answers file nodes.start nodes.count → blocks_rise ≡ is_rising (numbers_in blocks)
+      → inside ≡ all_in_main m (numbers_in blocks)
+      → (leb 1 nodes.count && nodes_rise && answers && blocks_rise && inside) ≡ lists_readable file
+  unfolding lists_readable
+  lists_tested e f g h i = rw (f, g, h, i, nodes_told file ns, blocks_told file bs, e, ns.starts, ns.counted)
 
 -- ---- the bounds
 pub bounds_placed : (file : List ℕ) {p main end : ℕ} → p ≡ path_length_in file → main ≡ le32 file (p + 4132) → end ≡ le32 file (p + 4136)
@@ -64,13 +63,6 @@ module _ (file : List ℕ) {p n b : ℕ} (path : p ≡ path_length_in file) (nod
   count_read e = rw (e, path)
 
   module _ {main end : ℕ} (from : main ≡ le32 file (p + 4132)) (to : end ≡ le32 file (p + 4136)) where
-    pub lists_tested : {nodes_rise answers blocks_rise inside : Bool} → nodes_rise ≡ is_rising (column 16 file (nodes_start p) n)
-        → answers ≡ are_answers file (nodes_start p) n → blocks_rise ≡ is_rising (column 4100 file (blocks_start p n) b)
-        → inside ≡ all_in_main (record { start = main; end = end }) (column 4100 file (blocks_start p n) b)
-        → (leb 1 n && nodes_rise && answers && blocks_rise && inside) ≡ lists_readable file
-    unfolding lists_readable
-    lists_tested f g h i = rw (f, g, h, i, ← bounds_placed file path from to, node_numbers file, block_numbers file, path, nodes, blocks)
-
     pub fields_read_lem : Measured file → {index answer count kept_nodes_at kept_blocks_at last : ℕ} → index ≡ le32 file (p + 24) → answer ≡ le32 file (p + 28)
         → count ≡ le32 file (p + 32) → kept_nodes_at ≡ le32 file 12 → kept_blocks_at ≡ le32 file 16 → last ≡ le32 file 20
         → record {

@@ -15,8 +15,7 @@ use Rattle.keep_file.specs.Readable.{Measured, TableAnswerAt, Readable, Filled, 
 use Rattle.keep_file.proofs.Refusing.{readable_exactly, read_readable}
 use Rattle.keep_file.proofs.Entries.{each_value, entries_read}
 use Rattle.keep_file.proofs.Values.{Three, three_read, answer_stands, answer_read, block_read}
-use Rattle.keep_file.proofs.Parts.{head_numbers, bound_numbers, behind_bounds, behind_block, behind_result, behind_path}
-use Rattle.keep_file.proofs.Parts.{Laid, answers_sized, laid_out_lem}
+use Rattle.keep_file.proofs.Parts.{head_numbers, bound_numbers, behind_bounds, behind_block, behind_result, behind_path, Laid, answers_sized, laid_out_lem}
 
 module _ (k : Keep) (file : List ℕ) (laid : Laid k file) where
   abbrev p : ℕ

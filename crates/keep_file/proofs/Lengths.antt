@@ -1,13 +1,14 @@
 -- What code knows of a file whose offsets and length are as its first three numbers give, and of what it holds.
-use Prim.Native.Nat.{ℕ, ◌+◌, ◌≤◌, ◌<◌}
+use Prim.Native.Nat.{ℕ, ◌+◌, ◌*◌, ◌≤◌, ◌<◌}
 use native.Mathlib.Omega.{arith}
 use mathlib.Core.Path.{◌≡◌, sym}
-use mathlib.Core.Bool.{false}
+use mathlib.Core.Bool.{true, false}
 use mathlib.Core.Logic.{⊎_elim}
 use mathlib.Core.List.{List}
 use lib.ListN.{length, drop, length-drop}
 use lib.Seq.{length-take-le}
 use Rattle.field.proofs.Choosing.{either}
+use Rattle.field.specs.Number.{le32}
 use Rattle.list.specs.Lists.{column}
 use Rattle.keep_file.specs.Keep.{numbers_of}
 use Rattle.keep_file.specs.Layout.{path_start, nodes_start, blocks_start}
@@ -34,11 +35,6 @@ module _ (file : List ℕ) where
   unfolding keep_in
   block_numbers = numbers_kept 4100 bytes_at file (blocks_start (path_length_in file) (node_count_in file)) (block_count_in file)
 
-  -- a block's bytes
-  pub bytes_length : (at : ℕ) → at + 4096 ≤ length file → length (bytes_at file at) ≡ 4096
-  unfolding bytes_at
-  bytes_length at h = length-take-le 4096 (drop at file) (rw (length-drop at file) (omega arith))
-
   module _ (m : Measured file) where
     -- the file
     pub file_long : 4140 ≤ length file
@@ -54,3 +50,19 @@ module _ (file : List ℕ) where
   -- a file that is shorter than the header is none: its length isn't what its first three numbers give, whatever stands for them
   pub short : length file < 24 → false ≡ measured file
   short h = ⊎_elim (λ m. let long = file_long (test_measured file m) in absurd (omega arith)) (λ m. sym m) (either (measured file))
+
+-- ---- what the code reads of a file that passed the first test lies inside it
+module _ (file : List ℕ) (h : measured file ≡ true) where
+  pub measured_long : 4140 ≤ length file
+  measured_long = file_long file (test_measured file h)
+
+  pub measured_front : le32 file 0 + 4140 ≤ length file
+  measured_front = let s = (test_measured file h).file_length in omega arith
+
+  pub measured_nodes : le32 file 12 + 16 * le32 file 4 ≤ length file
+  measured_nodes = let m = test_measured file h in let s = m.file_length in let n = m.nodes_offset in omega arith
+
+  pub measured_blocks : le32 file 16 + 4100 * le32 file 8 ≤ length file
+  measured_blocks = let m = test_measured file h in let s = m.file_length in let n = m.blocks_offset in omega arith
+
+pub ruleset inside = (measured_long, measured_front, measured_nodes, measured_blocks)

@@ -4,7 +4,7 @@ use native.Mathlib.Omega.{arith}
 use mathlib.Core.Path.{◌≡◌, refl}
 use mathlib.Core.List.{List, [], ◌∷◌, ◌++◌, append_assoc, append-nil}
 use lib.ListN.{length, drop, length-append}
-use Rattle.nat.specs.declared.TableAnswer.{TableAnswer}
+use Rattle.nat.specs.Table.{TableAnswer}
 use Rattle.list.specs.Lists.{bytes_of}
 use Rattle.list.proofs.Written.{length_bytes}
 use Rattle.keep_file.specs.Keep.{Kept, Keep}

@@ -121,7 +121,3 @@ module _ (file : List ℕ) where
     where
       same : read_keep file ≡ kept (keep_in file) → k ≡ keep_in file
       same g = cc
-
-  pub readable_measured : readable file ≡ true → measured file ≡ true
-  unfolding readable
-  readable_measured h = needed (λ p. rw p) h

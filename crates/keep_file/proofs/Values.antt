@@ -8,8 +8,7 @@ use lib.ListN.{length, get_or, drop}
 use lib.Seq.{take_at}
 use borrow.Author.Tests.{eq-eqb, ne_eqb}
 use Rattle.field.specs.Number.{le32}
-use Rattle.nat.specs.declared.TableAnswer.{TableAnswer}
-use Rattle.nat.specs.declared.TableAnswer.TheVariants.{OutOfRange, Entry}
+use Rattle.nat.specs.Table.{TableAnswer, OutOfRange, Entry}
 use Rattle.list.specs.Lists.{column, bytes_of}
 use Rattle.list.proofs.Written.{length_bytes, column_bytes, bytes_column}
 use Rattle.keep_file.specs.Layout.{answer_bytes}

@@ -1,8 +1,7 @@
 -- K6: "a keep file", a term of the paper: an answer, and all that it rested on.
 use Rattle.std.specs.Prelude.{ℕ, List, [], ◌∷◌, eqb}
 use Rattle.field.specs.Choice.{choose}
-use Rattle.nat.specs.declared.TableAnswer.{TableAnswer}
-use Rattle.nat.specs.declared.TableAnswer.TheVariants.{OutOfRange}
+use Rattle.nat.specs.Table.{TableAnswer, OutOfRange}
 use Rattle.walk.specs.Walk.{View}
 use Rattle.node.specs.Node.{Bounds}
 

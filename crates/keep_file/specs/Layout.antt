@@ -1,7 +1,6 @@
 -- The bytes of a keep file: "a keep file of 32-bit numbers and bytes, without gaps".
 use Rattle.std.specs.Prelude.{ℕ, ◌+◌, ◌*◌, List, [], ◌∷◌, ◌++◌, length}
-use Rattle.nat.specs.declared.TableAnswer.{TableAnswer}
-use Rattle.nat.specs.declared.TableAnswer.TheVariants.{OutOfRange, Entry}
+use Rattle.nat.specs.Table.{TableAnswer, OutOfRange, Entry}
 use Rattle.list.specs.Lists.{bytes_of}
 use Rattle.keep_file.specs.Keep.{Kept, Keep}
 

@@ -2,8 +2,7 @@
 use Rattle.std.specs.Prelude.{ℕ, zero, suc, ◌+◌, Bool, true, ◌&&◌, ◌||◌, List, [], ◌∷◌, length, take, drop, eqb, leb}
 use Rattle.field.specs.Number.{le32}
 use Rattle.field.specs.Choice.{choose}
-use Rattle.nat.specs.declared.TableAnswer.{TableAnswer}
-use Rattle.nat.specs.declared.TableAnswer.TheVariants.{OutOfRange, Entry}
+use Rattle.nat.specs.Table.{TableAnswer, OutOfRange, Entry}
 use Rattle.compare.specs.Lists.{is_rising, all_in_main}
 use Rattle.keep_file.specs.declared.Fields.{Fields}
 use Rattle.keep_file.specs.Keep.{Kept, numbers_of, Keep}

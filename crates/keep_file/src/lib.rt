@@ -1,14 +1,23 @@
-// Keep files: which bytes are one, and what stands where in it. What each means is in specs/: Keep, Layout, Reading.
+// Keep files: which bytes are one, and what stands where in it. What each means is in specs/: Keep, Layout, Reading, File.
 #![tactic(auto)]
 
-ghost use Rattle.std.specs.Prelude.{◌≡◌, true, ◌+◌, ◌*◌, ◌≤◌, ◌<◌, length};
+ghost use Rattle.std.specs.Prelude.{◌≡◌, ◌+◌, ◌*◌, ◌≤◌, ◌<◌, length};
+ghost use Rattle.nat.specs.Table.{answer_in};
+ghost use Rattle.compare.specs.Column.{bounds_in};
 ghost use Rattle.keep_file.specs.Layout.{file_end};
-ghost use Rattle.keep_file.specs.Reading.{answer_at, is_answer, are_answers, measured, lists_readable, readable};
-ghost use Rattle.keep_file.specs.Reading.{keep_in, read_keep, refused_fields, fields_of, fields_read};
+ghost use Rattle.keep_file.specs.Reading.{answer_at, is_answer, are_answers, measured, lists_readable};
+ghost use Rattle.keep_file.specs.Reading.{keep_in, read_keep, fields_of, fields_read};
+ghost use Rattle.keep_file.specs.File.{NodesAt, BlocksAt, KeepIn};
+
+use compare::{Bounds, Column};
+
+mod file;
+
+pub use file::{KeepFile, Measured};
 
 // A keep file's numbers, as they cross to C.
 #[repr(C)]
-#[derive(Clone, Copy)]
+#[derive(Clone, Copy, Default)]
 pub struct Fields {
     pub answer: u32,
     pub path_len: u32,
@@ -36,14 +45,17 @@ pub fn file_end(path: usize, nodes: usize, blocks: usize) -> usize
 
 // ---- a node's table answer
 
-pub fn answer_at(file: &[u8], at: usize) -> nat::TableAnswer
+pub fn answer_at(file: &[u8], at: usize) -> Option<nat::Entry>
     requires { at + 12 ≤ length file.now }
-    ensures { result ≡ answer_at file.now at }
+    ensures { answer_in result ≡ answer_at file.now at }
 {
     if field::get32(file, at) == 0 {
-        nat::TableAnswer::Entry(field::get32(file, at + 4), field::get32(file, at + 8))
+        Some(nat::Entry {
+            inode: field::get32(file, at + 4),
+            address: field::get32(file, at + 8),
+        })
     } else {
-        nat::TableAnswer::OutOfRange
+        None
     }
 }
 
@@ -60,12 +72,10 @@ fn are_answers(file: &[u8], start: usize, count: usize) -> bool
     requires { start + 16 * count ≤ length file.now }
     ensures { result ≡ are_answers file.now start count }
 {
-    let mut i: usize = 0;
-    while i < count {
+    for i in 0..count {
         if !is_answer(file, start + 16 * i + 4) {
             return false;
         }
-        i += 1;
     }
     true
 }
@@ -91,89 +101,110 @@ fn is_measured(file: &[u8]) -> bool
         & (file.len() == end)
 }
 
-// Whether some node is listed, both lists rise, each node has a table answer, and each block lies in the bounds.
-fn lists_readable(file: &[u8]) -> bool
-    requires { measured file.now ≡ true }
-    ensures { result ≡ lists_readable file.now }
-{
-    let path = field::get32(file, 0) as usize;
-    let nodes = field::get32(file, 4) as usize;
-    let blocks = field::get32(file, 8) as usize;
-    let main = field::get32(file, path + 4132);
-    let main_end = field::get32(file, path + 4136);
-    let nodes_at = path + 4140;
-    let blocks_at = nodes_at + 16 * nodes;
-    (1 <= nodes)
-        & compare::is_rising(file, nodes_at, 16, nodes)
-        & are_answers(file, nodes_at, nodes)
-        & compare::is_rising(file, blocks_at, 4100, blocks)
-        & compare::all_in_main(main, main_end, file, blocks_at, 4100, blocks)
-}
+impl<'a> Measured<'a> {
+    // The listed nodes, each with its table answer.
+    #[tactic(auto, using(crate::proofs::Lengths::inside))]
+    pub fn nodes(self) -> Column<'a>
+        ensures { NodesAt self.entry.bytes.now result }
+    {
+        Column {
+            bytes: self.bytes,
+            start: field::get32(self.bytes, 12) as usize,
+            width: 16,
+            count: field::get32(self.bytes, 4) as usize,
+        }
+    }
 
-fn refused_fields() -> Fields
-    ensures { result ≡ refused_fields }
-{
-    Fields {
-        answer: answer::BAD_KEEP_FILE,
-        path_len: 0,
-        index: 0,
-        pull_answer: 0,
-        byte_count: 0,
-        main_start: 0,
-        main_end: 0,
-        node_count: 0,
-        block_count: 0,
-        path_at: 0,
-        block_at: 0,
-        nodes_at: 0,
-        blocks_at: 0,
-        length: 0,
+    // The listed blocks, each with its bytes.
+    #[tactic(auto, using(crate::proofs::Lengths::inside))]
+    pub fn blocks(self) -> Column<'a>
+        ensures { BlocksAt self.entry.bytes.now result }
+    {
+        Column {
+            bytes: self.bytes,
+            start: field::get32(self.bytes, 16) as usize,
+            width: 4100,
+            count: field::get32(self.bytes, 8) as usize,
+        }
+    }
+
+    #[tactic(auto, using(crate::proofs::Lengths::inside))]
+    pub fn bounds(self) -> Bounds
+        ensures { bounds_in result ≡ (keep_in self.entry.bytes.now).bounds }
+    {
+        let path = field::get32(self.bytes, 0) as usize;
+        Bounds {
+            start: field::get32(self.bytes, path + 4132),
+            end: field::get32(self.bytes, path + 4136),
+        }
+    }
+
+    // Whether some node is listed, both lists rise, each node has a table answer, and each block lies in the bounds.
+    fn lists_readable(self) -> bool
+        ensures { result ≡ lists_readable self.entry.bytes.now }
+    {
+        let nodes = self.nodes();
+        let blocks = self.blocks();
+        (1 <= nodes.count)
+            & nodes.is_rising()
+            & are_answers(self.bytes, nodes.start, nodes.count)
+            & blocks.is_rising()
+            & blocks.all_in(self.bounds())
+    }
+
+    // What the file says.
+    #[tactic(auto, using(crate::proofs::Lengths::inside))]
+    fn fields(self) -> Fields
+        ensures { result ≡ fields_of (keep_in self.entry.bytes.now) }
+    {
+        let file = self.bytes;
+        let path = field::get32(file, 0);
+        let at = path as usize;
+        let nodes_at = field::get32(file, 12);
+        Fields {
+            answer: answer::DATA,
+            path_len: path,
+            index: field::get32(file, at + 24),
+            pull_answer: field::get32(file, at + 28),
+            byte_count: field::get32(file, at + 32),
+            main_start: field::get32(file, at + 4132),
+            main_end: field::get32(file, at + 4136),
+            node_count: field::get32(file, 4),
+            block_count: field::get32(file, 8),
+            path_at: 24,
+            // the block's bytes and the bounds lie between
+            block_at: nodes_at - 4104,
+            nodes_at,
+            blocks_at: field::get32(file, 16),
+            length: field::get32(file, 20),
+        }
     }
 }
 
-// What a file says, once its offsets and its length are right.
-fn fields_in(file: &[u8]) -> Fields
-    requires { measured file.now ≡ true }
-    ensures { result ≡ fields_of (keep_in file.now) }
+// The keep file, if the bytes are one. Nothing is read past their end, whatever they say.
+pub fn keep_file(bytes: &[u8]) -> Option<KeepFile<'_>>
+    ensures { KeepIn bytes.now result }
 {
-    let path = field::get32(file, 0);
-    let at = path as usize;
-    let nodes_at = field::get32(file, 12);
-    Fields {
-        answer: answer::DATA,
-        path_len: path,
-        index: field::get32(file, at + 24),
-        pull_answer: field::get32(file, at + 28),
-        byte_count: field::get32(file, at + 32),
-        main_start: field::get32(file, at + 4132),
-        main_end: field::get32(file, at + 4136),
-        node_count: field::get32(file, 4),
-        block_count: field::get32(file, 8),
-        path_at: 24,
-        // the block's bytes and the bounds lie between
-        block_at: nodes_at - 4104,
-        nodes_at,
-        blocks_at: field::get32(file, 16),
-        length: field::get32(file, 20),
+    if !is_measured(bytes) {
+        return None;
     }
-}
-
-// Whether the bytes are a keep file. Nothing is read past their end, whatever they say.
-pub fn is_readable(file: &[u8]) -> bool
-    ensures { result ≡ readable file.now }
-{
-    if !is_measured(file) {
-        return false;
+    let parts = Measured { bytes };
+    if parts.lists_readable() {
+        Some(KeepFile { parts })
+    } else {
+        None
     }
-    lists_readable(file)
 }
 
 // The fields of a keep file, or 18.
 pub fn read(file: &[u8]) -> Fields
     ensures { result ≡ fields_read (read_keep file.now) }
 {
-    if !is_readable(file) {
-        return refused_fields();
+    match keep_file(file) {
+        Some(kept) => kept.parts.fields(),
+        None => Fields {
+            answer: answer::BAD_KEEP_FILE,
+            ..Fields::default()
+        },
     }
-    fields_in(file)
 }

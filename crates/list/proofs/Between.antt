@@ -9,7 +9,7 @@ use mathlib.Core.List.{List, [], ◌∷◌, ◌++◌}
 use lib.Dec.{ltb}
 use borrow.Author.Tests.{ltb-true, ltb-false}
 use Rattle.field.specs.Number.{le32}
-use Rattle.list.specs.declared.Spot.TheVariants.{Before, Present}
+use Rattle.std.specs.Prelude.{Some, None}
 use Rattle.list.specs.Lists.{Rising, numbers}
 use Rattle.list.specs.Insertion.{Placed}
 use Rattle.list.proofs.Entries.{Passed, numbers_cut, numbers_cons, passed_start, passed_above, placed_first, placed_before, placed_there}
@@ -49,7 +49,7 @@ module _ {l : List ℕ} {n x low high : ℕ} (go : Between l n x low high) where
 
   module _ (rises : Rising (numbers l 0 n)) where
     -- an entry in between is x
-    pub between_there : (i : ℕ) → i < high → le32 l (4 * i) ≡ x → Placed l n x Present
+    pub between_there : (i : ℕ) → i < high → le32 l (4 * i) ≡ x → Placed l n x None
     between_there i q g =
         let few = go.few in
         let e : i + 1 - 1 ≡ i = omega arith in
@@ -67,19 +67,19 @@ module _ {l : List ℕ} {n x low high : ℕ} (go : Between l n x low high) where
             subst (Passed l n x) (omega arith) (passed_start l n x)
 
     -- nothing is in between
-    pub between_end : high ≤ low → Placed l n x (Before low)
+    pub between_end : high ≤ low → Placed l n x (Some low)
     between_end h = ⊎_elim first later go.below
       where
         here : Passed l n x low
         here = let inside = go.within in subst (Passed l n x) (omega arith) go.above
 
-        first : low ≡ 0 → Placed l n x (Before low)
-        first e = subst (λ (k : ℕ). Placed l n x (Before k)) (omega arith) (placed_first l n x low (omega arith) here)
+        first : low ≡ 0 → Placed l n x (Some low)
+        first e = subst (λ (k : ℕ). Placed l n x (Some k)) (omega arith) (placed_first l n x low (omega arith) here)
 
-        later : le32 l (4 * (low - 1)) < x → Placed l n x (Before low)
+        later : le32 l (4 * (low - 1)) < x → Placed l n x (Some low)
         later g = by_zero (ltb 0 low) refl
           where
-            by_zero : (b : Bool) → ltb 0 low ≡ b → Placed l n x (Before low)
+            by_zero : (b : Bool) → ltb 0 low ≡ b → Placed l n x (Some low)
             by_zero false e = let least = ltb-false 0 low e in first (omega arith)
             by_zero true e =
                 let some = ltb-true 0 low e in

@@ -3,11 +3,13 @@ use Prim.Native.Nat.{ℕ, zero, suc, ◌+◌, ◌-◌, ◌*◌, ◌≤◌, ◌<�
 use mathlib.Core.Path.{◌≡◌, refl, ap, sym, subst, ◌∙◌}
 use mathlib.Core.List.{List, [], ◌∷◌, ◌++◌, append_assoc, append-nil}
 use native.Mathlib.Omega.{arith}
-use lib.ListN.{length, drop, length-append, length-set}
+use lib.ListN.{length, get_or, drop, length-append, length-drop, length-set}
 use lib.Seq.{drop-drop}
-use Rattle.field.specs.Number.{le32, put32_at}
-use Rattle.list.specs.declared.Spot.{Spot}
-use Rattle.list.specs.declared.Spot.TheVariants.{Before, Present}
+use Rattle.std.specs.List.{CopiedTo, SameBelow}
+use Rattle.std.proofs.Math.Seq.{paste}
+use Rattle.std.proofs.lemmas.List.Edits.{drop-paste}
+use Rattle.field.specs.Number.{le16, le32, put32_at}
+use Rattle.std.specs.Prelude.{Option, Some, None}
 use Rattle.list.specs.Lists.{insert, Rising, numbers, Holds, Grown, HasInserted}
 use Rattle.list.specs.Insertion.{Placed, Shifted}
 use Rattle.list.proofs.Rises.{insert_more, insert_front, insert_last, insert_there, rising_front}
@@ -84,7 +86,7 @@ module _ (l : List ℕ) (n x : ℕ) where
       ∙ ap (λ (s : List ℕ). insert x (numbers l 0 i) ++ s) (sym c)
 
   -- all are above x
-  pub placed_first : (i : ℕ) → i ≤ 0 → Passed l n x i → Placed l n x (Before 0)
+  pub placed_first : (i : ℕ) → i ≤ 0 → Passed l n x i → Placed l n x (Some 0)
   unfolding numbers insert
   placed_first i h p = let z : i ≡ 0 = omega arith in (omega arith, rw z at p)
 
@@ -93,14 +95,14 @@ module _ (l : List ℕ) (n x : ℕ) where
     front = subst Rising (numbers_last l i z) (rising_front (numbers l 0 i) (numbers l i (n - i)) (subst Rising (numbers_cut l i n h) rises))
 
     -- the entry before i is below x
-    pub placed_before : le32 l (4 * (i - 1)) < x → Placed l n x (Before i)
+    pub placed_before : le32 l (4 * (i - 1)) < x → Placed l n x (Some i)
     placed_before g =
         let e : insert x (numbers l 0 i) ≡ numbers l 0 i ++ (x ∷ []) =
         rw (numbers_last l i z) (insert_last x (numbers l 0 (i - 1)) (le32 l (4 * (i - 1))) front g) in
         (h, p ∙ rw (e, append_assoc))
 
     -- the entry before i is x
-    pub placed_there : le32 l (4 * (i - 1)) ≡ x → Placed l n x Present
+    pub placed_there : le32 l (4 * (i - 1)) ≡ x → Placed l n x None
     placed_there g =
         let r : Rising (numbers l 0 (i - 1) ++ (x ∷ [])) = rw g at front in
         let e : insert x (numbers l 0 i) ≡ numbers l 0 i = rw (numbers_last l i z, g) (insert_there x (numbers l 0 (i - 1)) r) in
@@ -118,49 +120,79 @@ put_front l i x h =
 put_back : (l : List ℕ) (i x k : ℕ) → numbers (put32_at l (4 * i) x) (i + 1) k ≡ numbers l (i + 1) k
 put_back l i x k = numbers_same l (put32_at l (4 * i) x) (i + 1) k (λ j p q. le32_other l (4 * i) x (4 * j) (λ a b c d e. omega arith))
 
--- The shift of x in before entry p of o has come to entry i: l is there now, and `carry` goes before its entry i.
-pub record Shifting (o : List ℕ) (p n x : ℕ) (l : List ℕ) (i carry : ℕ) : Type 0 where
-  pub within : i ≤ n
-  pub size : length l ≡ length o
-  pub rest : drop (4 * (n + 1)) l ≡ drop (4 * (n + 1)) o
-  pub list : numbers l 0 i ++ (carry ∷ numbers l i (n - i)) ≡ numbers o 0 p ++ (x ∷ numbers o p (n - p))
+-- entries i to n of o, moved up by one
+numbers_moved : (o m : List ℕ) (i k : ℕ) → ((j : ℕ) → i ≤ j → j < i + k → le32 m (4 * (j + 1)) ≡ le32 o (4 * j))
+    → numbers m (i + 1) k ≡ numbers o i k
+unfolding numbers
+numbers_moved o m i zero f = refl
+numbers_moved o m i (suc k) f =
+    let r : numbers m (i + 1 + 1) k ≡ numbers o (i + 1) k = numbers_moved o m (i + 1) k (λ j p q. f j (omega arith) (omega arith)) in
+    let e : le32 m (4 * (i + 1)) ≡ le32 o (4 * i) = f i (omega arith) (omega arith) in
+    λ t. e t ∷ r t
 
--- `carry` is stored at entry i
-module _ {o : List ℕ} {p n x : ℕ} {l : List ℕ} {i carry : ℕ} (at : Shifting o p n x l i carry) (room : 4 * (n + 1) ≤ length o)
-    {m : List ℕ} (e : m ≡ put32_at l (4 * i) carry) where
-  stored : numbers (put32_at l (4 * i) carry) 0 (i + 1) ≡ numbers l 0 i ++ (carry ∷ [])
-  stored = let h = at.within in let g = at.size in put_front l i carry (omega arith)
+-- what a move of the entries p to n of o by one, and a store at entry p, leave
+module _ (o m : List ℕ) (p n x : ℕ) (few : p ≤ n) (room : 4 * (n + 1) ≤ length o) (size : length m ≡ length o)
+    (after : m ≡ paste o (4 * p + 4) (drop (4 * p) o) (4 * n - 4 * p)) (moved : CopiedTo o m (4 * p) (4 * p + 4) (4 * n - 4 * p))
+    (below : SameBelow o m (4 * p + 4)) where
+  byte_moved : (a b : ℕ) → 4 * p ≤ b → b < 4 * n → a ≡ b + 4 → get_or m a 0 ≡ get_or o b 0
+  byte_moved a b low high e =
+      let there : 4 * p + (a - (4 * p + 4)) ≡ b = omega arith in
+      rw there at (moved a 0 (omega arith) (omega arith))
+
+  entry_moved : (j : ℕ) → p ≤ j → j < p + (n - p) → le32 m (4 * (j + 1)) ≡ le32 o (4 * j)
+  unfolding le32 le16
+  entry_moved j h g =
+      let low : j < n = omega arith in
+      rw (
+        byte_moved (4 * (j + 1)) (4 * j) (omega arith) (omega arith) (omega arith),
+        byte_moved (4 * (j + 1) + 1) (4 * j + 1) (omega arith) (omega arith) (omega arith),
+        byte_moved (4 * (j + 1) + 2) (4 * j + 2) (omega arith) (omega arith) (omega arith),
+        byte_moved (4 * (j + 1) + 2 + 1) (4 * j + 2 + 1) (omega arith) (omega arith) (omega arith),
+      )
+
+  entry_below : (j : ℕ) → 0 ≤ j → j < 0 + p → le32 m (4 * j) ≡ le32 o (4 * j)
+  unfolding le32 le16
+  entry_below j z h =
+      rw (
+        below (4 * j) 0 (omega arith),
+        below (4 * j + 1) 0 (omega arith),
+        below (4 * j + 2) 0 (omega arith),
+        below (4 * j + 2 + 1) 0 (omega arith),
+      )
+
+  stored : numbers (put32_at m (4 * p) x) 0 (n + 1) ≡ numbers o 0 p ++ (x ∷ numbers o p (n - p))
+  stored =
+      let parts = numbers_cut (put32_at m (4 * p) x) (p + 1) (n + 1) (omega arith) in
+      let back : n + 1 - (p + 1) ≡ n - p = omega arith in
+      parts ∙ rw (
+        put_front m p x (omega arith),
+        back,
+        put_back m p x (n - p),
+        numbers_same o m 0 p entry_below,
+        numbers_moved o m p (n - p) entry_moved,
+        append_assoc,
+      )
 
   kept : drop (4 * (n + 1)) m ≡ drop (4 * (n + 1)) o
-  kept = let h = at.within in rw e (drop_put l (4 * i) carry (4 * (n + 1)) (omega arith) ∙ at.rest)
+  kept =
+      let end : 4 * p + 4 + (4 * n - 4 * p) ≡ 4 * (n + 1) = omega arith in
+      let enough : 4 * n - 4 * p ≤ length (drop (4 * p) o) = rw (length-drop (4 * p) o) (omega arith) in
+      let cut = drop-paste o (4 * p + 4) (drop (4 * p) o) (4 * n - 4 * p) (omega arith) enough in
+      ap (drop (4 * (n + 1))) after
+      ∙ subst (λ k. drop k (paste o (4 * p + 4) (drop (4 * p) o) (4 * n - 4 * p)) ≡ drop k o) end cut
 
-  -- and what stood there is carried on
-  pub shift_again : {y : ℕ} → i < n → y ≡ le32 l (4 * i) → length m ≡ length l → Shifting o p n x m (i + 1) y
-  shift_again h r g = record {
-    within = omega arith;
-    size = g ∙ at.size;
-    rest = kept;
-    list = rw (e, r, stored, put_back l i carry (n - (i + 1)), append_assoc, ← numbers_cons l i n h) at.list;
-  }
-
-  -- and nothing stood there
-  pub shift_end : n ≤ i → Shifted o p n x m
-  shift_end h =
-      let q : n ≡ i = let g = at.within in omega arith in
-      record {
-        list = ap (λ (t : ℕ). numbers m 0 (t + 1)) q ∙ rw e stored ∙ rw (numbers_nil l i n h) at at.list;
-        rest = kept;
-      }
+  pub shifted : {l : List ℕ} → l ≡ put32_at m (4 * p) x → Shifted o p n x l
+  shifted e = record { list = rw e stored; rest = rw e (drop_put m (4 * p) x (4 * (n + 1)) (omega arith) ∙ kept) }
 
 -- ---- the two ways of an insertion
-module _ (l : List ℕ) (n x : ℕ) {r : Spot} (place : Placed l n x r) where
-  pub inserted_there : r ≡ Present → HasInserted l n x l n
+module _ (l : List ℕ) (n x : ℕ) {r : Option ℕ} (place : Placed l n x r) where
+  pub inserted_there : r ≡ None → HasInserted l n x l n
   inserted_there e =
-      let h : Placed l n x Present = rw e at place in
+      let h : Placed l n x None = rw e at place in
       record { list = sym h; grown = record { more = omega arith; rest = refl; size = refl } }
 
-  module _ (p : ℕ) (e : r ≡ Before p) where
-    before : Placed l n x (Before p)
+  module _ (p : ℕ) (e : r ≡ Some p) where
+    before : Placed l n x (Some p)
     before = rw e at place
 
     pub spot_within : p ≤ n

@@ -6,11 +6,11 @@ ghost use Rattle.std.specs.Prelude.{◌≡◌, ◌+◌, ◌*◌, ◌≤◌, leng
 ghost use Rattle.list.specs.Lists.{Holds, HasInserted};
 ghost use Rattle.list.specs.Insertion.{Placed, Shifted};
 
-// Where a number goes in a rising list.
-#[derive(Clone, Copy)]
-enum Spot {
-    Before(usize),
-    Present,
+// A rising list of numbers at the front of lent bytes, and how many there are.
+#[derive(Drop)]
+pub struct NumberList<'a> {
+    pub bytes: &'a mut [u8],
+    pub count: usize,
 }
 
 fn least(a: usize, b: usize) -> usize
@@ -22,8 +22,10 @@ fn least(a: usize, b: usize) -> usize
     b
 }
 
-// The search starts at the end, where most numbers go, and reaches twice as far with each turn, until half of what is left is nearer.
-fn find_spot(list: &[u8], count: usize, x: u32) -> Spot
+// The entry of a rising list that x goes before, unless x is there. The search starts at the end, where most numbers go, and reaches twice
+// as far with each turn, until half of what is left is nearer. It is by hand, since the numbers stand in C's bytes, and a library's is of a slice
+// of numbers.
+fn find_spot(list: &[u8], count: usize, x: u32) -> Option<usize>
     requires { Holds x list.now count }
     ensures { Placed list.now count x result }
 {
@@ -35,7 +37,7 @@ fn find_spot(list: &[u8], count: usize, x: u32) -> Spot
         let middle = high - 1 - gap;
         let y = field::get32(list, 4 * middle);
         if y == x {
-            return Spot::Present;
+            return None;
         }
         reach = 2 * gap + 1;
         if y < x {
@@ -44,7 +46,7 @@ fn find_spot(list: &[u8], count: usize, x: u32) -> Spot
         }
         high = middle;
     }
-    Spot::Before(low)
+    Some(low)
 }
 
 // x put before entry p, and the entries from there on moved up by one.
@@ -52,27 +54,22 @@ fn shift_in(list: &mut [u8], p: usize, count: usize, x: u32)
     requires { (p ≤ count) × (4 * (count + 1) ≤ length list.old) }
     ensures { Shifted list.old p count x list.new }
 {
-    let mut i = p;
-    let mut carry = x;
-    while i < count {
-        let next = field::get32(list, 4 * i);
-        field::put32(list, 4 * i, carry);
-        carry = next;
-        i += 1;
-    }
-    field::put32(list, 4 * i, carry);
+    list.copy_within(4 * p..4 * count, 4 * p + 4);
+    field::put32(list, 4 * p, x);
 }
 
-// x put in its place among the first `count` numbers, unless it is there: how many there are then.
-pub fn insert(list: &mut [u8], count: usize, x: u32) -> usize
-    requires { Holds x list.old count }
-    ensures { HasInserted list.old count x list.new result }
-{
-    match find_spot(list, count, x) {
-        Spot::Present => count,
-        Spot::Before(p) => {
-            shift_in(list, p, count, x);
-            count + 1
+impl NumberList<'_> {
+    // x put in its place, unless it is there.
+    pub fn insert(&mut self, x: u32)
+        requires { Holds x self.old.bytes.now self.old.count }
+        ensures same_bytes { self.new.bytes.ghost_name ≡ self.old.bytes.ghost_name }
+        ensures inserted { HasInserted self.old.bytes.now self.old.count x self.new.bytes.now self.new.count }
+    {
+        let count = self.count;
+        let bytes = &mut *self.bytes;
+        if let Some(p) = find_spot(bytes, count, x) {
+            shift_in(bytes, p, count, x);
+            self.count = count + 1;
         }
     }
 }

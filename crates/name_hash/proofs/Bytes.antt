@@ -1,11 +1,17 @@
--- The bytes of a name from a place on: what one turn of the loop over them goes by.
-use Rattle.std.proofs.Common.{◌≡◌, ℕ, ◌+◌, ◌<◌, ◌≤◌, true, ◌&&◌, List, length, get_or, drop, add-one, drop_of_length-le, drop-cons}
-use Rattle.name_hash.specs.Name.{name_byte, name_bytes}
+-- The bytes of a name, each by itself.
+use Rattle.std.proofs.Common.{◌≡◌, ℕ, not, eqb, ◌&&◌, ◌||◌, true, false, Bool, List, [], ◌∷◌, refl, ap₂}
+use Rattle.std.specs.List.{list_all}
+use Rattle.name_hash.specs.Name.{name_bytes}
 
-pub bytes_next : (i : ℕ) (s : List ℕ) → i < length s → name_bytes (drop i s) ≡ name_byte (get_or s i 0) && name_bytes (drop (i + 1) s)
-unfolding name_bytes
-bytes_next i s h = rw (drop-cons s i 0 h, add-one i)
+-- what the code asks of each
+abbrev pub good : ℕ → Bool
+good x = not (eqb x 0) && not (eqb x 47)
 
-pub bytes_end : (i : ℕ) (s : List ℕ) → length s ≤ i → name_bytes (drop i s) ≡ true
+one_test : (p q : Bool) → (not p && not q) ≡ not (p || q)
+one_test true q = refl
+one_test false q = refl
+
+pub all_good : (xs : List ℕ) → list_all good xs ≡ name_bytes xs
 unfolding name_bytes
-bytes_end i s h = rw (drop_of_length-le s h)
+all_good [] = refl
+all_good (x ∷ xs) = ap₂ ◌&&◌ (one_test (eqb x 0) (eqb x 47)) (all_good xs)

@@ -2,4 +2,3 @@ pub mod Bytes
 pub mod Words
 pub mod Rounds
 pub mod Turns
-pub mod Dots

@@ -3,6 +3,7 @@
 use mathlib.Core.Path.{◌≡◌, ap}
 use mathlib.Core.Bool.{true}
 use mathlib.Core.List.{List}
+use Rattle.std.specs.Prelude.{Some, None}
 use Prim.Native.Nat.{ℕ, ◌+◌, ◌<◌}
 use Rattle.field.specs.Number.{le16}
 use Rattle.field.specs.Card.{Card}
@@ -10,10 +11,8 @@ use Rattle.journal.specs.Journal.{entry_start, number_of}
 use Rattle.journal.proofs.Once.{only_entry, no_entry}
 use Rattle.checkpoint.specs.declared.Volume.{Volume}
 use Rattle.checkpoint.specs.Volume.{VolumeIn, journal_of}
-use Rattle.nat.specs.declared.InJournal.TheVariants.{Held, Absent}
-use Rattle.nat.specs.declared.TableAnswer.TheVariants.{Entry}
-use Rattle.nat.specs.Entry.{inode_at, address_at, held_at, in_journal}
-use Rattle.nat.specs.Table.{in_range, in_table, table_answer}
+use Rattle.nat.specs.Table.{Entry, in_range, in_table, table_answer}
+use Rattle.nat.specs.Entry.{inode_at, address_at, entry_at, held_at, in_journal}
 
 module _ (card : Card) (v : Volume) (inside : VolumeIn card v) where
   abbrev journal : List ℕ
@@ -27,7 +26,7 @@ module _ (card : Card) (v : Volume) (inside : VolumeIn card v) where
     abbrev address : ℕ
     address = address_at journal (entry_start 13 i + 4)
 
-    held : in_journal journal number ≡ Held inode address
+    held : in_journal journal number ≡ Some (entry_at journal (entry_start 13 i + 4))
     unfolding in_journal
     held = ap (held_at journal) (only_entry 13 journal inside.journal_once i number counted named)
 
@@ -37,7 +36,7 @@ module _ (card : Card) (v : Volume) (inside : VolumeIn card v) where
 
 module _ (card : Card) (v : Volume) (number : ℕ) (none : (i : ℕ) → i < le16 (journal_of card v) 0 → number_of 13 (journal_of card v) i ≡ number → ⊥)
   where
-    absent : in_journal (journal_of card v) number ≡ Absent
+    absent : in_journal (journal_of card v) number ≡ None
     unfolding in_journal
     absent = ap (held_at (journal_of card v)) (no_entry 13 (journal_of card v) number none)
 

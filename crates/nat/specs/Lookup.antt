@@ -1,13 +1,9 @@
 -- Node lookup as a call on an image: the numbers that cross to C.
 use Rattle.std.specs.Prelude.{List, ℕ}
 use Rattle.field.specs.Card.{Card, card_of}
-use Rattle.checkpoint.specs.declared.Opening.{Opening}
-use Rattle.checkpoint.specs.declared.Opening.TheVariants.{Opened, Refused}
-use Rattle.checkpoint.specs.Volume.{opened_image}
-use Rattle.nat.specs.declared.TableAnswer.{TableAnswer}
-use Rattle.nat.specs.declared.TableAnswer.TheVariants.{OutOfRange, Entry}
+use Rattle.checkpoint.specs.Volume.{Opening, Opened, Refused, opened_image}
+use Rattle.nat.specs.Table.{TableAnswer, OutOfRange, Entry, table_answer}
 use Rattle.nat.specs.declared.Lookup.{Lookup}
-use Rattle.nat.specs.Table.{table_answer}
 
 -- "9 if out of range, else 0 with the table's inode and address as stored"; "a result number that the answer doesn't name .. is 0"
 abbrev pub table_numbers : TableAnswer → Lookup

@@ -1,15 +1,25 @@
 -- Node lookup: what an opened volume says of a node number.
-use Rattle.std.specs.Prelude.{List, Bool, ◌&&◌, ℕ, ◌+◌, ◌-◌, ◌*◌, ◌/◌, ◌%◌, drop, leb, ltb}
+use Rattle.std.specs.Prelude.{List, Bool, ◌&&◌, ℕ, ◌+◌, ◌-◌, ◌*◌, ◌/◌, ◌%◌, drop, leb, ltb, Option, Some, None}
 use Rattle.field.specs.Map.{top_bit}
 use Rattle.field.specs.Card.{Card}
 use Rattle.field.specs.Choice.{choose}
 use Rattle.checkpoint.specs.declared.Volume.{Volume}
 use Rattle.checkpoint.specs.Volume.{journal_of}
-use Rattle.nat.specs.declared.InJournal.{InJournal}
-use Rattle.nat.specs.declared.InJournal.TheVariants.{Held, Absent}
-use Rattle.nat.specs.declared.TableAnswer.{TableAnswer}
-use Rattle.nat.specs.declared.TableAnswer.TheVariants.{OutOfRange, Entry}
+use Rattle.nat.specs.declared.Entry as e
 use Rattle.nat.specs.Entry.{inode_at, address_at, in_journal}
+
+-- a table answer, a term of document 01: "9 if out of range", "or these two numbers without the version byte"
+pub data TableAnswer : Type 0 where
+  OutOfRange : TableAnswer
+  Entry : ℕ → ℕ → TableAnswer
+
+-- the code's answer as this: an entry that was found, or none
+abbrev pub answered : e.Entry → TableAnswer
+answered entry = Entry entry.inode entry.address
+
+abbrev pub answer_in : Option e.Entry → TableAnswer
+answer_in (Some entry) = answered entry
+answer_in None = OutOfRange
 
 -- "Valid numbers are 1 to 455 × 256 × NAT segments − 1."
 unfoldable pub in_range : Volume → ℕ → Bool
@@ -43,10 +53,10 @@ unfoldable pub in_table : Card → Volume → ℕ → TableAnswer
 in_table card v number = entry_in (card.block (table_address card v (table_block number))) number
 
 -- the journal comes before the table: "Otherwise table block .."
-abbrev pub or_table : InJournal → TableAnswer → TableAnswer
-or_table (Held inode address) other = Entry inode address
-or_table Absent other = other
+abbrev pub or_table : Option e.Entry → TableAnswer → TableAnswer
+or_table (Some entry) other = answered entry
+or_table None other = other
 
--- a number's table answer, a term of document 01: "9 if out of range", "or these two numbers without the version byte"
+-- a number's table answer
 unfoldable pub table_answer : Card → Volume → ℕ → TableAnswer
 table_answer card v number = choose (in_range v number) (or_table (in_journal (journal_of card v) number) (in_table card v number)) OutOfRange

@@ -1,10 +1,12 @@
 -- The trees of a node, of a data block and of the way to a leaf and on from there, by cases: no run and no list is named.
-use Prim.Native.Nat.{ℕ, ◌+◌, ◌*◌}
+use Prim.Native.Nat.{ℕ, ◌+◌, ◌-◌, ◌*◌}
 use native.Mathlib.Omega.{arith}
-use mathlib.Core.Path.{◌≡◌, refl, sym, ap, ◌∙◌}
+use mathlib.Core.Path.{◌≡◌, refl, sym, ap, subst, ◌∙◌}
 use mathlib.Core.Bool.{true, false}
 use mathlib.Core.List.{List, [], ◌∷◌}
-use lib.ListN.{length, drop}
+use Rattle.std.specs.Prelude.{Option, Some, None}
+use lib.ListN.{length, take, drop}
+use Rattle.std.proofs.lemmas.List.{drop-take}
 use borrow.Author.Tests.{eq-eqb, ne_eqb}
 use Rattle.field.specs.Number.{le32}
 use Rattle.field.specs.Card.{Card}
@@ -13,14 +15,12 @@ use Rattle.place.specs.declared.Way.{Way}
 use Rattle.place.specs.Place.{place_of}
 use Rattle.place.specs.Way.{way_of, in_array}
 use Rattle.place.proofs.Ways.{steps_of, slot_at, way_steps}
-use Rattle.nat.specs.declared.TableAnswer.TheVariants.{OutOfRange, Entry}
-use Rattle.walk.specs.Walk.{done, look, read, ok, stop, onward, and_then}
-use Rattle.node.specs.declared.Data.{Data}
-use Rattle.node.specs.declared.Data.TheVariants as d
+use Rattle.nat.specs.Table.{OutOfRange, Entry}
+use Rattle.walk.specs.Walk.{done, look, read, ok, stop, and_then}
 use Rattle.node.specs.Node.{Bounds, in_main, belongs, at_block, at_entry, node_walk}
 use Rattle.node.specs.Block.{hole, held, is_hole, holding, data_walk}
 use Rattle.node.specs.Leaf.{leaf_from, leaf_along, leaf_walk, at_leaf}
-use Rattle.node.specs.Found.{data_of}
+use Rattle.node.specs.Found.{fetched, after_inode}
 
 -- ---- a node
 module _ (m : Bounds) (number ino place : ℕ) where
@@ -87,6 +87,11 @@ module _ (m : Bounds) (ino : ℕ) (block : List ℕ) (at : ℕ) where
     leaf_node z = rw (← e, ne_eqb number 0 z)
 
 -- ---- from the inode, by how long the way is
+behind : (w : Way) → (w.count ≡ 0 → ⊥) → drop 1 (steps_of w) ≡ after_inode w
+behind w some =
+    let all : 1 + (w.count - 1) ≡ w.count = omega arith in
+    subst (λ (n : ℕ). drop 1 (take n w.steps) ≡ after_inode w) all (drop-take 1 (w.count - 1) w.steps)
+
 module _ (m : Bounds) (ino : ℕ) (inode : List ℕ) where
   along_none : (way : List Step) → length way ≡ 0 → leaf_along m ino inode way ≡ done (ok hole)
   unfolding leaf_along
@@ -104,21 +109,18 @@ module _ (m : Bounds) (ino : ℕ) (inode : List ℕ) where
     pub leaf_none : w.count ≡ 0 → leaf_walk m ino inode (place_of A index) ≡ done (ok hole)
     leaf_none l = along_none _ (rw e at l)
 
-    pub leaf_nodes : (w.count ≡ 0 → ⊥)
+    leaf_steps : (w.count ≡ 0 → ⊥)
         → leaf_walk m ino inode (place_of A index) ≡ leaf_from m ino (drop 1 (steps_of w)) inode (4052 + 4 * slot_at w 0)
-    leaf_nodes l = along_nodes _ (rw e at l) ∙ rw (way_steps A index e, e)
+    leaf_steps l = along_nodes _ (rw e at l) ∙ rw (way_steps A index e, e)
+
+    pub leaf_nodes : (w.count ≡ 0 → ⊥)
+        → leaf_walk m ino inode (place_of A index) ≡ leaf_from m ino (after_inode w) inode (4052 + 4 * slot_at w 0)
+    leaf_nodes l = leaf_steps l ∙ ap (λ (way : List Step). leaf_from m ino way inode (4052 + 4 * slot_at w 0)) (behind w l)
 
 -- ---- from a leaf, by what the code has of it
-module _ (card : Card) (m : Bounds) (at : ℕ) {leaf : Data} where
-  pub from_hole : leaf ≡ d.Hole → onward (at_leaf m at) (data_of card leaf) ≡ done (ok hole)
-  unfolding onward
-  from_hole e = ap (λ (x : Data). onward (at_leaf m at) (data_of card x)) e
+module _ (card : Card) (m : Bounds) (at : ℕ) {leaf : Option ℕ} where
+  pub from_none : leaf ≡ None → at_leaf m at (fetched card leaf) ≡ done (ok hole)
+  from_none e = ap (λ (x : Option ℕ). at_leaf m at (fetched card x)) e
 
-  pub from_stop : {answer : ℕ} → leaf ≡ d.Stop answer → onward (at_leaf m at) (data_of card leaf) ≡ done (stop answer)
-  unfolding onward
-  from_stop e = ap (λ (x : Data). onward (at_leaf m at) (data_of card x)) e
-
-  pub from_at : {block address : ℕ} → leaf ≡ d.At block → address ≡ le32 (card.block block) at
-      → onward (at_leaf m at) (data_of card leaf) ≡ data_walk m address
-  unfolding onward
-  from_at e f = ap (λ (x : Data). onward (at_leaf m at) (data_of card x)) e ∙ ap (data_walk m) (sym f)
+  pub from_some : {block address : ℕ} → leaf ≡ Some block → address ≡ le32 (card.block block) at → at_leaf m at (fetched card leaf) ≡ data_walk m address
+  from_some e f = ap (λ (x : Option ℕ). at_leaf m at (fetched card x)) e ∙ ap (data_walk m) (sym f)

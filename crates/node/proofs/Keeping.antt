@@ -4,7 +4,7 @@ use Prim.Native.Nat.{ℕ, ◌+◌, ◌≤◌, ◌<◌}
 use native.Mathlib.Omega.{arith}
 use mathlib.Core.Path.{◌≡◌, refl, sym, ap, subst, ◌∙◌}
 use lib.ListN.{length}
-use Rattle.field.specs.Card.{Card}
+use Rattle.std.specs.Prelude.{None}
 use Rattle.place.specs.declared.Place.{Place}
 use Rattle.place.specs.declared.Place.TheVariants.{Inode, Direct, Indirect, Double, Past}
 use Rattle.place.specs.Place.{place_of, SlotsIn}
@@ -12,18 +12,18 @@ use Rattle.place.specs.Way.{way_of}
 use Rattle.place.specs.Leaf.{leaf_of, slot_of, slots_of, next_slot}
 use Rattle.place.proofs.Inverse.{slots_in}
 use Rattle.place.proofs.Next.{next_leaf, next_slots, next_slot_lem, next_place}
-use Rattle.checkpoint.specs.declared.Volume.{Volume}
-use Rattle.walk.specs.Walk.{view_of, Walk, ran, run, bind, Outcome, onward, Lists, listed, Walked, Fits}
-use Rattle.walk.proofs.Reached.{Reached, walked_rises, reached_start, reached_to, reached_bind, reached_all}
-use Rattle.walk.proofs.Fits.{fits_part, fits_at}
+use Rattle.checkpoint.specs.OpenImage.{card_in}
+use Rattle.walk.specs.Walk.{view_of, Walk, ran, run, Outcome, ok, stop, and_then, Lists, listed, Walked, Fits}
+use Rattle.walk.specs.Lent.{view_in}
+use Rattle.walk.proofs.Reached.{Reached, walked_rises, reached_start, reached_to, reached_then, reached_stop, reached_all}
+use Rattle.walk.proofs.Fits.{fits_first, fits_at}
 use Rattle.walk.proofs.Again.{again_own, again_more, walked_again}
-use Rattle.node.specs.declared.Data.TheVariants as d
 use Rattle.node.specs.declared.Leaf.{Leaf}
-use Rattle.node.specs.declared.File.{File}
+use Rattle.node.specs.declared.file.File.{File}
 use Rattle.node.specs.Node.{bounds_of}
 use Rattle.node.specs.Block.{Fetched}
-use Rattle.node.specs.Leaf.{leaf_walk, at_leaf, addresses_from, address_at, addresses_end, file_leaf_walk, LeafOf, Keeps}
-use Rattle.node.specs.Found.{data_of, DataIn, FileIn, file_block_walk}
+use Rattle.node.specs.Leaf.{leaf_walk, at_leaf, addresses_from, address_at, addresses_end, FileOn, leaf_walk_on, LeafOn, KeepsOn, file_leaf_walk, LeafOf}
+use Rattle.node.specs.Found.{fetched, BlockIn, inode_of, file_block_walk}
 use Rattle.node.proofs.LeafWalks.{leaf_same, block_through}
 
 -- ---- where a leaf's addresses stand
@@ -52,40 +52,43 @@ next_from (Double n k s) = refl
 next_from Past = refl
 
 -- the place of an index of a file
+abbrev place_on : FileOn → ℕ → Place
+place_on f index = place_of f.addresses index
+
 abbrev place_in : File → ℕ → Place
 place_in file index = place_of file.addresses index
 
 -- ---- a leaf that was just walked to
-pub leaf_new : {card : Card} {v : Volume} {file : File} {index : ℕ} {leaf : Leaf} {s t : Lists} → Fits (view_of card v) (file_leaf_walk card v file index) s
-    → leaf.at ≡ address_at (place_in file index) → leaf.end ≡ addresses_end file.addresses (place_in file index) → DataIn card leaf.node
-    → Walked (view_of card v) (file_leaf_walk card v file index) s (data_of card leaf.node) t → LeafOf card v file index leaf t
+pub leaf_new : {f : FileOn} {index : ℕ} {leaf : Leaf} {s t : Lists} → Fits (view_of f.card f.volume) (leaf_walk_on f index) s
+    → leaf.at ≡ address_at (place_on f index) → leaf.end ≡ addresses_end f.addresses (place_on f index) → BlockIn f.card leaf.node
+    → Walked (view_of f.card f.volume) (leaf_walk_on f index) s (ok (fetched f.card leaf.node)) t → LeafOn f index leaf t
 leaf_new fits at end inside walked =
     record { at_is = at; end_is = end; inside = inside; again = again_own walked (walked_rises walked fits.rising) }
 
 -- ---- a leaf that is kept
-module _ {card : Card} {v : Volume} {file : File} {index : ℕ} {leaf : Leaf} {t : Lists} (kept : LeafOf card v file index leaf t) where
+module _ {f : FileOn} {index : ℕ} {leaf : Leaf} {t : Lists} (kept : LeafOn f index leaf t) where
   -- it need not be walked to again
-  pub leaf_walked : Walked (view_of card v) (file_leaf_walk card v file index) t (data_of card leaf.node) t
+  pub leaf_walked : Walked (view_of f.card f.volume) (leaf_walk_on f index) t (ok (fetched f.card leaf.node)) t
   leaf_walked = walked_again kept.again
 
-  pub leaf_offset : FileIn card file → leaf.at + 4 ≤ 4096
-  leaf_offset known =
-      let within = address_in file.addresses (place_in file index) (slots_in file.addresses index) known.1 in
+  pub leaf_offset : f.addresses ≤ 923 → leaf.at + 4 ≤ 4096
+  leaf_offset most =
+      let within = address_in f.addresses (place_on f index) (slots_in f.addresses index) most in
       let at = kept.at_is in
       omega arith
 
   -- it stays while the lists grow
-  leaf_more : {B : Type 0} {w : Walk B} {x : B} {u : Lists} → Fits (view_of card v) w t → Walked (view_of card v) w t x u
-      → LeafOf card v file index leaf u
+  leaf_more : {B : Type 0} {w : Walk B} {x : B} {u : Lists} → Fits (view_of f.card f.volume) w t → Walked (view_of f.card f.volume) w t x u
+      → LeafOn f index leaf u
   leaf_more fits walked = record {
     at_is = kept.at_is;
     end_is = kept.end_is;
     inside = kept.inside;
-    again = again_more (file_leaf_walk card v file index) walked (walked_rises walked fits.rising) kept.again;
+    again = again_more (leaf_walk_on f index) walked (walked_rises walked fits.rising) kept.again;
   }
 
   -- and serves the next index, where an address is left
-  next_serves : leaf.at + 4 < leaf.end → LeafOf card v file (index + 1) (record { node = leaf.node; at = leaf.at + 4; end = leaf.end }) t
+  next_serves : leaf.at + 4 < leaf.end → LeafOn f (index + 1) (record { node = leaf.node; at = leaf.at + 4; end = leaf.end }) t
   next_serves left =
       let at = kept.at_is in
       let end = kept.end_is in
@@ -100,59 +103,67 @@ module _ {card : Card} {v : Volume} {file : File} {index : ℕ} {leaf : Leaf} {t
         at_is = at' ∙ ap address_at (sym next);
         end_is = end' ∙ ap (addresses_end A) (sym next);
         inside = kept.inside;
-        again = subst (λ (w : Walk (Outcome Fetched)). run (view_of card v) (listed t) w ≡ ran (data_of card leaf.node) (listed t)) (same next)
-            kept.again;
+        again = subst (λ (w : Walk (Outcome Fetched)). run (view_of f.card f.volume) (listed t) w ≡ ran (ok (fetched f.card leaf.node)) (listed t))
+            (same next) kept.again;
       }
     where
       A : ℕ
-      A = file.addresses
+      A = f.addresses
 
       place : Place
-      place = place_in file index
+      place = place_on f index
 
       to : Place → Walk (Outcome Fetched)
-      to p = leaf_walk (bounds_of v) file.ino (card.block file.inode) p
+      to p = leaf_walk (bounds_of f.volume) f.ino (f.card.block f.inode) p
 
       to_leaf : (p : Place) → to p ≡ to (leaf_of p)
-      to_leaf p = leaf_same (bounds_of v) file.ino (card.block file.inode) p
+      to_leaf p = leaf_same (bounds_of f.volume) f.ino (f.card.block f.inode) p
 
       same : place_of A (index + 1) ≡ next_slot place → to place ≡ to (place_of A (index + 1))
       same next = to_leaf place ∙ ap to (sym (next_leaf place)) ∙ sym (to_leaf (next_slot place)) ∙ ap to (sym next)
 
-pub leaf_next : {card : Card} {v : Volume} {file : File} {index : ℕ} {leaf : Leaf} {B : Type 0} {w : Walk B} {x : B} {t u : Lists}
-    → LeafOf card v file index leaf t → Fits (view_of card v) w t → Walked (view_of card v) w t x u
-    → Keeps card v file (index + 1) (record { node = leaf.node; at = leaf.at + 4; end = leaf.end }) u
+pub leaf_next : {f : FileOn} {index : ℕ} {leaf : Leaf} {B : Type 0} {w : Walk B} {x : B} {t u : Lists}
+    → LeafOn f index leaf t → Fits (view_of f.card f.volume) w t → Walked (view_of f.card f.volume) w t x u
+    → KeepsOn f (index + 1) (record { node = leaf.node; at = leaf.at + 4; end = leaf.end }) u
 leaf_next kept fits walked = record { serves = next_serves (leaf_more kept fits walked) }
 
 -- where no address is left nothing is kept
-pub keeps_none : {card : Card} {v : Volume} {file : File} {index : ℕ} {leaf : Leaf} {t : Lists} → leaf ≡ record { node = d.Hole; at = 0; end = 0 }
-    → Keeps card v file index leaf t
+pub keeps_past : {f : FileOn} {index : ℕ} {leaf : Leaf} {t : Lists} → leaf.end ≤ leaf.at → KeepsOn f index leaf t
+keeps_past past = record { serves = λ left. absurd (omega arith) }
+
+pub keeps_none : {f : FileOn} {index : ℕ} {leaf : Leaf} {t : Lists} → leaf ≡ record { node = None; at = 0; end = 0 } → KeepsOn f index leaf t
 keeps_none e =
     let at = ap (λ (l : Leaf). l.at) e in
     let end = ap (λ (l : Leaf). l.end) e in
-    record { serves = λ left. absurd (omega arith) }
+    keeps_past (omega arith)
 
 -- ---- a block through its leaf
-module _ (card : Card) (v : Volume) (file : File) (index : ℕ) {s : Lists} (fits : Fits (view_of card v) (file_block_walk card v file index) s) where
-  abbrev from : ℕ → Outcome Fetched → Walk (Outcome Fetched)
-  from at = onward (at_leaf (bounds_of v) at)
+module _ (file : File) (index : ℕ) {s : Lists} (fits : Fits (view_in file.card) (file_block_walk file index) s) where
+  abbrev from : ℕ → Fetched → Walk (Outcome Fetched)
+  from at = at_leaf (bounds_of file.card.volume) at
 
-  begins : Reached (view_of card v) (file_block_walk card v file index) s (bind (file_leaf_walk card v file index) (from (address_at (place_in file index)))) s
-  begins = reached_to (reached_start _ _ _) (block_through (bounds_of v) file.ino (card.block file.inode) file.addresses index)
+  begins : Reached (view_in file.card) (file_block_walk file index) s (and_then (file_leaf_walk file index) (from (address_at (place_in file index)))) s
+  begins = reached_to (reached_start _ _ _) (block_through (bounds_of file.card.volume) file.ino (inode_of file) file.addresses index)
 
-  pub leaf_fits : Fits (view_of card v) (file_leaf_walk card v file index) s
-  leaf_fits = fits_part (file_leaf_walk card v file index) (from (address_at (place_in file index))) (fits_at fits begins)
+  pub leaf_fits : Fits (view_in file.card) (file_leaf_walk file index) s
+  leaf_fits = fits_first (from (address_at (place_in file index))) (fits_at fits begins)
 
-  module _ {leaf : Leaf} {t : Lists} (kept : LeafOf card v file index leaf t)
-      (walked : Walked (view_of card v) (file_leaf_walk card v file index) s (data_of card leaf.node) t) where
-    at_leaf_lem : Reached (view_of card v) (file_block_walk card v file index) s (from leaf.at (data_of card leaf.node)) t
+  -- the walk to the leaf stopped
+  pub block_stopped : {x : Outcome Fetched} {answer : ℕ} {t : Lists} → Walked (view_in file.card) (file_leaf_walk file index) s x t → x ≡ stop answer
+      → Walked (view_in file.card) (file_block_walk file index) s (stop answer) t
+  block_stopped walked e = reached_stop (from (address_at (place_in file index))) begins walked e
+
+  -- it came to the leaf
+  module _ {leaf : Leaf} {t : Lists} (kept : LeafOf file index leaf t)
+      (walked : Walked (view_in file.card) (file_leaf_walk file index) s (ok (fetched (card_in file.card) leaf.node)) t) where
+    at_leaf_lem : Reached (view_in file.card) (file_block_walk file index) s (from leaf.at (fetched (card_in file.card) leaf.node)) t
     at_leaf_lem =
-        reached_to (reached_bind (from (address_at (place_in file index))) begins walked)
-        (ap (λ (at : ℕ). from at (data_of card leaf.node)) (sym kept.at_is))
+        reached_to (reached_then (from (address_at (place_in file index))) begins walked refl)
+        (ap (λ (at : ℕ). from at (fetched (card_in file.card) leaf.node)) (sym kept.at_is))
 
-    pub rest_fits : Fits (view_of card v) (from leaf.at (data_of card leaf.node)) t
+    pub rest_fits : Fits (view_in file.card) (from leaf.at (fetched (card_in file.card) leaf.node)) t
     rest_fits = fits_at fits at_leaf_lem
 
-    pub block_walked : {x : Outcome Fetched} {u : Lists} → Walked (view_of card v) (from leaf.at (data_of card leaf.node)) t x u
-        → Walked (view_of card v) (file_block_walk card v file index) s x u
+    pub block_walked : {x : Outcome Fetched} {u : Lists} → Walked (view_in file.card) (from leaf.at (fetched (card_in file.card) leaf.node)) t x u
+        → Walked (view_in file.card) (file_block_walk file index) s x u
     block_walked last = reached_all at_leaf_lem last

@@ -14,7 +14,7 @@ use Rattle.place.specs.declared.Step.{Step}
 use Rattle.place.specs.Place.{place_of}
 use Rattle.place.specs.Way.{way_of}
 use Rattle.place.specs.Leaf.{leaf_of}
-use Rattle.walk.specs.Walk.{Walk, done, Outcome, ok, bind, onward, and_then, ends}
+use Rattle.walk.specs.Walk.{Walk, done, Outcome, ok, and_then, ends}
 use Rattle.walk.proofs.Trees.{then_then, then_ok}
 use Rattle.walk.proofs.Sizes.{within_le, within_choose, within_then}
 use Rattle.node.specs.Node.{Bounds, node_walk}
@@ -75,8 +75,8 @@ module _ (m : Bounds) (ino : ℕ) where
 
     -- the block of an index: its leaf, and the address in it
     module _ (A index : ℕ) where
-      pub block_through : block_walk m ino inode A index ≡ bind (leaf_walk m ino inode (place_of A index)) (onward (at_leaf m (address_at (place_of A index))))
-      unfolding block_walk and_then
+      pub block_through : block_walk m ino inode A index ≡ and_then (leaf_walk m ino inode (place_of A index)) (at_leaf m (address_at (place_of A index)))
+      unfolding block_walk
       block_through = way_leaf (place_of A index)
 
       pub block_leaf : block_walk m ino inode A index ≡ and_then (leaf_walk m ino inode (leaf_of (place_of A index)))

@@ -1,5 +1,6 @@
 pub mod Cases
 pub mod Sizes
+pub mod NodeSteps
 pub mod Following
 pub mod Listed
 pub mod Whole

@@ -1,14 +1,13 @@
 -- A node that was read is listed: its number, and the block that the table has for it.
 use Prim.Native.Nat.{ℕ}
 use native.Mathlib.Omega.{arith}
-use mathlib.Core.Path.{◌≡◌, refl, sym, ap, ◌∙◌}
+use mathlib.Core.Path.{◌≡◌, refl, ap, ◌∙◌}
 use mathlib.Core.Bool.{Bool, true, false, and-false}
 use mathlib.Core.List.{List}
 use lib.Dec.{eqb}
 use Rattle.field.specs.Choice.{choose}
 use Rattle.field.proofs.Choosing.{needed_eq}
-use Rattle.nat.specs.declared.TableAnswer.{TableAnswer}
-use Rattle.nat.specs.declared.TableAnswer.TheVariants.{OutOfRange, Entry}
+use Rattle.nat.specs.Table.{TableAnswer, OutOfRange, Entry}
 use Rattle.walk.specs.Walk.{View, Seen, saw_node, saw_block, done, read, Ran, ran, run, Outcome, ok, stop}
 use Rattle.node.specs.Node.{Bounds, in_main, belongs, at_block, at_entry, node_walk}
 

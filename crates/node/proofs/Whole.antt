@@ -8,8 +8,7 @@ use lib.Dec.{eqb}
 use Rattle.place.specs.declared.Step.{Step}
 use Rattle.place.specs.Place.{place_of}
 use Rattle.place.specs.Way.{way_of}
-use Rattle.nat.specs.declared.TableAnswer.{TableAnswer}
-use Rattle.nat.specs.declared.TableAnswer.TheVariants.{OutOfRange, Entry}
+use Rattle.nat.specs.Table.{TableAnswer, OutOfRange, Entry}
 use Rattle.walk.specs.Walk.{View, ok}
 use Rattle.walk.proofs.Comes.{Comes, comes_done, comes_stop, comes_look, comes_read, comes_if, comes_then}
 use Rattle.node.specs.Node.{Bounds, in_main, belongs, at_block, at_entry, node_walk}

@@ -1,22 +1,26 @@
 -- The way to a block in two parts: to its leaf, the node that holds its address, and from there. And a leaf that is kept from one block of
 -- a file to the next.
-use Rattle.std.specs.Prelude.{ℕ, ◌+◌, ◌*◌, ◌<◌, ◌≡◌, List, [], ◌∷◌, eqb}
+use Rattle.std.specs.Prelude.{ℕ, ◌+◌, ◌*◌, ◌<◌, ◌≡◌, List, [], ◌∷◌, eqb, get_or, Result, Ok, Err}
+use Rattle.answer.specs.declared.Stop.{Stop}
+use Rattle.answer.specs.Number.{stop_number}
 use Rattle.field.specs.Number.{le32}
 use Rattle.field.specs.Card.{Card}
 use Rattle.field.specs.Choice.{choose}
 use Rattle.place.specs.declared.Place.{Place}
 use Rattle.place.specs.declared.Place.TheVariants.{Inode, Direct, Indirect, Double, Past}
 use Rattle.place.specs.declared.Step.{Step}
+use Rattle.place.specs.declared.Way.{Way}
 use Rattle.place.specs.Place.{place_of}
-use Rattle.place.specs.Way.{way_of}
+use Rattle.place.specs.Way.{step, way_of}
 use Rattle.place.specs.Leaf.{slot_of, slots_of}
 use Rattle.checkpoint.specs.declared.Volume.{Volume}
-use Rattle.walk.specs.Walk.{view_of, Walk, done, ran, run, Outcome, ok, and_then, Lists, listed}
+use Rattle.checkpoint.specs.OpenImage.{card_in}
+use Rattle.walk.specs.Walk.{view_of, Walk, done, ran, run, Outcome, ok, stop, and_then, Lists, listed}
 use Rattle.node.specs.declared.Leaf.{Leaf}
-use Rattle.node.specs.declared.File.{File}
+use Rattle.node.specs.declared.file.File.{File}
 use Rattle.node.specs.Node.{Bounds, bounds_of, node_walk}
 use Rattle.node.specs.Block.{Fetched, hole, held, data_walk}
-use Rattle.node.specs.Found.{data_of, DataIn}
+use Rattle.node.specs.Found.{fetched, BlockIn, after_inode, inode_of}
 
 -- from a block's bytes, and where in them a node's number stands, through the nodes of a way to the last one's bytes. "Inside a node,
 -- number 0 .. [is a hole]"
@@ -53,19 +57,57 @@ address_at p = addresses_from p + 4 * slot_of p
 abbrev pub addresses_end : ℕ → Place → ℕ
 addresses_end A p = addresses_from p + 4 * slots_of A p
 
+-- ---- the leaves of a file
+
+-- the end of the code's way
+abbrev pub file_way_walk : File → Way → Walk (Outcome Fetched)
+file_way_walk file way =
+    leaf_from (bounds_of file.card.volume) file.ino (after_inode way) (inode_of file) (4052 + 4 * (get_or way.steps 0 (step 0 0)).slot)
+
+-- the leaf of an index
+abbrev pub file_leaf_walk : File → ℕ → Walk (Outcome Fetched)
+file_leaf_walk file index = leaf_walk (bounds_of file.card.volume) file.ino (inode_of file) (place_of file.addresses index)
+
 -- ---- a leaf that is kept
 
--- the leaf of an index of a file
-abbrev pub file_leaf_walk : Card → Volume → File → ℕ → Walk (Outcome Fetched)
-file_leaf_walk card v file index = leaf_walk (bounds_of v) file.ino (card.block file.inode) (place_of file.addresses index)
+-- a file's numbers, on any card and with any volume
+pub record FileOn : Type 0 where
+  pub card : Card
+  pub volume : Volume
+  pub ino : ℕ
+  pub inode : ℕ
+  pub addresses : ℕ
+
+abbrev pub on_card : File → FileOn
+on_card file =
+    record { card = card_in file.card; volume = file.card.volume; ino = file.ino; inode = file.inode; addresses = file.addresses }
+
+abbrev pub leaf_walk_on : FileOn → ℕ → Walk (Outcome Fetched)
+leaf_walk_on f index = leaf_walk (bounds_of f.volume) f.ino (f.card.block f.inode) (place_of f.addresses index)
 
 -- this is the leaf of the index, and the lists hold all that leads to it: walked to again, it comes to the same and lists nothing new
-pub record LeafOf (card : Card) (v : Volume) (file : File) (index : ℕ) (leaf : Leaf) (t : Lists) : Type 0 where
-  pub at_is : leaf.at ≡ address_at (place_of file.addresses index)
-  pub end_is : leaf.end ≡ addresses_end file.addresses (place_of file.addresses index)
-  pub inside : DataIn card leaf.node
-  pub again : run (view_of card v) (listed t) (file_leaf_walk card v file index) ≡ ran (data_of card leaf.node) (listed t)
+pub record LeafOn (f : FileOn) (index : ℕ) (leaf : Leaf) (t : Lists) : Type 0 where
+  pub at_is : leaf.at ≡ address_at (place_of f.addresses index)
+  pub end_is : leaf.end ≡ addresses_end f.addresses (place_of f.addresses index)
+  pub inside : BlockIn f.card leaf.node
+  pub again : run (view_of f.card f.volume) (listed t) (leaf_walk_on f index) ≡ ran (ok (fetched f.card leaf.node)) (listed t)
 
 -- what is kept is the leaf of the index, as long as an address is left in it
-pub record Keeps (card : Card) (v : Volume) (file : File) (index : ℕ) (leaf : Leaf) (t : Lists) : Type 0 where
-  pub serves : leaf.at < leaf.end → LeafOf card v file index leaf t
+pub record KeepsOn (f : FileOn) (index : ℕ) (leaf : Leaf) (t : Lists) : Type 0 where
+  pub serves : leaf.at < leaf.end → LeafOn f index leaf t
+
+-- the same of the code's file
+abbrev pub LeafOf : File → ℕ → Leaf → Lists → Type 0
+LeafOf file index leaf t = LeafOn (on_card file) index leaf t
+
+abbrev pub Keeps : File → ℕ → Leaf → Lists → Type 0
+Keeps file index leaf t = KeepsOn (on_card file) index leaf t
+
+-- what the code has of a leaf that it walked to
+abbrev pub leaf_found : Card → Result Leaf Stop → Outcome Fetched
+leaf_found card (Ok leaf) = ok (fetched card leaf.node)
+leaf_found card (Err e) = stop (stop_number e)
+
+abbrev pub FoundLeaf : File → ℕ → Result Leaf Stop → Lists → Type 0
+FoundLeaf file index (Ok leaf) t = LeafOf file index leaf t
+FoundLeaf file index (Err e) t = Unit {0}

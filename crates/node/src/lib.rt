@@ -2,77 +2,35 @@
 // What each means is in specs/: Node, Block, Found, Leaf.
 #![tactic(auto)]
 
-ghost use Rattle.std.specs.Prelude.{◌≡◌, ◌+◌, ◌≤◌, length};
-ghost use Rattle.field.specs.Card.{card_of};
+ghost use Rattle.std.specs.Prelude.{◌≡◌, ◌+◌, ◌≤◌, length, None, OnErr};
 ghost use Rattle.place.specs.Place.{SlotsIn};
-ghost use Rattle.checkpoint.specs.Volume.{VolumeIn};
-ghost use Rattle.walk.specs.Walk.{image_view, lists, Walked, Fits, onward};
+ghost use Rattle.checkpoint.specs.OpenImage.{card_in};
+ghost use Rattle.walk.specs.Walk.{Walked, Fits};
+ghost use Rattle.walk.specs.Lent.{view_in, lent, SameLent};
 ghost use Rattle.node.specs.Node.{bounds_of, in_main, belongs, node_walk};
 ghost use Rattle.node.specs.Block.{is_hole, data_walk};
-ghost use Rattle.node.specs.Found.{found_of, FoundIn, data_of, DataIn, WayIn, after_inode, FileIn, file_block_walk};
-ghost use Rattle.node.specs.declared.Data.TheVariants as d;
-ghost use Rattle.node.specs.Leaf.{leaf_from, at_leaf, address_at, addresses_end, file_leaf_walk, LeafOf, Keeps};
+ghost use Rattle.node.specs.Found.{found_of, FoundIn, fetched, data_of, BlockIn, DataIn, WayIn, file_block_walk};
+ghost use Rattle.node.specs.Leaf.{at_leaf, address_at, addresses_end, file_way_walk, leaf_found, file_leaf_walk, FoundLeaf, Keeps};
 
-// The block of a node, or the answer that ends the walk.
-#[derive(Clone, Copy)]
-pub enum Found {
-    At(u32),
-    Stop(u32),
-}
+use answer::Stop;
+use checkpoint::OpenImage;
+use walk::SeenLists;
 
-// The block of an index of a file, that there is none, or the answer that ends the walk.
-#[derive(Clone, Copy)]
-pub enum Data {
-    Hole,
-    At(u32),
-    Stop(u32),
-}
+mod file;
 
-// What was found, and how many nodes and blocks are listed then.
-#[derive(Clone, Copy)]
-pub struct NodeStep {
-    pub found: Found,
-    pub counts: walk::Counts,
-}
+pub use file::File;
 
-#[derive(Clone, Copy)]
-pub struct DataStep {
-    pub data: Data,
-    pub counts: walk::Counts,
-}
-
-// A leaf, the node that holds addresses of a file's blocks, or what is known in its place: a hole, or the answer that ended the walk to it.
+// A leaf, the node that holds addresses of a file's blocks, or that there is none.
 // Where in its bytes the address of an index stands, and where its addresses end.
 #[derive(Clone, Copy)]
 pub struct Leaf {
-    pub node: Data,
+    pub node: Option<u32>,
     pub at: u32,
     pub end: u32,
 }
 
-#[derive(Clone, Copy)]
-pub struct LeafStep {
-    pub leaf: Leaf,
-    pub counts: walk::Counts,
-}
-
-// The data block of an index, and its leaf, in which the address of the next index stands.
-#[derive(Clone, Copy)]
-pub struct KeptStep {
-    pub data: Data,
-    pub leaf: Leaf,
-    pub counts: walk::Counts,
-}
-
-// A file: its inode number, the block of its inode, and how many addresses the inode holds.
-#[derive(Clone, Copy)]
-pub struct File {
-    pub ino: u32,
-    pub inode: u32,
-    pub addresses: u32,
-}
-
 // Whether an address lies in the main area.
+#[tactic(auto, unfolding(crate::specs::Node::in_main))]
 pub fn in_main(v: checkpoint::Volume, address: u32) -> bool
     ensures { result ≡ in_main (bounds_of v) address }
 {
@@ -81,6 +39,7 @@ pub fn in_main(v: checkpoint::Volume, address: u32) -> bool
 }
 
 // Whether a block ends with the numbers of the node that is asked for.
+#[tactic(auto, unfolding(crate::specs::Node::belongs))]
 pub fn belongs(block: &[u8], number: u32, ino: u32, place: u32, table_inode: u32) -> bool
     requires { length block.now ≡ 4096 }
     ensures { result ≡ belongs number ino place table_inode block.now }
@@ -91,181 +50,68 @@ pub fn belongs(block: &[u8], number: u32, ino: u32, place: u32, table_inode: u32
     (own == number) & (file == ino) & (table_inode == ino) & (flag / 8 == place)
 }
 
-// A node of a file: looked up and listed, then its block is listed and read.
+// The block of a node of a file: the node is listed and looked up, then its block is listed and read.
 pub fn node_step(
-    image: &[u8],
-    v: checkpoint::Volume,
-    nodes: &mut [u8],
-    blocks: &mut [u8],
-    counts: walk::Counts,
+    card: OpenImage,
+    seen: &mut SeenLists,
     number: u32,
     ino: u32,
     place: u32,
-) -> NodeStep
-    requires fits { Fits (image_view image.now v) (node_walk (bounds_of v) number ino place) (lists nodes.old blocks.old counts) }
-    requires volume_in { VolumeIn (card_of image.now) v }
-    ensures walked { Walked (image_view image.now v) (node_walk (bounds_of v) number ino place)
-        (lists nodes.old blocks.old counts) (found_of (card_of image.now) result.found)
-        (lists nodes.new blocks.new result.counts) }
-    ensures found_in { FoundIn (card_of image.now) result.found }
+) -> Result<u32, Stop>
+    requires fits { Fits (view_in card) (node_walk (bounds_of card.volume) number ino place) (lent seen.old) }
+    ensures walked { Walked (view_in card.entry) (node_walk (bounds_of card.entry.volume) number ino place)
+        (lent seen.old) (found_of (card_in card.entry) result) (lent seen.new) }
+    ensures same { SameLent seen.old seen.new }
+    ensures found_in { FoundIn (card_in card.entry) result }
 {
-    let looked = walk::Counts {
-        nodes: list::insert(nodes, counts.nodes, number),
-        blocks: counts.blocks,
-    };
-    let entry = nat::table_answer(image, v, number);
-    let nat::TableAnswer::Entry(table_inode, address) = entry else {
-        return NodeStep {
-            found: Found::Stop(answer::NO_NODE),
-            counts: looked,
-        };
-    };
-    if address == 0 {
-        return NodeStep {
-            found: Found::Stop(answer::NO_NODE),
-            counts: looked,
-        };
+    seen.nodes.insert(number);
+    let entry = nat::table_answer(card, number).ok_or(Stop::NoNode)?;
+    if entry.address == 0 {
+        return Err(Stop::NoNode);
     }
-    if !in_main(v, address) {
-        return NodeStep {
-            found: Found::Stop(answer::NODE_OUTSIDE),
-            counts: looked,
-        };
+    if !in_main(card.volume, entry.address) {
+        return Err(Stop::NodeOutside);
     }
-    let read = walk::Counts {
-        nodes: looked.nodes,
-        blocks: list::insert(blocks, looked.blocks, address),
-    };
-    let block = field::block_at(image, address);
-    if !belongs(block, number, ino, place, table_inode) {
-        return NodeStep {
-            found: Found::Stop(answer::FOREIGN_NODE),
-            counts: read,
-        };
+    seen.blocks.insert(entry.address);
+    let block = field::block_at(card.image, entry.address);
+    if !belongs(block, number, ino, place, entry.inode) {
+        return Err(Stop::ForeignNode);
     }
-    NodeStep {
-        found: Found::At(address),
-        counts: read,
-    }
+    Ok(entry.address)
 }
 
 // Whether an address stands for a block of zeros.
+#[tactic(auto, unfolding(crate::specs::Block::is_hole))]
 pub fn is_hole(address: u32) -> bool
     ensures { result ≡ is_hole address }
 {
     (address == 0) | (address == 4294967295)
 }
 
-// The data block at an address.
-fn data_at(
-    image: &[u8],
-    v: checkpoint::Volume,
-    nodes: &mut [u8],
-    blocks: &mut [u8],
-    counts: walk::Counts,
-    address: u32,
-) -> DataStep
-    requires fits { Fits (image_view image.now v) (data_walk (bounds_of v) address) (lists nodes.old blocks.old counts) }
-    requires volume_in { VolumeIn (card_of image.now) v }
-    ensures walked { Walked (image_view image.now v) (data_walk (bounds_of v) address)
-        (lists nodes.old blocks.old counts) (data_of (card_of image.now) result.data)
-        (lists nodes.new blocks.new result.counts) }
-    ensures data_in { DataIn (card_of image.now) result.data }
+// The data block at an address, unless that is a hole.
+fn data_at(card: OpenImage, seen: &mut SeenLists, address: u32) -> Result<Option<u32>, Stop>
+    requires fits { Fits (view_in card) (data_walk (bounds_of card.volume) address) (lent seen.old) }
+    ensures walked { Walked (view_in card.entry) (data_walk (bounds_of card.entry.volume) address)
+        (lent seen.old) (data_of (card_in card.entry) result) (lent seen.new) }
+    ensures same { SameLent seen.old seen.new }
+    ensures data_in { DataIn (card_in card.entry) result }
 {
     if is_hole(address) {
-        return DataStep {
-            data: Data::Hole,
-            counts,
-        };
+        return Ok(None);
     }
-    if !in_main(v, address) {
-        return DataStep {
-            data: Data::Stop(answer::DATA_OUTSIDE),
-            counts,
-        };
+    if !in_main(card.volume, address) {
+        return Err(Stop::DataOutside);
     }
-    let read = walk::Counts {
-        nodes: counts.nodes,
-        blocks: list::insert(blocks, counts.blocks, address),
-    };
-    DataStep {
-        data: Data::At(address),
-        counts: read,
-    }
-}
-
-// From the inode through the nodes that follow it on the way, to the last of them.
-fn follow(
-    image: &[u8],
-    v: checkpoint::Volume,
-    nodes: &mut [u8],
-    blocks: &mut [u8],
-    counts: walk::Counts,
-    file: File,
-    from: u32,
-    way: place::Way,
-) -> DataStep
-    requires fits { Fits (image_view image.now v)
-        (leaf_from (bounds_of v) file.ino (after_inode way) ((card_of image.now).block file.inode) from)
-        (lists nodes.old blocks.old counts) }
-    requires volume_in { VolumeIn (card_of image.now) v }
-    requires file_in { FileIn (card_of image.now) file }
-    requires way_in { WayIn way.steps way.count × (2 ≤ way.count → from + 4 ≤ 4096) }
-    ensures walked { Walked (image_view image.now v)
-        (leaf_from (bounds_of v) file.ino (after_inode way) ((card_of image.now).block file.inode) from)
-        (lists nodes.old blocks.old counts) (data_of (card_of image.now) result.data)
-        (lists nodes.new blocks.new result.counts) }
-    ensures data_in { DataIn (card_of image.now) result.data }
-{
-    let steps = way.steps;
-    let count = way.count as usize;
-    let mut listed = counts;
-    let mut node = file.inode;
-    let mut at = from;
-    let mut i: usize = 1;
-    while i < count {
-        let number = field::get32(field::block_at(image, node), at as usize);
-        if number == 0 {
-            return DataStep {
-                data: Data::Hole,
-                counts: listed,
-            };
-        }
-        let step = steps[i];
-        let came = node_step(
-            image,
-            v,
-            nodes,
-            blocks,
-            listed,
-            number,
-            file.ino,
-            step.number,
-        );
-        listed = came.counts;
-        let found = came.found;
-        node = match found {
-            Found::Stop(answer) => return DataStep {
-                data: Data::Stop(answer),
-                counts: listed,
-            },
-            Found::At(address) => address,
-        };
-        at = 4 * step.slot;
-        i += 1;
-    }
-    DataStep {
-        data: Data::At(node),
-        counts: listed,
-    }
+    seen.blocks.insert(address);
+    Ok(Some(address))
 }
 
 // No leaf: none of its addresses is left.
 pub fn no_leaf() -> Leaf
-    ensures { result ≡ record { node = d.Hole; at = 0; end = 0 } }
+    ensures { result ≡ record { node = None; at = 0; end = 0 } }
 {
     Leaf {
-        node: Data::Hole,
+        node: None,
         at: 0,
         end: 0,
     }
@@ -287,15 +133,9 @@ fn address_span(addresses: u32, p: place::Place) -> Span
             at: 360 + 4 * s,
             end: 360 + 4 * addresses,
         },
-        place::Place::Direct(_, s) => Span {
-            at: 4 * s,
-            end: 4072,
-        },
-        place::Place::Indirect(_, _, s) => Span {
-            at: 4 * s,
-            end: 4072,
-        },
-        place::Place::Double(_, _, s) => Span {
+        place::Place::Direct(_, s)
+        | place::Place::Indirect(_, _, s)
+        | place::Place::Double(_, _, s) => Span {
             at: 4 * s,
             end: 4072,
         },
@@ -303,185 +143,112 @@ fn address_span(addresses: u32, p: place::Place) -> Span
     }
 }
 
-// The leaf of an index of a file.
-fn find_leaf(
-    image: &[u8],
-    v: checkpoint::Volume,
-    nodes: &mut [u8],
-    blocks: &mut [u8],
-    counts: walk::Counts,
-    file: File,
-    index: u32,
-) -> LeafStep
-    requires fits { Fits (image_view image.now v) (file_leaf_walk (card_of image.now) v file index)
-        (lists nodes.old blocks.old counts) }
-    requires volume_in { VolumeIn (card_of image.now) v }
-    requires file_in { FileIn (card_of image.now) file }
-    ensures walked { Walked (image_view image.now v) (file_leaf_walk (card_of image.now) v file index)
-        (lists nodes.old blocks.old counts) (data_of (card_of image.now) result.leaf.node)
-        (lists nodes.new blocks.new result.counts) }
-    ensures leaf_of { LeafOf (card_of image.now) v file index result.leaf
-        (lists nodes.new blocks.new result.counts) }
-{
-    let p = place::find_place(file.addresses, index);
-    let span = address_span(file.addresses, p);
-    let way = place::way_to(p);
-    if way.count == 0 {
-        return LeafStep {
-            leaf: no_leaf(),
-            counts,
+impl Leaf {
+    // The data block whose address stands in a leaf.
+    fn data(self, card: OpenImage, seen: &mut SeenLists) -> Result<Option<u32>, Stop>
+        requires fits { Fits (view_in card) (at_leaf (bounds_of card.volume) self.at (fetched (card_in card) self.node)) (lent seen.old) }
+        requires node_in { BlockIn (card_in card) self.node × (self.at + 4 ≤ 4096) }
+        ensures walked { Walked (view_in card.entry) (at_leaf (bounds_of card.entry.volume) self.at (fetched (card_in card.entry) self.node))
+            (lent seen.old) (data_of (card_in card.entry) result) (lent seen.new) }
+        ensures same { SameLent seen.old seen.new }
+        ensures data_in { DataIn (card_in card.entry) result }
+    {
+        let Some(block) = self.node else {
+            return Ok(None);
         };
-    }
-    let steps = way.steps;
-    let first = steps[0];
-    let step = follow(
-        image,
-        v,
-        nodes,
-        blocks,
-        counts,
-        file,
-        4052 + 4 * first.slot,
-        way,
-    );
-    let node = step.data;
-    let listed = step.counts;
-    LeafStep {
-        leaf: Leaf {
-            node,
-            at: span.at,
-            end: span.end,
-        },
-        counts: listed,
+        let address = field::get32(field::block_at(card.image, block), self.at as usize);
+        data_at(card, seen, address)
     }
 }
 
-// The data block whose address stands at an offset of a leaf.
-fn from_leaf(
-    image: &[u8],
-    v: checkpoint::Volume,
-    nodes: &mut [u8],
-    blocks: &mut [u8],
-    counts: walk::Counts,
-    node: Data,
-    at: u32,
-) -> DataStep
-    requires fits { Fits (image_view image.now v) (onward (at_leaf (bounds_of v) at) (data_of (card_of image.now) node))
-        (lists nodes.old blocks.old counts) }
-    requires volume_in { VolumeIn (card_of image.now) v }
-    requires data_in { DataIn (card_of image.now) node × (at + 4 ≤ 4096) }
-    ensures walked { Walked (image_view image.now v) (onward (at_leaf (bounds_of v) at) (data_of (card_of image.now) node))
-        (lists nodes.old blocks.old counts) (data_of (card_of image.now) result.data)
-        (lists nodes.new blocks.new result.counts) }
-    ensures data_in_2 { DataIn (card_of image.now) result.data }
-{
-    match node {
-        Data::Hole => DataStep {
-            data: Data::Hole,
-            counts,
-        },
-        Data::Stop(answer) => DataStep {
-            data: Data::Stop(answer),
-            counts,
-        },
-        Data::At(block) => {
-            let address = field::get32(field::block_at(image, block), at as usize);
-            data_at(image, v, nodes, blocks, counts, address)
+impl File<'_> {
+    // From the inode through the nodes that follow it on the way, to the last of them.
+    fn follow(self, seen: &mut SeenLists, way: place::Way) -> Result<Option<u32>, Stop>
+        requires fits { Fits (view_in self.card) (file_way_walk self way) (lent seen.old) }
+        requires way_in { WayIn way.steps way.count }
+        ensures walked { Walked (view_in self.entry.card) (file_way_walk self.entry way)
+            (lent seen.old) (data_of (card_in self.entry.card) result) (lent seen.new) }
+        ensures same { SameLent seen.old seen.new }
+        ensures data_in { DataIn (card_in self.entry.card) result }
+    {
+        let mut node = self.inode;
+        let mut at = 4052 + 4 * way.steps[0].slot;
+        for step in &way.steps[1..way.count as usize] {
+            let number = field::get32(field::block_at(self.card.image, node), at as usize);
+            if number == 0 {
+                return Ok(None);
+            }
+            node = node_step(self.card, seen, number, self.ino, step.number)?;
+            at = 4 * step.slot;
         }
+        Ok(Some(node))
     }
-}
 
-// The leaf of an index: the kept one as long as it has an address left, else walked to.
-fn leaf_of(
-    image: &[u8],
-    v: checkpoint::Volume,
-    nodes: &mut [u8],
-    blocks: &mut [u8],
-    counts: walk::Counts,
-    file: File,
-    index: u32,
-    kept: Leaf,
-) -> LeafStep
-    requires fits { Fits (image_view image.now v) (file_leaf_walk (card_of image.now) v file index)
-        (lists nodes.old blocks.old counts) }
-    requires volume_in { VolumeIn (card_of image.now) v }
-    requires file_in { FileIn (card_of image.now) file }
-    requires keeps { Keeps (card_of image.now) v file index kept (lists nodes.old blocks.old counts) }
-    ensures walked { Walked (image_view image.now v) (file_leaf_walk (card_of image.now) v file index)
-        (lists nodes.old blocks.old counts) (data_of (card_of image.now) result.leaf.node)
-        (lists nodes.new blocks.new result.counts) }
-    ensures leaf_of { LeafOf (card_of image.now) v file index result.leaf
-        (lists nodes.new blocks.new result.counts) }
-{
-    if kept.at < kept.end {
-        return LeafStep { leaf: kept, counts };
+    // The leaf of an index of a file.
+    fn find_leaf(self, seen: &mut SeenLists, index: u32) -> Result<Leaf, Stop>
+        requires fits { Fits (view_in self.card) (file_leaf_walk self index) (lent seen.old) }
+        ensures walked { Walked (view_in self.entry.card) (file_leaf_walk self.entry index)
+            (lent seen.old) (leaf_found (card_in self.entry.card) result) (lent seen.new) }
+        ensures same { SameLent seen.old seen.new }
+        ensures leaf_of { FoundLeaf self.entry index result (lent seen.new) }
+    {
+        let p = place::find_place(self.addresses, index);
+        let Span { at, end } = address_span(self.addresses, p);
+        let way = place::way_to(p);
+        if way.count == 0 {
+            return Ok(no_leaf());
+        }
+        let node = self.follow(seen, way)?;
+        Ok(Leaf { node, at, end })
     }
-    find_leaf(image, v, nodes, blocks, counts, file, index)
-}
 
-// The data block of an index of a file, where a leaf is kept. What is kept then is for the next index.
-pub fn next_block(
-    image: &[u8],
-    v: checkpoint::Volume,
-    nodes: &mut [u8],
-    blocks: &mut [u8],
-    counts: walk::Counts,
-    file: File,
-    index: u32,
-    kept: Leaf,
-) -> KeptStep
-    requires fits { Fits (image_view image.now v) (file_block_walk (card_of image.now) v file index)
-        (lists nodes.old blocks.old counts) }
-    requires volume_in { VolumeIn (card_of image.now) v }
-    requires file_in { FileIn (card_of image.now) file }
-    requires keeps { Keeps (card_of image.now) v file index kept (lists nodes.old blocks.old counts) }
-    ensures walked { Walked (image_view image.now v) (file_block_walk (card_of image.now) v file index)
-        (lists nodes.old blocks.old counts) (data_of (card_of image.now) result.data)
-        (lists nodes.new blocks.new result.counts) }
-    ensures data_in { DataIn (card_of image.now) result.data }
-    ensures keeps_2 { Keeps (card_of image.now) v file (index + 1) result.leaf
-        (lists nodes.new blocks.new result.counts) }
-{
-    let came = leaf_of(image, v, nodes, blocks, counts, file, index, kept);
-    let leaf = came.leaf;
-    let listed = came.counts;
-    let node = leaf.node;
-    let step = from_leaf(image, v, nodes, blocks, listed, node, leaf.at);
-    let data = step.data;
-    let then = step.counts;
-    KeptStep {
-        data,
-        leaf: Leaf {
-            node,
+    // The leaf of an index: the kept one as long as it has an address left, else walked to.
+    fn leaf_of(self, seen: &mut SeenLists, index: u32, kept: Leaf) -> Result<Leaf, Stop>
+        requires fits { Fits (view_in self.card) (file_leaf_walk self index) (lent seen.old) }
+        requires keeps { Keeps self index kept (lent seen.old) }
+        ensures walked { Walked (view_in self.entry.card) (file_leaf_walk self.entry index)
+            (lent seen.old) (leaf_found (card_in self.entry.card) result) (lent seen.new) }
+        ensures same { SameLent seen.old seen.new }
+        ensures leaf_of { FoundLeaf self.entry index result (lent seen.new) }
+        ensures used_up { OnErr result (kept.end ≤ kept.at) }
+    {
+        if kept.at < kept.end {
+            return Ok(kept);
+        }
+        self.find_leaf(seen, index)
+    }
+
+    // The data block of an index of a file, where a leaf is kept. What is kept then is for the next index.
+    pub fn next_block(
+        self,
+        seen: &mut SeenLists,
+        index: u32,
+        kept: &mut Leaf,
+    ) -> Result<Option<u32>, Stop>
+        requires fits { Fits (view_in self.card) (file_block_walk self index) (lent seen.old) }
+        requires keeps { Keeps self index kept.old (lent seen.old) }
+        ensures walked { Walked (view_in self.entry.card) (file_block_walk self.entry index)
+            (lent seen.old) (data_of (card_in self.entry.card) result) (lent seen.new) }
+        ensures same { SameLent seen.old seen.new }
+        ensures data_in { DataIn (card_in self.entry.card) result }
+        ensures keeps { Keeps self.entry (index + 1) kept.new (lent seen.new) }
+    {
+        let leaf = self.leaf_of(seen, index, *kept)?;
+        *kept = Leaf {
             at: leaf.at + 4,
-            end: leaf.end,
-        },
-        counts: then,
+            ..leaf
+        };
+        leaf.data(self.card, seen)
     }
-}
 
-// The data block of an index of a file.
-pub fn data_block(
-    image: &[u8],
-    v: checkpoint::Volume,
-    nodes: &mut [u8],
-    blocks: &mut [u8],
-    counts: walk::Counts,
-    file: File,
-    index: u32,
-) -> DataStep
-    requires fits { Fits (image_view image.now v) (file_block_walk (card_of image.now) v file index)
-        (lists nodes.old blocks.old counts) }
-    requires volume_in { VolumeIn (card_of image.now) v }
-    requires file_in { FileIn (card_of image.now) file }
-    ensures walked { Walked (image_view image.now v) (file_block_walk (card_of image.now) v file index)
-        (lists nodes.old blocks.old counts) (data_of (card_of image.now) result.data)
-        (lists nodes.new blocks.new result.counts) }
-    ensures data_in { DataIn (card_of image.now) result.data }
-{
-    let came = find_leaf(image, v, nodes, blocks, counts, file, index);
-    let leaf = came.leaf;
-    let listed = came.counts;
-    let node = leaf.node;
-    from_leaf(image, v, nodes, blocks, listed, node, leaf.at)
+    // The data block of an index of a file.
+    pub fn data_block(self, seen: &mut SeenLists, index: u32) -> Result<Option<u32>, Stop>
+        requires fits { Fits (view_in self.card) (file_block_walk self index) (lent seen.old) }
+        ensures walked { Walked (view_in self.entry.card) (file_block_walk self.entry index)
+            (lent seen.old) (data_of (card_in self.entry.card) result) (lent seen.new) }
+        ensures same { SameLent seen.old seen.new }
+        ensures data_in { DataIn (card_in self.entry.card) result }
+    {
+        self.find_leaf(seen, index)?.data(self.card, seen)
+    }
 }

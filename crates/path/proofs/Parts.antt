@@ -1,32 +1,17 @@
--- A path's parts by the place of its first slash: what the loops over its bytes and over its names go by.
+-- A path's parts by the place of its first slash: what loops over its names go by.
 use Prim.Native.Nat.{ℕ, suc, ◌+◌, ◌-◌, ◌<◌, ◌≤◌}
 use native.Mathlib.Omega.{arith}
-use native.Mathlib.Numerals.{add-one}
 use mathlib.Core.Path.{◌≡◌, refl, sym, ap, ◌∙◌}
 use mathlib.Core.Bool.{Bool, true, false}
 use mathlib.Core.List.{List, [], ◌∷◌}
-use lib.ListN.{length, get_or, take, drop, drop_of_length-le, length-drop}
-use lib.Seq.{drop-cons, drop-drop}
+use lib.ListN.{length, take, drop, length-drop}
+use lib.Seq.{drop-drop}
 use lib.Dec.{eqb}
 use borrow.Author.Tests.{eqb-true, eqb-false}
 use Rattle.field.specs.Choice.{choose}
 use Rattle.path.specs.Path.{slash, on_first, parts_of, first_part}
 
--- ---- the first part, from a place on
-module _ (i : ℕ) (s : List ℕ) where
-  pub first_on : i < length s → eqb (get_or s i 0) slash ≡ false → length (first_part (drop i s)) ≡ suc (length (first_part (drop (i + 1) s)))
-  unfolding first_part
-  first_on h e = rw (drop-cons s i 0 h, add-one i, e)
-
-  pub first_slash : i < length s → eqb (get_or s i 0) slash ≡ true → first_part (drop i s) ≡ []
-  unfolding first_part
-  first_slash h e = rw (drop-cons s i 0 h, e)
-
-  pub first_end : length s ≤ i → first_part (drop i s) ≡ []
-  unfolding first_part
-  first_end h = rw (drop_of_length-le s h)
-
--- it is the front of the path
+-- ---- the first part: it is the front of the path
 pub first_front : (s : List ℕ) → take (length (first_part s)) s ≡ first_part s
 unfolding first_part
 first_front [] = refl

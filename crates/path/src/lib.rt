@@ -12,32 +12,20 @@ pub fn part_end(path: &[u8], start: usize) -> usize
     requires { start ≤ length path.now }
     ensures { result ≡ start + length (first_part (drop start path.now)) }
 {
-    let mut i = start;
-    while i < path.len() {
-        if path[i] == b'/' {
-            return i;
-        }
-        i += 1;
-    }
-    i
+    let part = path[start..].iter().take_while(|b| **b != b'/');
+    start + part.count()
 }
 
 // How many names a path has, and 0 of what is no path.
 pub fn name_count(path: &[u8]) -> usize
     ensures { result ≡ name_count path.now }
 {
-    let mut start = 0;
     let mut count = 0;
-    while count < NAMES_MOST {
-        let end = part_end(path, start);
-        if !name_hash::is_name(&path[start..end]) {
+    for part in path.split(|b| *b == b'/') {
+        if count == NAMES_MOST || !name_hash::is_name(part) {
             return 0;
         }
         count += 1;
-        if end == path.len() {
-            return count;
-        }
-        start = end + 1;
     }
-    0
+    count
 }

@@ -3,8 +3,8 @@
 use mathlib.Core.Path.{◌≡◌, refl, ap, ◌∙◌}
 use Prim.Native.Nat.{ℕ, zero, suc, ◌+◌, ◌≤◌, ◌<◌}
 use native.Mathlib.Omega.{arith}
-use mathlib.Core.List.{List}
-use lib.ListN.{length, take, get_or}
+use mathlib.Core.List.{List, [], ◌∷◌, ◌++◌}
+use lib.ListN.{length, take, drop, get_or}
 use Rattle.place.specs.declared.Place.{Place}
 use Rattle.place.specs.declared.Place.TheVariants.{Inode, Direct, Indirect, Double, Past}
 use Rattle.place.specs.declared.Step.{Step}
@@ -20,6 +20,16 @@ steps_of w = take w.count w.steps
 -- the slot of a step of the array
 abbrev pub slot_at : Way → ℕ → ℕ
 slot_at w k = (get_or w.steps k (step 0 0)).slot
+
+-- up to four nodes written over an array of zeros
+pub over_zeros : (nodes : List Step) → length nodes ≤ 4
+    → nodes ++ drop (length nodes) (step 0 0 ∷ step 0 0 ∷ step 0 0 ∷ step 0 0 ∷ []) ≡ (in_array nodes).steps
+over_zeros [] h = refl
+over_zeros (a ∷ []) h = refl
+over_zeros (a ∷ b ∷ []) h = refl
+over_zeros (a ∷ b ∷ c ∷ []) h = refl
+over_zeros (a ∷ b ∷ c ∷ d ∷ []) h = refl
+over_zeros (a ∷ b ∷ c ∷ d ∷ e ∷ rest) h = absurd (omega arith)
 
 steps_back : (p : Place) → steps_of (in_array (way_of p)) ≡ way_of p
 steps_back (Inode s) = refl

@@ -2,7 +2,7 @@
 // What each means is in specs/: Place, Way.
 #![tactic(auto)]
 
-ghost use Rattle.std.specs.Prelude.{◌≡◌, []};
+ghost use Rattle.std.specs.Prelude.{◌≡◌, [], ◌≤◌, length};
 ghost use Rattle.place.specs.Place.{place_of, NodesIn};
 ghost use Rattle.place.specs.Way.{step, way_of, in_array};
 
@@ -28,6 +28,7 @@ pub struct Step {
 }
 
 // The nodes on the way, the inode first. There are none where the index is past the last.
+// A count and an array and no list: the library has no heap.
 #[derive(Clone, Copy)]
 pub struct Way {
     pub count: u32,
@@ -35,6 +36,7 @@ pub struct Way {
 }
 
 // The place of a block index, where the inode holds so many addresses.
+#[tactic(auto, unfolding(crate::specs::Place::place_of))]
 pub fn find_place(addresses: u32, index: u32) -> Place
     ensures { result ≡ place_of addresses index }
 {
@@ -66,10 +68,19 @@ fn node(number: u32, slot: u32) -> Step
 pub fn no_way() -> Way
     ensures { result ≡ in_array [] }
 {
-    let none = node(0, 0);
+    way_through(&[])
+}
+
+// The way through these nodes, with zeros behind them.
+fn way_through(nodes: &[Step]) -> Way
+    requires { length nodes.now ≤ 4 }
+    ensures { result ≡ in_array nodes.now }
+{
+    let mut steps = [node(0, 0); 4];
+    steps[..nodes.len()].copy_from_slice(nodes);
     Way {
-        count: 0,
-        steps: [none, none, none, none],
+        count: nodes.len() as u32,
+        steps,
     }
 }
 
@@ -78,34 +89,20 @@ pub fn way_to(p: Place) -> Way
     requires { NodesIn p }
     ensures { result ≡ in_array (way_of p) }
 {
-    let none = node(0, 0);
     match p {
-        Place::Inode(s) => Way {
-            count: 1,
-            steps: [node(0, s), none, none, none],
-        },
-        Place::Direct(n, s) => Way {
-            count: 2,
-            steps: [node(0, n), node(1 + n, s), none, none],
-        },
-        Place::Indirect(n, k, s) => Way {
-            count: 3,
-            steps: [
-                node(0, 2 + n),
-                node(3 + 1019 * n, k),
-                node(4 + 1019 * n + k, s),
-                none,
-            ],
-        },
-        Place::Double(n, k, s) => Way {
-            count: 4,
-            steps: [
-                node(0, 4),
-                node(2041, n),
-                node(2042 + 1019 * n, k),
-                node(2043 + 1019 * n + k, s),
-            ],
-        },
+        Place::Inode(s) => way_through(&[node(0, s)]),
+        Place::Direct(n, s) => way_through(&[node(0, n), node(1 + n, s)]),
+        Place::Indirect(n, k, s) => way_through(&[
+            node(0, 2 + n),
+            node(3 + 1019 * n, k),
+            node(4 + 1019 * n + k, s),
+        ]),
+        Place::Double(n, k, s) => way_through(&[
+            node(0, 4),
+            node(2041, n),
+            node(2042 + 1019 * n, k),
+            node(2043 + 1019 * n + k, s),
+        ]),
         Place::Past => no_way(),
     }
 }

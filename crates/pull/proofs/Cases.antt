@@ -1,20 +1,25 @@
--- The tree of a file by cases: no run and no list is named. Then what the code found as what the walk comes to.
-use Prim.Native.Nat.{ℕ}
+-- The tree of a file by cases: no run and no list is named. Then what the code found as what the walk comes to, and how far an index goes.
+use Prim.Native.Nat.{ℕ, ◌*◌, ◌<◌}
+use native.Mathlib.Omega.{arith}
 use mathlib.Core.Path.{◌≡◌, refl}
-use mathlib.Core.Bool.{true, false}
+use mathlib.Core.Bool.{Bool, true, false, ◌||◌}
 use mathlib.Core.List.{List}
 use lib.ListN.{drop}
+use Rattle.std.specs.Prelude.{Option, Some, None}
+use lib.Dec.{leb, ltb}
+use borrow.Author.Tests.{ltb-false}
 use Rattle.field.specs.Card.{Card}
+use Rattle.field.proofs.Choosing.{clash}
+use Rattle.place.specs.Place.{last_index}
 use Rattle.walk.specs.Walk.{View, Walk, done, Outcome, ok, stop, bind, onward, and_then, Lists, Walked}
-use Rattle.walk.proofs.Reached.{reached_start, reached_then, reached_stop, reached_done}
+use Rattle.walk.proofs.Reached.{reached_start, reached_then, reached_done}
 use Rattle.inode.specs.declared.Inode.{Inode}
 use Rattle.inode.specs.Inode.{inode_of, has_inline_data, inline_start, is_regular, addresses_in, is_past, count_in}
+use Rattle.inode.proofs.Counting.{few_addresses}
 use Rattle.node.specs.Node.{Bounds}
 use Rattle.node.specs.Block.{Fetched, held, block_walk}
-use Rattle.node.specs.Found.{data_of}
-use Rattle.node.specs.declared.Data.{Data}
-use Rattle.node.specs.declared.Data.TheVariants as d
-use Rattle.pull.specs.Walk.{counted, content_walk, at_file, block_found}
+use Rattle.node.specs.Found.{fetched}
+use Rattle.pull.specs.Walk.{counted, content_walk, at_file, block_of}
 
 -- ---- a file, once its inode is read
 module _ (m : Bounds) (index ino : ℕ) (inode : List ℕ) {i : Inode} (read : i ≡ inode_of inode) where
@@ -48,8 +53,18 @@ module _ (m : Bounds) (index ino : ℕ) (inode : List ℕ) {i : Inode} (read : i
     file_block A d a = by_content (content_block A d a)
 
 -- ---- a data block with its count
-pub counted_walked : (card : Card) (found : Data) (count : ℕ) {v : View} {p : Walk (Outcome Fetched)} {s t : Lists}
-    → Walked v p s (data_of card found) t → Walked v (and_then p (counted count)) s (block_found card found 0 count) t
-counted_walked card d.Hole count left = reached_done (reached_then (counted count) (reached_start _ _ _) left refl)
-counted_walked card (d.At address) count left = reached_done (reached_then (counted count) (reached_start _ _ _) left refl)
-counted_walked card (d.Stop answer) count left = reached_stop (counted count) (reached_start _ _ _) left refl
+pub counted_walked : (card : Card) (got : Option ℕ) (count : ℕ) {v : View} {p : Walk (Outcome Fetched)} {s t : Lists}
+    → Walked v p s (ok (fetched card got)) t
+    → Walked v (and_then p (counted count)) s (ok (block_of card (record { «data» = got; start = 0; bytes = count }))) t
+counted_walked card None count left = reached_done (reached_then (counted count) (reached_start _ _ _) left refl)
+counted_walked card (Some address) count left = reached_done (reached_then (counted count) (reached_start _ _ _) left refl)
+
+-- ---- an index that isn't past the end of a file is far below 32 bits
+pub inside_near : (i : Inode) (index : ℕ) → is_past i index ≡ false → index < 2147483648
+unfolding is_past
+inside_near i index h = go (leb i.size (index * 4096)) (ltb (last_index (addresses_in i)) index) refl h
+  where
+    go : (a b : Bool) → ltb (last_index (addresses_in i)) index ≡ b → a || b ≡ false → index < 2147483648
+    go a false e f = let far = ltb-false (last_index (addresses_in i)) index e in let few = few_addresses i in omega arith
+    go true true e f = absurd (clash refl f)
+    go false true e f = absurd (clash refl f)

@@ -11,8 +11,7 @@ use lib.Dec.{eqb, ltb}
 use borrow.Author.Tests.{eq-eqb, eqb-true, eqb-false, lt-ltb, le-ltb, ltb-true, ltb-false, le-leb, lt-leb}
 use Rattle.field.specs.Choice.{choose}
 use Rattle.checkpoint.specs.declared.Volume.{Volume}
-use Rattle.checkpoint.specs.declared.Opening.TheVariants.{Opened}
-use Rattle.checkpoint.specs.Volume.{opened_image}
+use Rattle.checkpoint.specs.Volume.{Opened, opened_image}
 use Rattle.place.specs.Place.{last_index}
 use Rattle.walk.specs.Walk.{image_view, Seen, empty, done, ran, run, Outcome, ok, stop}
 use Rattle.walk.proofs.Runs.{run_then}

@@ -1,4 +1,5 @@
 pub mod Cases
+pub mod Opened
 pub mod Sizes
 pub mod Results
 pub mod Theorems

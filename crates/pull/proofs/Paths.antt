@@ -9,9 +9,7 @@ use lib.ListN.{length}
 use Rattle.field.specs.Card.{Card, card_of}
 use Rattle.field.specs.Choice.{choose}
 use Rattle.checkpoint.specs.declared.Volume.{Volume}
-use Rattle.checkpoint.specs.declared.Opening.{Opening}
-use Rattle.checkpoint.specs.declared.Opening.TheVariants.{Opened, Refused}
-use Rattle.checkpoint.specs.Volume.{opened_image}
+use Rattle.checkpoint.specs.Volume.{Opening, Opened, Refused, opened_image}
 use Rattle.name_hash.specs.Name.{is_name}
 use Rattle.walk.specs.Walk.{view_of, image_view, Seen, empty, ran, run, ok, stop, and_then}
 use Rattle.walk.proofs.Runs.{run_then, run_stop, run_first, run_assoc}

@@ -10,12 +10,10 @@ use Rattle.field.specs.Card.{Card, card_of}
 use Rattle.field.proofs.Choosing.{needed, needed_eq, needed_le}
 use Rattle.superblock.specs.Shape.{in_shape}
 use Rattle.checkpoint.specs.declared.Volume.{Volume}
-use Rattle.checkpoint.specs.declared.Opening.{Opening}
-use Rattle.checkpoint.specs.Volume.{opened_image}
+use Rattle.checkpoint.specs.Volume.{Opening, opened_image}
 use Rattle.path.specs.Path.{part_count, is_path, name_count}
 use Rattle.path.proofs.Counting.{count_parts, count_some}
-use Rattle.walk.specs.declared.Counts.{Counts}
-use Rattle.walk.specs.Walk.{View, view_of, Ran, Outcome, lists, none, Walked, Fits}
+use Rattle.walk.specs.Walk.{Counts, View, view_of, Ran, Outcome, lists, none, Walked, Fits}
 use Rattle.walk.proofs.Fits.{fits_start}
 use Rattle.walk.proofs.Written.{left_value, left_counts, left_nodes, left_blocks}
 use Rattle.node.specs.Node.{Bounds, bounds_of}
@@ -50,17 +48,17 @@ pull_fits path lent h v m index =
 module _ (card : Card) (v : Volume) (path : List ℕ) (index : ℕ) (lent : Lent) (shape : lent_in_shape (part_count path) lent ≡ true)
     {nodes blocks : List ℕ} {counts : Counts} {x : Outcome Block}
     (left : Walked (view_of card v) (pull_walk (bounds_of v) path index) (lists lent.nodes lent.blocks none) x (lists nodes blocks counts)) where
-  pub pull_written : (bytes : (k : ℕ) → get_or nodes k 0 < 256) (bytes' : (k : ℕ) → get_or blocks k 0 < 256) {block : List ℕ} {answer count : ℕ}
-      → answer ≡ answer_of x → count ≡ count_of x → block ≡ buffer_after x lent.block
+  pub pull_written : {nodes' blocks' : List ℕ} → nodes' ≡ nodes → blocks' ≡ blocks → ((k : ℕ) → get_or nodes' k 0 < 256) → ((k : ℕ) → get_or blocks' k 0 < 256)
+      → {block : List ℕ} {answer count : ℕ} → answer ≡ answer_of x → count ≡ count_of x → block ≡ buffer_after x lent.block
       → result_in (record { answer = answer; byte_count = count; node_count = counts.nodes; block_count = counts.blocks })
-      (lending block nodes blocks) ≡ written (pull_run card v path index) lent
+      (lending block nodes' blocks') ≡ written (pull_run card v path index) lent
   unfolding pull_run
-  pull_written f g {block} {answer} {count} p q r =
+  pull_written m n f g {block} {answer} {count} p q r =
       let value = left_value left in
       let both = left_counts left in
       let fits = pull_fits path lent shape (view_of card v) (bounds_of v) index in
-      let ns = left_nodes left fits f in
-      let bs = left_blocks left fits g in
+      let ns = m ∙ left_nodes left fits (λ k. rw m at (f k)) in
+      let bs = n ∙ left_blocks left fits (λ k. rw n at (g k)) in
       let a = p ∙ ap answer_of value in
       let c = q ∙ ap count_of value in
       let d = r ∙ ap (λ (o : Outcome Block). buffer_after o lent.block) value in

@@ -12,9 +12,7 @@ use lib.ListN.{length}
 use Rattle.field.specs.Card.{Card, card_of}
 use Rattle.field.proofs.Choosing.{clash}
 use Rattle.checkpoint.specs.declared.Volume.{Volume}
-use Rattle.checkpoint.specs.declared.Opening.{Opening}
-use Rattle.checkpoint.specs.declared.Opening.TheVariants.{Opened, Refused}
-use Rattle.checkpoint.specs.Volume.{opened_image}
+use Rattle.checkpoint.specs.Volume.{Opening, Opened, Refused, opened_image}
 use Rattle.checkpoint.proofs.Inside.{refusals}
 use Rattle.list.specs.Lists.{Rising, AllOf, numbers, entries}
 use Rattle.walk.specs.Walk.{view_of, empty, Walk, Outcome, ok, stop, ending, Ended, bind, and_then, AsksNode, AsksBlock}

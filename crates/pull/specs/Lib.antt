@@ -1,3 +1,4 @@
+pub mod OpenFile
 pub mod Walk
 pub mod Pull
 pub mod OneName

@@ -4,9 +4,7 @@ use Rattle.std.specs.Prelude.{ℕ, ◌/◌, Bool, ◌&&◌, List, length, eqb, l
 use Rattle.field.specs.Card.{Card, card_of}
 use Rattle.field.specs.Choice.{choose}
 use Rattle.superblock.specs.Shape.{in_shape}
-use Rattle.checkpoint.specs.declared.Opening.{Opening}
-use Rattle.checkpoint.specs.declared.Opening.TheVariants.{Opened, Refused}
-use Rattle.checkpoint.specs.Volume.{opened_image}
+use Rattle.checkpoint.specs.Volume.{Opening, Opened, Refused, opened_image}
 use Rattle.name_hash.specs.Name.{is_name}
 use Rattle.walk.specs.Walk.{view_of, empty, Walk, run, Outcome, and_then}
 use Rattle.node.specs.Node.{Bounds, bounds_of}

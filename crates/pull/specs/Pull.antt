@@ -4,9 +4,7 @@ use Rattle.field.specs.Card.{Card, card_of}
 use Rattle.field.specs.Choice.{choose}
 use Rattle.superblock.specs.Shape.{in_shape}
 use Rattle.checkpoint.specs.declared.Volume.{Volume}
-use Rattle.checkpoint.specs.declared.Opening.{Opening}
-use Rattle.checkpoint.specs.declared.Opening.TheVariants.{Opened, Refused}
-use Rattle.checkpoint.specs.Volume.{opened_image}
+use Rattle.checkpoint.specs.Volume.{Opening, Opened, Refused, opened_image}
 use Rattle.path.specs.Path.{part_count, is_path}
 use Rattle.list.specs.Lists.{Listed, listing, over}
 use Rattle.walk.specs.Walk.{view_of, empty, Ran, run, Outcome, ok, stop}

@@ -1,16 +1,22 @@
 -- The walk of a pull: the path's names from the root on, the file, the block of the index. "walks the root, then the file, and stops at
 -- the first of 2, 3, 9 to 14 that it meets. At a node: 9, 10, then the block is read and listed, then 11, then 12, then 2 or 3."
-use Rattle.std.specs.Prelude.{ℕ, List, drop}
-use Rattle.field.specs.Choice.{choose}
-use Rattle.walk.specs.Walk.{Walk, done, Outcome, ok, stop, and_then}
-use Rattle.node.specs.Node.{Bounds, inode_walk}
-use Rattle.node.specs.Block.{Fetched, hole, held, block_walk}
-use Rattle.node.specs.declared.Data.{Data}
-use Rattle.node.specs.declared.Data.TheVariants as d
+use Rattle.std.specs.Prelude.{ℕ, ◌+◌, ◌≤◌, ◌≡◌, false, List, drop, Option, Some, None, Result, Ok, Err}
+use Rattle.answer.specs.declared.Stop.{Stop}
+use Rattle.answer.specs.Number.{stop_number}
 use Rattle.field.specs.Card.{Card}
+use Rattle.field.specs.Choice.{choose}
+use Rattle.checkpoint.specs.declared.open_image.OpenImage.{OpenImage}
+use Rattle.checkpoint.specs.OpenImage.{card_in}
+use Rattle.walk.specs.Walk.{Walk, done, Outcome, ok, stop, and_then}
+use Rattle.node.specs.declared.file.File.{File}
+use Rattle.node.specs.Node.{Bounds, bounds_of, inode_walk}
+use Rattle.node.specs.Block.{Fetched, hole, held, block_walk}
+use Rattle.node.specs.Found.{BlockIn}
 use Rattle.inode.specs.Inode.{inode_of, has_inline_data, inline_start, is_regular, addresses_in, is_past, count_in}
 use Rattle.path.specs.Path.{parts_of}
 use Rattle.path_lookup.specs.Lookup.{ino_of_root, names_walk}
+use Rattle.pull.specs.declared.FileBlock.{FileBlock}
+use Rattle.pull.specs.declared.file.OpenFile.{OpenFile}
 
 -- a block of a file: how many of its bytes are the file's, and what it holds
 pub record Block : Type 0 where
@@ -45,8 +51,32 @@ named_file_walk m names index ino = and_then (names_walk m names ino) (file_walk
 unfoldable pub pull_walk : Bounds → List ℕ → ℕ → Walk (Outcome Block)
 pull_walk m path index = named_file_walk m (parts_of path) index ino_of_root
 
--- what the code found as a block of the file: an address stands for the bytes of its block, from a start on
-abbrev pub block_found : Card → Data → ℕ → ℕ → Outcome Block
-block_found card d.Hole start count = ok (record { count = count; content = hole })
-block_found card (d.At address) start count = ok (record { count = count; content = held (drop start (card.block address)) })
-block_found card (d.Stop answer) start count = stop answer
+-- ---- what the code found
+
+-- the bytes of a block on the card from a start on, or that it is a hole
+abbrev pub content_at : Card → Option ℕ → ℕ → Fetched
+content_at card None start = hole
+content_at card (Some address) start = held (drop start (card.block address))
+
+abbrev pub block_of : Card → FileBlock → Block
+block_of card b = record { count = b.bytes; content = content_at card b.data b.start }
+
+-- a block of the file, or the number of the answer that ended the walk to it
+abbrev pub block_found : Card → Result FileBlock Stop → Outcome Block
+block_found card (Ok b) = ok (block_of card b)
+block_found card (Err e) = stop (stop_number e)
+
+-- it lies on the card, and the file's bytes lie in it
+abbrev pub InBlock : Card → FileBlock → Type 0
+InBlock card b = BlockIn card b.data × (b.start + b.bytes ≤ 4096)
+
+-- ---- a file that is opened
+
+-- block `index` of a file, once its inode is read
+abbrev pub inode_file_walk : File → ℕ → Walk (Outcome Block)
+inode_file_walk file index = at_file (bounds_of file.card.volume) index file.ino ((card_in file.card).block file.inode)
+
+-- the file of an inode number, whose inode is a block of the card; or 12, of an inode that is no regular file's
+abbrev pub FileOpened : OpenImage → ℕ → ℕ → Result OpenFile Stop → Type 0
+FileOpened card ino at (Ok o) = (o.file.card ≡ card) × (o.file.ino ≡ ino) × (o.file.inode ≡ at)
+FileOpened card ino at (Err e) = (stop_number e ≡ 12) × (is_regular (inode_of ((card_in card).block at)) ≡ false)

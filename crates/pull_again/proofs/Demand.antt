@@ -6,10 +6,10 @@ use mathlib.Core.Path.{◌≡◌, refl, ap, subst, ◌∙◌}
 use mathlib.Core.Bool.{true}
 use mathlib.Core.List.{List}
 use mathlib.Core.Logic.{◌↔◌}
+use Rattle.std.proofs.Common.{Ok, Err}
 use Rattle.field.specs.Card.{card_of}
 use Rattle.checkpoint.specs.declared.Volume.{Volume}
-use Rattle.checkpoint.specs.declared.Opening.TheVariants.{Opened}
-use Rattle.checkpoint.specs.Volume.{opened_image}
+use Rattle.checkpoint.specs.Volume.{Opened, opened_image}
 use Rattle.checkpoint.proofs.Inside.{image_shaped}
 use Rattle.nat.specs.Table.{table_answer}
 use Rattle.list.specs.Lists.{AllOf, entries}
@@ -20,9 +20,8 @@ use Rattle.pull.specs.Walk.{Block}
 use Rattle.pull.specs.Pull.{Lent, lent_in_shape, written, pull_run, pulled, nodes_left, blocks_left}
 use Rattle.pull.proofs.Results.{path_in_shape, call_in_shape_lem, call_opens}
 use Rattle.pull.proofs.Theorems.{run_ended}
-use Rattle.compare.specs.declared.Difference.{Difference}
-use Rattle.compare.specs.declared.Difference.TheVariants.{Same, BoundsDiffer, NodeDiffers, BlockDiffers}
-use Rattle.compare.specs.Difference.{difference}
+use Rattle.compare.specs.declared.Difference.TheVariants.{BoundsDiffer, NodeDiffers, BlockDiffers}
+use Rattle.compare.specs.Difference.{Told, difference}
 use Rattle.compare.specs.Compare.{answered, verdict}
 use Rattle.list.proofs.Searching.{FirstNot}
 use Rattle.compare.proofs.Differences.{SameTable, SameBlock, difference_bounds, difference_node, difference_block}
@@ -51,7 +50,7 @@ module _ (kept path : List ℕ) (index : ℕ) (lent : Lent) (past : PastOpening 
   blocks = entries (blocks_left (pulled kept path index lent))
 
   -- the first difference between the two cards, on those lists
-  abbrev first : Difference
+  abbrev first : Told
   first = difference (bounds_of v) (bounds_of u) (view_of (card_of kept) v) (view_of (card_of fresh) u) nodes blocks
 
   -- Compare takes the lists and says what the first difference is
@@ -81,11 +80,11 @@ module _ (kept path : List ℕ) (index : ℕ) (lent : Lent) (past : PastOpening 
   pub first_difference : Says
   first_difference = go first refl
     where
-      go : (d : Difference) → first ≡ d → Says
-      go Same e = same (says ∙ ap verdict e)
-      go BoundsDiffer e = other_bounds (says ∙ ap verdict e) (difference_bounds _ _ _ _ _ _ e)
-      go (NodeDiffers n) e = let f = difference_node _ _ _ _ _ _ n e in other_node n (says ∙ ap verdict e) f.0 f.1
-      go (BlockDiffers b) e = let f = difference_block _ _ _ _ _ _ b e in other_block b (says ∙ ap verdict e) f.0 f.1 f.2
+      go : (d : Told) → first ≡ d → Says
+      go (Ok none) e = same (says ∙ ap verdict e)
+      go (Err BoundsDiffer) e = other_bounds (says ∙ ap verdict e) (difference_bounds _ _ _ _ _ _ e)
+      go (Err (NodeDiffers n)) e = let f = difference_node _ _ _ _ _ _ n e in other_node n (says ∙ ap verdict e) f.0 f.1
+      go (Err (BlockDiffers b)) e = let f = difference_block _ _ _ _ _ _ b e in other_block b (says ∙ ap verdict e) f.0 f.1 f.2
 
   -- "Whenever it says "same", the pull of the same name and block index on the second image gives the same answer, byte count, block
   -- bytes and lists." The second pull "may be lent other memory, of any lengths that Pull takes".

@@ -10,8 +10,7 @@ use lib.ListN.{length, take, drop}
 use lib.Seq.{take-append_seam}
 use Rattle.field.specs.Card.{card_of}
 use Rattle.checkpoint.specs.declared.Volume.{Volume}
-use Rattle.checkpoint.specs.declared.Opening.TheVariants.{Opened}
-use Rattle.checkpoint.specs.Volume.{opened_image}
+use Rattle.checkpoint.specs.Volume.{Opened, opened_image}
 use Rattle.checkpoint.proofs.Inside.{image_shaped}
 use Rattle.nat.specs.Table.{table_answer}
 use Rattle.list.specs.Lists.{Rising, AllOf, entries}

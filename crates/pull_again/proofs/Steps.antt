@@ -8,9 +8,8 @@ use mathlib.Core.List.{List, [], ◌∷◌}
 use mathlib.Core.Logic.{◌⊎◌, inl, ⊎_elim, ◌↔◌}
 use Rattle.field.specs.Card.{card_of}
 use Rattle.checkpoint.specs.declared.Volume.{Volume}
-use Rattle.checkpoint.specs.declared.Opening.TheVariants.{Opened}
+use Rattle.checkpoint.specs.Volume.{Opened, opened_image}
 use Rattle.checkpoint.proofs.Inside.{refusals}
-use Rattle.checkpoint.specs.Volume.{opened_image}
 use Rattle.list.specs.Lists.{Rising, AllOf, numbers, Listed, entries}
 use Rattle.walk.specs.Walk.{view_of, empty, Ran, run, Outcome, ok, stop, Ended}
 use Rattle.walk.proofs.Runs.{agree}
@@ -22,9 +21,8 @@ use Rattle.pull.proofs.Sizes.{Counted}
 use Rattle.pull.proofs.Theorems.{PullEnds, refusal, walked, ends, ending_inside, content_few, run_rises, run_inside, run_ended, run_some}
 use Rattle.compare.specs.Lists.{lists_in_shape}
 use Rattle.compare.specs.declared.Compared.{Compared}
-use Rattle.compare.specs.declared.Difference.{Difference}
-use Rattle.compare.specs.declared.Difference.TheVariants.{Same}
-use Rattle.compare.specs.Difference.{difference}
+use Rattle.compare.specs.Difference as d
+use Rattle.compare.specs.Difference.{Told, difference}
 use Rattle.compare.specs.Compare.{verdict, compared}
 use Rattle.compare.proofs.Shapes.{ListsFit, lists_in_shape_lem, in_shape_lists}
 use Rattle.compare.proofs.Differences.{difference_same, same_difference}
@@ -110,13 +108,13 @@ same_written r lent lent' ended = record {
 -- ---- lists that Compare takes: it says "same" exactly if both images agree on all that they list, else "changed"
 module _ (kept : List ℕ) (v : Volume) (fresh : List ℕ) (u : Volume) (nodes blocks : Listed) (kept_opens : opened_image kept ≡ Opened v)
     (fresh_opens : opened_image fresh ≡ Opened u) (takes : lists_in_shape (bounds_of v) nodes blocks ≡ true) where
-  abbrev first : Difference
+  abbrev first : Told
   first = difference (bounds_of v) (bounds_of u) (view_of (card_of kept) v) (view_of (card_of fresh) u) (entries nodes) (entries blocks)
 
   pub says : compared kept fresh nodes blocks ≡ verdict first
   says = compared_opened kept fresh nodes blocks v u kept_opens fresh_opens ∙ lists_compared (card_of kept) v (card_of fresh) u nodes blocks takes
 
-  agreed : first ≡ Same → SameOn kept v fresh u (entries nodes) (entries blocks)
+  agreed : first ≡ d.same → SameOn kept v fresh u (entries nodes) (entries blocks)
   agreed e = let all = difference_same _ _ _ _ _ _ e in record { bounds = all.0; tables = all.1; bytes = all.2 }
 
   pub exactly_same : ((compared kept fresh nodes blocks).answer ≡ 15) ↔ SameOn kept v fresh u (entries nodes) (entries blocks)

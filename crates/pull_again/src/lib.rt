@@ -13,6 +13,7 @@ pub struct Again {
     pub second: pull::Pulled,
 }
 
+// The memory of each pull is lent as `pull` takes it, by the C interface.
 pub fn pull_again(
     kept: &[u8],
     fresh: &[u8],

@@ -8,9 +8,7 @@ use mathlib.Core.List.{List, [], ◌++◌, append-nil}
 use lib.ListN.{length, drop, drop_of_length-le}
 use borrow.Author.Tests.{le-leb, lt-leb, eq-eqb}
 use Rattle.field.specs.Card.{card_of}
-use Rattle.checkpoint.specs.declared.Opening.{Opening}
-use Rattle.checkpoint.specs.declared.Opening.TheVariants.{Opened, Refused}
-use Rattle.checkpoint.specs.Volume.{opened_image}
+use Rattle.checkpoint.specs.Volume.{Opening, Opened, Refused, opened_image}
 use Rattle.checkpoint.proofs.Inside.{refusals}
 use Rattle.path.specs.Path.{part_count}
 use Rattle.list.proofs.Members.{union_none}

@@ -10,16 +10,15 @@ use Rattle.field.specs.Card.{Card, card_of}
 use Rattle.field.proofs.Choosing.{needed, needed_eq, needed_le}
 use Rattle.superblock.specs.Shape.{in_shape}
 use Rattle.checkpoint.specs.declared.Volume.{Volume}
-use Rattle.checkpoint.specs.declared.Opening.{Opening}
-use Rattle.checkpoint.specs.Volume.{opened_image}
+use Rattle.checkpoint.specs.Volume.{Opening, opened_image}
 use Rattle.path.specs.Path.{part_count, is_path, name_count}
 use Rattle.path.proofs.Counting.{count_parts, count_some}
-use Rattle.walk.specs.declared.Counts.{Counts}
-use Rattle.walk.specs.Walk.{view_of, empty, Ran, run, lists, none, Fits}
+use Rattle.walk.specs.Walk.{Counts, view_of, empty, Ran, run, lists, none, Fits}
 use Rattle.walk.proofs.Fits.{fits_few}
 use Rattle.walk.proofs.Written.{left_value, left_counts, left_nodes, left_blocks}
 use Rattle.node.specs.Node.{bounds_of}
 use Rattle.pull.specs.Pull.{Lent, lending}
+use Rattle.file_run.specs.declared.BlockBuffer.{BlockBuffer}
 use Rattle.file_run.specs.Standing.{Standing, last_count, standing_over, FilledAs}
 use Rattle.file_run.specs.Walks.{RoomFor}
 use Rattle.pull_run.specs.Run.{wanted_most, run_nodes_most, run_blocks_most, run_in_shape, run_call_in_shape, run_pulls, run_result, refused_run}
@@ -50,8 +49,12 @@ module _ (k wanted : ℕ) (lent : Lent) (h : run_in_shape k wanted lent ≡ true
   unfolding run_in_shape
   blocks_fit_lem = needed_le (λ e. rw (e, and-false) refl) h
 
-  pub room_for : RoomFor wanted lent.block
-  room_for = let whole = buffer_whole in record { some = some_wanted; few = few_wanted; room = omega arith }
+  -- a buffer of those bytes in which no block stands yet
+  pub room_for : (buffer : BlockBuffer) → buffer.bytes.now ≡ lent.block → buffer.count ≡ 0 → buffer.last ≡ 0 → RoomFor wanted buffer
+  room_for buffer is none no_last =
+      let whole = buffer_whole in
+      let same = ap length is in
+      record { some = some_wanted; few = few_wanted; room = omega arith; none = none; no_last = no_last }
 
 -- ---- what a run lists
 -- "With k names the lists need room for 175k + 6 and 233k + 518"
@@ -95,20 +98,21 @@ module _ (card : Card) (v : Volume) (path : List ℕ) (index wanted : ℕ) (lent
         let most = walk_few card v path index wanted (some_wanted (part_count path) wanted lent shape) (few_wanted (part_count path) wanted lent shape) in
         (omega arith, omega arith)
 
-    pub run_written_lem : ((k : ℕ) → get_or nodes k 0 < 256) → ((k : ℕ) → get_or blocks k 0 < 256)
-        → run_result (record { answer = answer; count = count; byte_count = bytes; node_count = counts.nodes; block_count = counts.blocks })
-        (lending buffer nodes blocks) ≡ run_written (run_pulls card v path index wanted) lent
-    run_written_lem f g =
+    pub run_written_lem : {answer' : ℕ} {buffer' nodes' blocks' : List ℕ} → answer' ≡ answer → buffer' ≡ buffer → nodes' ≡ nodes → blocks' ≡ blocks
+        → ((k : ℕ) → get_or nodes' k 0 < 256) → ((k : ℕ) → get_or blocks' k 0 < 256)
+        → run_result (record { answer = answer'; count = count; byte_count = bytes; node_count = counts.nodes; block_count = counts.blocks })
+        (lending buffer' nodes' blocks') ≡ run_written (run_pulls card v path index wanted) lent
+    run_written_lem p q m n f g =
         let left = filled.walked in
         let value = left_value left in
         let both = left_counts left in
-        let ns = left_nodes left run_fits f in
-        let bs = left_blocks left run_fits g in
+        let ns = m ∙ left_nodes left run_fits (λ k. rw m at (f k)) in
+        let bs = n ∙ left_blocks left run_fits (λ k. rw n at (g k)) in
         let stand = ap (λ (o : Standing). o.stand) value in
-        let a = ap (λ (o : Standing). o.answer) value in
+        let a = p ∙ ap (λ (o : Standing). o.answer) value in
         let c = sym filled.many ∙ ap length stand in
         let l = filled.last ∙ ap last_count stand in
-        let w = filled.wrote ∙ ap (λ (s : List _). standing_over s lent.block) stand in
+        let w = q ∙ filled.wrote ∙ ap (λ (s : List _). standing_over s lent.block) stand in
         (λ i. record {
           numbers = record { answer = a i; count = c i; byte_count = l i; node_count = both.0 i; block_count = both.1 i };
           memory = record { block = w i; nodes = ns i; blocks = bs i };

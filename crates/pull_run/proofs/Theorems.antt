@@ -11,9 +11,7 @@ use lib.ListN.{length, take, drop, replicate, length-replicate}
 use lib.Seq.{drop-append-add}
 use Rattle.field.specs.Card.{card_of}
 use Rattle.checkpoint.specs.declared.Volume.{Volume}
-use Rattle.checkpoint.specs.declared.Opening.{Opening}
-use Rattle.checkpoint.specs.declared.Opening.TheVariants.{Opened, Refused}
-use Rattle.checkpoint.specs.Volume.{opened_image}
+use Rattle.checkpoint.specs.Volume.{Opening, Opened, Refused, opened_image}
 use Rattle.checkpoint.proofs.Inside.{refusals, image_volume}
 use Rattle.path.specs.Path.{part_count}
 use Rattle.list.specs.Lists.{union, AllOf, Rising, numbers, Listed, entries}

@@ -9,8 +9,7 @@ use borrow.Author.Tests.{le-leb}
 use Rattle.field.specs.Card.{Card, card_of}
 use Rattle.field.specs.Choice.{choose}
 use Rattle.checkpoint.specs.declared.Volume.{Volume}
-use Rattle.checkpoint.specs.declared.Opening.TheVariants.{Opened}
-use Rattle.checkpoint.specs.Volume.{opened_image}
+use Rattle.checkpoint.specs.Volume.{Opened, opened_image}
 use Rattle.inode.specs.declared.Inode.{Inode}
 use Rattle.inode.specs.Inode.{inode_of, is_regular, is_past, count_in}
 use Rattle.inode.proofs.Counting.{begins_inside}

@@ -3,21 +3,27 @@
 #![tactic(auto)]
 
 ghost use Rattle.std.specs.Prelude.{◌≡◌, true, ◌&&◌, ◌*◌, ◌/◌, ◌≤◌, eqb, leb};
-ghost use Rattle.field.specs.Card.{card_of};
-ghost use Rattle.checkpoint.specs.Volume.{VolumeIn};
-ghost use Rattle.walk.specs.Walk.{image_view, lists, none, Fits};
+ghost use Rattle.checkpoint.specs.OpenImage.{card_in};
+ghost use Rattle.walk.specs.Walk.{Fits};
+ghost use Rattle.walk.specs.Lent.{view_in, lent, SameLent};
 ghost use Rattle.node.specs.Node.{bounds_of};
 ghost use Rattle.path.specs.Path.{names_most, part_count, is_path};
 ghost use Rattle.pull.specs.Pull.{lending};
-ghost use Rattle.file_run.specs.Standing.{FilledAs};
+ghost use Rattle.file_run.specs.Standing.{ended, FilledAs};
 ghost use Rattle.file_run.specs.Walks.{RoomFor};
 ghost use Rattle.pull_run.specs.Walk.{run_walk};
 ghost use Rattle.pull_run.specs.Run.{wanted_most, run_nodes_most, run_blocks_most, run_in_shape, run_pulls, run_result};
 ghost use Rattle.pull_run.specs.Run.{run_written, run_pulled};
 
+use answer::{Refusal, Stop};
+use checkpoint::OpenImage;
+use file_run::BlockBuffer;
+use list::NumberList;
+use walk::SeenLists;
+
 // A run's numbers, as they cross to C: how many blocks stand, and the byte count of the last of them, with a refusal too.
 #[repr(C)]
-#[derive(Clone, Copy)]
+#[derive(Clone, Copy, Default)]
 pub struct Run {
     pub answer: u32,
     pub count: u32,
@@ -26,42 +32,25 @@ pub struct Run {
     pub block_count: u32,
 }
 
-// The walk of a run; the lists are still empty.
+// The walk of a run.
 fn fill_from_path(
-    image: &[u8],
-    v: checkpoint::Volume,
-    nodes: &mut [u8],
-    blocks: &mut [u8],
+    card: OpenImage,
+    seen: &mut SeenLists,
     path: &[u8],
     index: u32,
     wanted: u32,
-    buffer: &mut [u8],
-) -> file_run::Filled
-    requires fits { Fits (image_view image.now v) (run_walk (bounds_of v) path.now wanted index) (lists nodes.old blocks.old none) }
-    requires volume_in { VolumeIn (card_of image.now) v }
+    buffer: &mut BlockBuffer,
+) -> Result<(), Stop>
+    requires fits { Fits (view_in card) (run_walk (bounds_of card.volume) path.now wanted index) (lent seen.old) }
     requires room_for { RoomFor wanted buffer.old }
-    ensures { FilledAs (image_view image.now v) (run_walk (bounds_of v) path.now wanted index)
-        (lists nodes.old blocks.old none) result.answer result.count result.bytes
-        (lists nodes.new blocks.new result.counts) buffer.old buffer.new }
+    ensures filled { FilledAs (view_in card.entry) (run_walk (bounds_of card.entry.volume) path.now wanted index)
+        (lent seen.old) (ended result) buffer.new.count buffer.new.last
+        (lent seen.new) buffer.old.bytes.now buffer.new.bytes.now }
+    ensures same { SameLent seen.old seen.new }
+    ensures same_bytes { buffer.new.bytes.ghost_name ≡ buffer.old.bytes.ghost_name }
 {
-    let empty = walk::Counts {
-        nodes: 0,
-        blocks: 0,
-    };
-    let step = path_lookup::find_path(image, v, nodes, blocks, empty, path);
-    let entry = step.entry;
-    let listed = step.counts;
-    match entry {
-        directory::Entry::Stop(answer) => file_run::Filled {
-            answer,
-            count: 0,
-            bytes: 0,
-            counts: listed,
-        },
-        directory::Entry::Found(ino) => file_run::fill_of_file(
-            image, v, nodes, blocks, listed, ino, index, wanted, buffer,
-        ),
-    }
+    let ino = path_lookup::find_path(card, seen, path)?;
+    file_run::fill_of_file(card, seen, ino, index, wanted, buffer)
 }
 
 fn refused_run(answer: u32) -> Run
@@ -69,10 +58,7 @@ fn refused_run(answer: u32) -> Run
 {
     Run {
         answer,
-        count: 0,
-        byte_count: 0,
-        node_count: 0,
-        block_count: 0,
+        ..Run::default()
     }
 }
 
@@ -91,8 +77,7 @@ fn run_in_shape(k: usize, wanted: u32, buffer: usize, nodes: usize, blocks: usiz
 
 // A run from an opened card.
 fn run_opened(
-    image: &[u8],
-    v: checkpoint::Volume,
+    card: OpenImage,
     path: &[u8],
     index: u32,
     wanted: u32,
@@ -100,21 +85,39 @@ fn run_opened(
     nodes: &mut [u8],
     blocks: &mut [u8],
 ) -> Run
-    requires volume_in { VolumeIn (card_of image.now) v }
     requires path_value { is_path path.now ≡ true }
     requires blocks_value { run_in_shape (part_count path.now) wanted (lending buffer.old nodes.old blocks.old) ≡ true }
     ensures { run_result result (lending buffer.new nodes.new blocks.new)
-        ≡ run_written (run_pulls (card_of image.now) v path.now index wanted)
+        ≡ run_written (run_pulls (card_in card.entry) card.entry.volume path.now index wanted)
         (lending buffer.old nodes.old blocks.old) }
 {
-    let filled = fill_from_path(image, v, nodes, blocks, path, index, wanted, buffer);
-    let listed = filled.counts;
+    let mut nodes = NumberList {
+        bytes: nodes,
+        count: 0,
+    };
+    let mut blocks = NumberList {
+        bytes: blocks,
+        count: 0,
+    };
+    let mut seen = SeenLists {
+        nodes: &mut nodes,
+        blocks: &mut blocks,
+    };
+    let mut filled = BlockBuffer {
+        bytes: buffer,
+        count: 0,
+        last: 0,
+    };
+    let answer = match fill_from_path(card, &mut seen, path, index, wanted, &mut filled) {
+        Ok(()) => answer::DATA,
+        Err(stop) => stop.number(),
+    };
     Run {
-        answer: filled.answer,
+        answer,
         count: filled.count,
-        byte_count: filled.bytes,
-        node_count: listed.nodes as u32,
-        block_count: listed.blocks as u32,
+        byte_count: filled.last,
+        node_count: seen.nodes.count as u32,
+        block_count: seen.blocks.count as u32,
     }
 }
 
@@ -137,12 +140,10 @@ pub fn pull_run(
         & (k != 0)
         & run_in_shape(k, wanted, buffer.len(), nodes.len(), blocks.len()))
     {
-        return refused_run(answer::OUT_OF_SHAPE);
+        return refused_run(Refusal::OutOfShape.number());
     }
     match checkpoint::open(image) {
-        checkpoint::Opening::Refused(number) => refused_run(number),
-        checkpoint::Opening::Opened(v) => run_opened(
-            image, v, path, index, wanted, buffer, nodes, blocks,
-        ),
+        Ok(card) => run_opened(card, path, index, wanted, buffer, nodes, blocks),
+        Err(refusal) => refused_run(refusal.number()),
     }
 }

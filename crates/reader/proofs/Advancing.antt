@@ -8,9 +8,10 @@ use mathlib.Core.Logic.{◌⊎◌, ⊎_elim}
 use lib.ListN.{length, take}
 use lib.Dec.{eqb, ltb}
 use borrow.Author.Tests.{le-ltb, eqb-false}
+use Rattle.std.specs.Prelude.{Option, Some, None}
 use Rattle.field.specs.Choice.{choose}
 use Rattle.field.proofs.Choosing.{clash, needed, needed_le}
-use Rattle.list.specs.Lists.{Rising, insert, numbers}
+use Rattle.list.specs.Lists.{Rising, numbers}
 use Rattle.list.proofs.Rises.{rising_insert}
 use Rattle.list.proofs.Entries.{length_numbers}
 use Rattle.compare.specs.Lists.{is_rising}
@@ -19,17 +20,16 @@ use Rattle.walk.specs.Walk.{Seen}
 use Rattle.asking.specs.Pull.{fed_with}
 use Rattle.asking.specs.Table.{journal_in}
 use Rattle.asking.proofs.Driving.{goes_on_lem}
-use Rattle.ask_open.specs.declared.Keep.{Keep}
 use Rattle.ask_open.specs.declared.Keep.TheVariants as k
 use Rattle.ask_open.specs.Came.{first_after, second_after}
 use Rattle.reader_state.specs.declared.At.{At}
 use Rattle.reader_state.specs.declared.Decision.{Decision}
 use Rattle.reader_state.specs.Resume.{Memory, block_came, ending_by, resume_by}
-use Rattle.reader_state.specs.Decision.{refuses_at, noted, memory_after}
+use Rattle.ask_node.specs.Fetch.{looked_up}
+use Rattle.reader_state.specs.Decision.{refuses_at, read_then, noted, memory_after}
 use Rattle.reader_state.specs.Fits.{fits, WalkIn, StateIn, FitsBy, Quiet, Walks, Decided}
 use Rattle.reader.specs.declared.Reader.{Reader}
-use Rattle.reader.specs.Reading.{memory_in, seen_by, resume, sound_by, stepped, takes_first, takes_held, takes_second, refusal_on, GoesBy, Stepped}
-use Rattle.reader.proofs.Listing.{keeps_first, keeps_held}
+use Rattle.reader.specs.Reading.{memory_in, seen_by, resume, with_number, sound_by, stepped, refusal_on, GoesBy, Stepped}
 use Rattle.reader.proofs.Starting.{none_rise}
 use Rattle.reader.proofs.GivenStates.{asked_left}
 use Rattle.reader.proofs.Stepping.{refusal_stepped}
@@ -76,25 +76,23 @@ with_counts at n b =
       block_count = b;
     }
 
--- a list then, by whether a number is put in
-abbrev pub Put : Bool → ℕ → List ℕ → ℕ → List ℕ → ℕ → Type 0
-Put t x old count new n = numbers new 0 n ≡ choose t (insert x (numbers old 0 count)) (numbers old 0 count)
+-- a list then, with the number that is put in, if one is
+abbrev pub Put : Option ℕ → List ℕ → ℕ → List ℕ → ℕ → Type 0
+Put number old count new n = numbers new 0 n ≡ with_number number (numbers old 0 count)
 
-module _ (x : ℕ) (old : List ℕ) (count : ℕ) (new : List ℕ) (n : ℕ) where
-  put_same : {t : Bool} → t ≡ false → Put t x old count new n → n ≡ count
+module _ (old : List ℕ) (count : ℕ) (new : List ℕ) (n : ℕ) where
+  put_same : {number : Option ℕ} → number ≡ None → Put number old count new n → n ≡ count
   put_same e p =
-      let same = p ∙ ap (λ (t : Bool). choose t (insert x (numbers old 0 count)) (numbers old 0 count)) e in
+      let same = p ∙ ap (λ (t : Option ℕ). with_number t (numbers old 0 count)) e in
       sym (length_numbers new 0 n) ∙ ap length same ∙ length_numbers old 0 count
 
-  put_rises : (t : Bool) → Rising (numbers old 0 count) → Put t x old count new n → Rising (numbers new 0 n)
-  put_rises true r p = subst Rising (sym p) (rising_insert x (numbers old 0 count) r)
-  put_rises false r p = subst Rising (sym p) r
+  put_rises : (number : Option ℕ) → Rising (numbers old 0 count) → Put number old count new n → Rising (numbers new 0 n)
+  put_rises (Some x) r p = subst Rising (sym p) (rising_insert x (numbers old 0 count) r)
+  put_rises None r p = subst Rising (sym p) r
 
--- of the same list, under another name
-pub put_from : (t : Bool) (x : ℕ) {old kept : List ℕ} {count m : ℕ} (new : List ℕ) (n : ℕ) → kept ≡ old → m ≡ count → Put t x kept m new n
-    → Put t x old count new n
-put_from t x {kept = kept} {count = count} new n e f p =
-    subst (λ (l : List ℕ). Put t x l count new n) e (subst (λ (c : ℕ). Put t x kept c new n) f p)
+-- of the same list, under another count
+pub put_from : (number : Option ℕ) (old : List ℕ) {count m : ℕ} (new : List ℕ) (n : ℕ) → m ≡ count → Put number old m new n → Put number old count new n
+put_from number old new n f p = subst (λ (c : ℕ). Put number old c new n) f p
 
 pub rising_from : {old kept : List ℕ} {count m : ℕ} → kept ≡ old → m ≡ count → Rising (numbers old 0 count) → Rising (numbers kept 0 m)
 rising_from {old = old} {m = m} e f r = subst (λ (l : List ℕ). Rising (numbers l 0 m)) (sym e) (subst (λ (c : ℕ). Rising (numbers old 0 c)) (sym f) r)
@@ -125,8 +123,8 @@ walks_free at m n b w fit = go (eqb at.asks 0) refl fit
 -- ---- the step
 module _ (r : Reader) (bytes : List ℕ) (d : Decision) (e : Decided r.at (memory_in r) bytes d) (journal nodes blocks : List ℕ) (n b : ℕ)
     (j : journal ≡ choose d.journal (journal_in d.at.volume.journal_at bytes) r.journal)
-    (p : Put d.looked d.number r.nodes r.at.node_count nodes n)
-    (q : Put d.reads d.at.block r.blocks r.at.block_count blocks b) where
+    (p : Put d.looked r.nodes r.at.node_count nodes n)
+    (q : Put d.read r.blocks r.at.block_count blocks b) where
   abbrev pub advanced : Reader
   advanced =
       record {
@@ -144,24 +142,15 @@ module _ (r : Reader) (bytes : List ℕ) (d : Decision) (e : Decided r.at (memor
 
   seen_then : seen_by (with_counts d.at n b) nodes blocks ≡ noted d before
   unfolding before
-  seen_then = rw (p, q) (go d.looked d.reads)
+  seen_then = rw (p, q) (go d.looked d.read)
     where
-      go : (looked reads : Bool)
-          → ◌≡◌ {A = Seen}
-          (record {
-            nodes = choose looked (insert d.number before.nodes) before.nodes;
-            blocks = choose reads (insert d.at.block before.blocks) before.blocks;
-          })
-          (choose reads
-          (record {
-            nodes = (choose looked (record { nodes = insert d.number before.nodes; blocks = before.blocks }) before).nodes;
-            blocks = insert d.at.block (choose looked (record { nodes = insert d.number before.nodes; blocks = before.blocks }) before).blocks;
-          })
-          (choose looked (record { nodes = insert d.number before.nodes; blocks = before.blocks }) before))
-      go true true = refl
-      go true false = refl
-      go false true = refl
-      go false false = refl
+      go : (looked read : Option ℕ)
+          → ◌≡◌ {A = Seen} (record { nodes = with_number looked before.nodes; blocks = with_number read before.blocks })
+          (read_then read (looked_up looked before))
+      go (Some x) (Some y) = refl
+      go (Some x) None = refl
+      go None (Some y) = refl
+      go None None = refl
 
   abbrev after : Memory
   after = memory_after d (memory_in r) bytes
@@ -181,8 +170,8 @@ module _ (r : Reader) (bytes : List ℕ) (d : Decision) (e : Decided r.at (memor
     where
       quiet : Quiet d → FitsBy (eqb d.at.asks 0) (with_counts d.at n b) after
       quiet h =
-          let ns : n ≡ d.at.node_count = put_same _ _ _ nodes n h.0 p ∙ sym e.counts.0 in
-          let bs : b ≡ d.at.block_count = put_same _ _ _ blocks b h.1 q ∙ sym e.counts.1 in
+          let ns : n ≡ d.at.node_count = put_same _ _ nodes n h.0 p ∙ sym e.counts.0 in
+          let bs : b ≡ d.at.block_count = put_same _ _ blocks b h.1 q ∙ sym e.counts.1 in
           let same : with_counts d.at n b ≡ d.at = rw (ns, bs) in
           subst (λ (at : At). FitsBy (eqb d.at.asks 0) at after) (sym same) e.fit
 
@@ -199,8 +188,8 @@ module _ (r : Reader) (bytes : List ℕ) (d : Decision) (e : Decided r.at (memor
           fit = fit_then;
           path = rw e.path k.path;
           form = e.form;
-          nodes_rise = put_rises _ _ _ nodes n d.looked k.nodes_rise p;
-          blocks_rise = put_rises _ _ _ blocks b d.reads k.blocks_rise q;
+          nodes_rise = put_rises _ _ nodes n d.looked k.nodes_rise p;
+          blocks_rise = put_rises _ _ blocks b d.read k.blocks_rise q;
         };
         path = ap (λ (len : ℕ). take len r.path) e.path;
         repeats = λ z. absurd (more z);
@@ -209,14 +198,8 @@ module _ (r : Reader) (bytes : List ℕ) (d : Decision) (e : Decided r.at (memor
 -- ---- what a step leaves, whatever was decided
 module _ (r : Reader) (bytes : List ℕ) (d : Decision) (goes : GoesBy r.at (memory_in r) r.nodes r.blocks bytes d) where
   -- so that a block is kept, and the journal, only if one came
-  kept_whole : (t : Keep → Bool) → t k.Nothing ≡ false → t d.keep ≡ true → length bytes ≡ 4096
-  kept_whole t none takes = ⊎_elim (λ h. h.1) (λ h. absurd (clash takes (ap t (ap (λ (x : Decision). x.keep) h.0) ∙ none))) goes
-
-  pub first_whole : takes_first d.keep ≡ true → length bytes ≡ 4096
-  first_whole = kept_whole takes_first refl
-
-  pub held_whole : takes_held d.keep ≡ true → length bytes ≡ 4096
-  held_whole = kept_whole takes_held refl
+  pub kept_whole : (d.keep ≡ k.Nothing → ⊥) → length bytes ≡ 4096
+  kept_whole keeps = ⊎_elim (λ h. h.1) (λ h. absurd (keeps (ap (λ (x : Decision). x.keep) h.0))) goes
 
   pub journal_whole : d.journal ≡ true → (length bytes ≡ 4096) × (d.at.volume.journal_at ≤ 3584)
   journal_whole keeps =
@@ -254,11 +237,11 @@ module _ (r : Reader) (bytes : List ℕ) (d : Decision) (goes : GoesBy r.at (mem
       refuses h = let none = ap (λ (x : Decision). x.at.block_count) h.0 in (omega arith, none_rise r.blocks none)
 
   module _ (first block journal nodes blocks : List ℕ) (n b : ℕ)
-      (f : first ≡ choose (takes_first d.keep) bytes (choose (takes_second d.keep) r.held r.first))
-      (h : block ≡ choose (takes_held d.keep) bytes r.held)
+      (f : first ≡ first_after d.keep r.first r.held bytes)
+      (h : block ≡ second_after d.keep r.held bytes)
       (j : journal ≡ choose d.journal (journal_in d.at.volume.journal_at bytes) r.journal)
-      (p : Put d.looked d.number r.nodes d.at.node_count nodes n)
-      (q : Put d.reads d.at.block r.blocks d.at.block_count blocks b) where
+      (p : Put d.looked r.nodes d.at.node_count nodes n)
+      (q : Put d.read r.blocks d.at.block_count blocks b) where
     abbrev left : List ℕ → List ℕ → Reader
     left x y = record { at = with_counts d.at n b; path = r.path; first = x; held = y; journal = journal; nodes = nodes; blocks = blocks }
 
@@ -268,18 +251,16 @@ module _ (r : Reader) (bytes : List ℕ) (d : Decision) (goes : GoesBy r.at (mem
         sound : GoesOn → Stepped r bytes (left first block)
         sound g =
             let e = g.2 in
-            let u = put_from d.looked d.number nodes n refl e.counts.0 p in
-            let v = put_from d.reads d.at.block blocks b refl e.counts.1 q in
-            let x = f ∙ keeps_first d.keep r.first r.held bytes in
-            let y = h ∙ keeps_held d.keep r.held bytes in
+            let u = put_from d.looked r.nodes nodes n e.counts.0 p in
+            let v = put_from d.read r.blocks blocks b e.counts.1 q in
             let whole = advance_stepped r bytes d e journal nodes blocks n b j u v more g.0 g.1 in
-            subst (λ (a : List ℕ). Stepped r bytes (left a block)) (sym x)
-            (subst (λ (a : List ℕ). Stepped r bytes (left (first_after d.keep r.first r.held bytes) a)) (sym y) whole)
+            subst (λ (a : List ℕ). Stepped r bytes (left a block)) (sym f)
+            (subst (λ (a : List ℕ). Stepped r bytes (left (first_after d.keep r.first r.held bytes) a)) (sym h) whole)
 
         refuses : Refuses → Stepped r bytes (left first block)
         refuses g =
             let at = ap (λ (x : Decision). x.at) g.0 in
-            let ns : n ≡ 0 = put_same _ _ _ nodes n (ap (λ (x : Decision). x.looked) g.0) p ∙ ap (λ (a : At). a.node_count) at in
-            let bs : b ≡ 0 = put_same _ _ _ blocks b (ap (λ (x : Decision). x.reads) g.0) q ∙ ap (λ (a : At). a.block_count) at in
+            let ns : n ≡ 0 = put_same _ _ nodes n (ap (λ (x : Decision). x.looked) g.0) p ∙ ap (λ (a : At). a.node_count) at in
+            let bs : b ≡ 0 = put_same _ _ blocks b (ap (λ (x : Decision). x.read) g.0) q ∙ ap (λ (a : At). a.block_count) at in
             let numbers : with_counts d.at n b ≡ refuses_at r.at 4 = ap (λ (a : At). with_counts a n b) at ∙ rw (ns, bs) in
             refusal_stepped r bytes (left first block) numbers refl more g.1

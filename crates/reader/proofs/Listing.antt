@@ -1,18 +1,15 @@
 -- A list with room for one number more: what an insertion asks and leaves. And bytes that were copied over others.
 use Prim.Native.Nat.{ℕ, ◌+◌, ◌*◌, ◌≤◌}
 use native.Mathlib.Omega.{arith}
-use mathlib.Core.Path.{◌≡◌, refl, sym, ap, ◌∙◌}
+use mathlib.Core.Path.{◌≡◌, sym, ap, ◌∙◌}
 use mathlib.Core.List.{List, ◌++◌, append-nil}
 use lib.ListN.{length, take, drop, length-append, length-drop, drop_of_length-le}
 use lib.Seq.{take-append_seam}
-use Rattle.ask_open.specs.declared.Keep.{Keep}
-use Rattle.ask_open.specs.declared.Keep.TheVariants as k
-use Rattle.field.specs.Choice.{choose}
-use Rattle.ask_open.specs.Came.{first_after, second_after}
-use Rattle.reader.specs.Reading.{takes_first, takes_held, takes_second}
+use Rattle.std.specs.Prelude.{Option, Some}
 use Rattle.list.specs.Lists.{Rising, numbers, Holds, HasInserted}
 use Rattle.list.proofs.Rises.{length_insert}
 use Rattle.list.proofs.Entries.{length_numbers}
+use Rattle.reader.specs.Reading.{with_number}
 
 module _ (l : List ℕ) (n x : ℕ) where
   pub one_more : Rising (numbers l 0 n) → 4 * (n + 1) ≤ length l → Holds x l n
@@ -28,6 +25,10 @@ module _ (l : List ℕ) (n x : ℕ) where
       let c = sym (length_numbers m 0 k) ∙ ap length h.list in
       omega arith
 
+  pub number_listed : {m now : List ℕ} {k : ℕ} {number : Option ℕ} → HasInserted l n x m k → number ≡ Some x → now ≡ m
+      → numbers now 0 k ≡ with_number number (numbers l 0 n)
+  number_listed h e f = rw (f, e) h.list
+
 -- all of it, where they have one length
 pub copied_whole : (src old : List ℕ) {new : List ℕ} → length old ≡ length src → new ≡ src ++ drop (length src) old → new ≡ src
 copied_whole src old e p = p ∙ rw (drop_of_length-le old {i = length src} (omega arith), append-nil)
@@ -42,17 +43,3 @@ module _ (src old : List ℕ) {new : List ℕ} (room : length src ≤ length old
       let a = ap length p ∙ length-append src (drop (length src) old) in
       let b = length-drop (length src) old in
       omega arith
-
--- ---- which blocks are kept
-pub keeps_first : (keep : Keep) (first block bytes : List ℕ)
-    → choose (takes_first keep) bytes (choose (takes_second keep) block first) ≡ first_after keep first block bytes
-keeps_first k.Nothing first block bytes = refl
-keeps_first k.First first block bytes = refl
-keeps_first k.Second first block bytes = refl
-keeps_first k.SecondAsFirst first block bytes = refl
-
-pub keeps_held : (keep : Keep) (block bytes : List ℕ) → choose (takes_held keep) bytes block ≡ second_after keep block bytes
-keeps_held k.Nothing block bytes = refl
-keeps_held k.First block bytes = refl
-keeps_held k.Second block bytes = refl
-keeps_held k.SecondAsFirst block bytes = refl

@@ -1,7 +1,7 @@
 -- A reader that is fed one block at a time: what its state means.
-use Rattle.std.specs.Prelude.{ℕ, ◌≤◌, ◌≡◌, Bool, true, false, ◌&&◌, ◌||◌, List, ◌⊎◌, length, eqb, leb}
+use Rattle.std.specs.Prelude.{ℕ, ◌≤◌, ◌≡◌, Bool, true, false, ◌&&◌, ◌||◌, List, ◌⊎◌, length, eqb, leb, Option, Some, None}
 use Rattle.field.specs.Choice.{choose}
-use Rattle.list.specs.Lists.{Rising, numbers}
+use Rattle.list.specs.Lists.{Rising, insert, numbers}
 use Rattle.compare.specs.Lists.{is_rising}
 use Rattle.walk.specs.Walk.{Seen}
 use Rattle.pull.specs.Pull.{nodes_most, blocks_most}
@@ -9,7 +9,6 @@ use Rattle.asking.specs.Asking.{Asking, answer}
 use Rattle.asking.specs.Pull.{Ending, refused, start_in_shape, read_ask, fed_with}
 use Rattle.reader_state.specs.declared.At.{At}
 use Rattle.reader_state.specs.Resume.{Memory, memory, path_in, resume_by}
-use Rattle.ask_open.specs.declared.Keep.{Keep}
 use Rattle.ask_open.specs.declared.Keep.TheVariants as k
 use Rattle.reader_state.specs.declared.Decision.{Decision}
 use Rattle.reader_state.specs.Decision.{refuses_at}
@@ -74,28 +73,14 @@ pub record Stepped (r : Reader) (bytes : List ℕ) (t : Reader) : Type 0 where
 
 -- ---- what a step does, decided first
 
--- which of the two blocks is replaced, and by what: `first` or `held` by the block that came, or `first` by `held`
-abbrev pub takes_first : Keep → Bool
-takes_first k.Nothing = false
-takes_first k.First = true
-takes_first k.Second = false
-takes_first k.SecondAsFirst = false
-
-abbrev pub takes_held : Keep → Bool
-takes_held k.Nothing = false
-takes_held k.First = false
-takes_held k.Second = true
-takes_held k.SecondAsFirst = false
-
-abbrev pub takes_second : Keep → Bool
-takes_second k.Nothing = false
-takes_second k.First = false
-takes_second k.Second = false
-takes_second k.SecondAsFirst = true
+-- a list with a number more, if there is one to list
+abbrev pub with_number : Option ℕ → List ℕ → List ℕ
+with_number (Some x) l = insert x l
+with_number None l = l
 
 -- 4: nothing is kept or listed
 abbrev pub refusal_on : At → Decision
-refusal_on at = record { at = refuses_at at 4; keep = k.Nothing; journal = false; looked = false; number = 0; reads = false }
+refusal_on at = record { at = refuses_at at 4; keep = k.Nothing; journal = false; looked = None; read = None }
 
 -- from a state that fits a block leads on, and all else to 4
 abbrev pub GoesBy : At → Memory → List ℕ → List ℕ → List ℕ → Decision → Type 0

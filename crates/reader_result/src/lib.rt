@@ -8,12 +8,16 @@ ghost use Rattle.path.specs.Path.{name_count};
 ghost use Rattle.pull.specs.Pull.{lending, result_in};
 ghost use Rattle.reader_result.specs.Result.{start_by, answer_fits, list_fits, counts_fit_in, answer_by, count_by, numbers_of, bytes_by, read_out};
 
-fn names_in(path: &[u8; 2048], length: u32) -> usize
-    requires { length ≤ 2048 }
-    ensures { result ≡ name_count (take length path.now) }
+use answer::Refusal;
+use pull::Pulled;
+use reader::Reader;
+use reader_state::At;
+
+fn names_in(path: &[u8; 2048], end: u32) -> usize
+    requires { end ≤ 2048 }
+    ensures { result ≡ name_count (take end path.now) }
 {
-    let bytes: &[u8] = path;
-    path::name_count(&bytes[..length as usize])
+    path::name_count(&path[..end as usize])
 }
 
 // Where the answer's bytes start in the block that is held.
@@ -42,7 +46,8 @@ fn answer_fits(stage: u32, answer: u32) -> bool
     (1 < stage) | (answer <= 14)
 }
 
-fn counts_fit(at: reader_state::At, nodes: usize, blocks: usize) -> bool
+#[tactic(auto, unfolding(crate::specs::Result::counts_fit_in))]
+fn counts_fit(at: At, nodes: usize, blocks: usize) -> bool
     ensures { result ≡ counts_fit_in at nodes blocks }
 {
     list_fits(at.node_count, 1404, nodes)
@@ -59,20 +64,7 @@ fn copy_list(from: &[u8], count: u32, into: &mut [u8])
     buffer::put_bytes(into, 0, &from[..end]);
 }
 
-fn copy_nodes(from: &[u8; 5620], count: u32, into: &mut [u8])
-    requires { (count ≤ 1404) × (4 * count ≤ length into.old) }
-    ensures { into.new ≡ over (numbers from.now 0 count) into.old }
-{
-    copy_list(from, count, into);
-}
-
-fn copy_blocks(from: &[u8; 7480], count: u32, into: &mut [u8])
-    requires { (count ≤ 1869) × (4 * count ≤ length into.old) }
-    ensures { into.new ≡ over (numbers from.now 0 count) into.old }
-{
-    copy_list(from, count, into);
-}
-
+// The answer's number, by its kind, which crosses to C as a number.
 fn answer_by(stage: u32, answer: u32) -> u32
     ensures { result ≡ answer_by stage answer }
 {
@@ -90,10 +82,10 @@ fn count_by(stage: u32, count: u32) -> u32
 }
 
 // The answer's numbers.
-fn numbers_of(at: reader_state::At) -> pull::Pulled
+fn numbers_of(at: At) -> Pulled
     ensures { result ≡ numbers_of at }
 {
-    pull::Pulled {
+    Pulled {
         answer: answer_by(at.stage, at.answer),
         byte_count: count_by(at.stage, at.byte_count),
         node_count: at.node_count,
@@ -101,7 +93,7 @@ fn numbers_of(at: reader_state::At) -> pull::Pulled
     }
 }
 
-// Its bytes: none, zeros, or those of the block that is held.
+// Its bytes, by the same number: none, zeros, or those of the block that is held.
 fn put_answer(stage: u32, count: u32, held: &[u8; 4096], block: &mut [u8])
     requires { (length block.old ≡ 4096) × (count + start_by stage ≤ 4096) }
     ensures { block.new ≡ bytes_by stage count held.now block.old }
@@ -114,31 +106,25 @@ fn put_answer(stage: u32, count: u32, held: &[u8; 4096], block: &mut [u8])
 }
 
 // What a pull gives, once the answer is there.
-pub fn read_out(
-    r: reader::Reader,
-    block: &mut [u8],
-    nodes: &mut [u8],
-    blocks: &mut [u8],
-) -> pull::Pulled
+pub fn read_out(r: Reader, block: &mut [u8], nodes: &mut [u8], blocks: &mut [u8]) -> Pulled
     ensures { result_in result (lending block.new nodes.new blocks.new)
         ≡ read_out r (lending block.old nodes.old blocks.old) }
 {
-    let t = r;
-    let at = t.at;
+    let at = r.at;
     if !((at.asks == 0) & (at.path_length <= 2048)) {
-        return pull::refused_pull(answer::OUT_OF_SHAPE);
+        return pull::refused_pull(Refusal::OutOfShape.number());
     }
-    let k = names_in(&t.path, at.path_length);
+    let k = names_in(&r.path, at.path_length);
     if !(pull::lent_in_shape(k, block.len(), nodes.len(), blocks.len())
         & counts_fit(at, nodes.len(), blocks.len()))
     {
-        return pull::refused_pull(answer::OUT_OF_SHAPE);
+        return pull::refused_pull(Refusal::OutOfShape.number());
     }
     if at.stage == 0 {
         return pull::refused_pull(at.answer);
     }
-    put_answer(at.stage, at.byte_count, &t.held, block);
-    copy_nodes(&t.nodes, at.node_count, nodes);
-    copy_blocks(&t.blocks, at.block_count, blocks);
+    put_answer(at.stage, at.byte_count, &r.held, block);
+    copy_list(&r.nodes, at.node_count, nodes);
+    copy_list(&r.blocks, at.block_count, blocks);
     numbers_of(at)
 }

@@ -7,9 +7,8 @@ use mathlib.Core.Bool.{Bool, true}
 use mathlib.Core.Logic.{inl, inr}
 use mathlib.Core.List.{List}
 use lib.Dec.{eqb}
-use Rattle.field.specs.Choice.{choose}
 use Rattle.checkpoint.specs.declared.Volume.{Volume}
-use Rattle.walk.specs.Walk.{Seen, saw_block}
+use Rattle.walk.specs.Walk.{Seen}
 use Rattle.asking.specs.Table.{keeping, KeptIn}
 use Rattle.ask_node.specs.Wants.{wanting}
 use Rattle.ask_directory.specs.declared.Spot.{Spot}
@@ -21,19 +20,19 @@ use Rattle.ask_directory.specs.Move.{goes_by, moved, GoesIn, MoveIn}
 use Rattle.ask_open.specs.declared.Keep.{Keep}
 use Rattle.reader_state.specs.declared.At.{At}
 use Rattle.reader_state.specs.Resume.{Memory, path_in, question_in, block_came, ending_by, resume_by}
-use Rattle.reader_state.specs.Decision.{goes_at, reads_block, memory_after, walk_on}
+use Rattle.reader_state.specs.Decision.{goes_at, block_read, read_then, memory_after, walk_on}
 use Rattle.reader_state.specs.Fits.{Sized, FitsBy, Form, Walks, Decided}
 
 -- ---- what is left
 module _ (at : At) (m : Memory) (s : Seen) (n : Target) (p : Spot) where
   goes_moved : (goes : Goes)
-      → resume_by (goes_at at n p goes) m (choose (reads_block goes) (saw_block (goes_at at n p goes).block s) s)
+      → resume_by (goes_at at n p goes) m (read_then (block_read goes) s)
       ≡ goes_by (question_in at m) m.held n p s goes
   unfolding resume_by block_came ending_by goes_by wanting
   goes_moved (Table b) = refl
   goes_moved (Node b table_inode) = refl
   goes_moved (Data b) = refl
-  goes_moved (Stop number) = refl
+  goes_moved (Stop reason) = refl
   goes_moved (Empty count) = refl
   goes_moved (Full count) = refl
   goes_moved (Inline count) = refl
@@ -44,7 +43,7 @@ module _ (at : At) (n : Target) (p : Spot) where
   goes_volume (Table b) = refl
   goes_volume (Node b table_inode) = refl
   goes_volume (Data b) = refl
-  goes_volume (Stop number) = refl
+  goes_volume (Stop reason) = refl
   goes_volume (Empty count) = refl
   goes_volume (Full count) = refl
   goes_volume (Inline count) = refl
@@ -53,7 +52,7 @@ module _ (at : At) (n : Target) (p : Spot) where
   goes_path (Table b) = refl
   goes_path (Node b table_inode) = refl
   goes_path (Data b) = refl
-  goes_path (Stop number) = refl
+  goes_path (Stop reason) = refl
   goes_path (Empty count) = refl
   goes_path (Full count) = refl
   goes_path (Inline count) = refl
@@ -62,7 +61,7 @@ module _ (at : At) (n : Target) (p : Spot) where
   goes_counts (Table b) = (refl, refl)
   goes_counts (Node b table_inode) = (refl, refl)
   goes_counts (Data b) = (refl, refl)
-  goes_counts (Stop number) = (refl, refl)
+  goes_counts (Stop reason) = (refl, refl)
   goes_counts (Empty count) = (refl, refl)
   goes_counts (Full count) = (refl, refl)
   goes_counts (Inline count) = (refl, refl)
@@ -71,7 +70,7 @@ module _ (at : At) (n : Target) (p : Spot) where
   goes_walks (Table b) = (λ e. absurd (omega arith), λ more. omega arith)
   goes_walks (Node b table_inode) = (λ e. absurd (omega arith), λ more. omega arith)
   goes_walks (Data b) = (λ e. absurd (omega arith), λ more. omega arith)
-  goes_walks (Stop number) = (λ e. absurd (omega arith), λ more. absurd (more refl))
+  goes_walks (Stop reason) = (λ e. absurd (omega arith), λ more. absurd (more refl))
   goes_walks (Empty count) = (λ e. absurd (omega arith), λ more. absurd (more refl))
   goes_walks (Full count) = (λ e. absurd (omega arith), λ more. absurd (more refl))
   goes_walks (Inline count) = (λ e. absurd (omega arith), λ more. absurd (more refl))
@@ -80,7 +79,7 @@ module _ (at : At) (n : Target) (p : Spot) where
   goes_form (Table b) = inr refl
   goes_form (Node b table_inode) = inr refl
   goes_form (Data b) = inr refl
-  goes_form (Stop number) = inl (refl, refl)
+  goes_form (Stop reason) = inl (refl, refl)
   goes_form (Empty count) = inl (refl, refl)
   goes_form (Full count) = inl (refl, refl)
   goes_form (Inline count) = inl (refl, refl)
@@ -102,7 +101,7 @@ module _ (at : At) (m : Memory) (h : Walking at m) (n : Target) (p : Spot) where
   goes_fits (Table b) known = record { sized = h.sized; path = h.path; state = (h.kept, h.packs, known) }
   goes_fits (Node b table_inode) known = record { sized = h.sized; path = h.path; state = (h.kept, h.packs, known) }
   goes_fits (Data b) known = record { sized = h.sized; path = h.path; state = (h.kept, h.packs, known) }
-  goes_fits (Stop number) known = record { bytes = omega arith; counts = λ e. absurd (omega arith) }
+  goes_fits (Stop reason) known = record { bytes = omega arith; counts = λ e. absurd (omega arith) }
   goes_fits (Empty count) known = record { bytes = omega arith; counts = λ e. absurd (omega arith) }
   goes_fits (Full count) known = record { bytes = omega arith; counts = λ e. absurd (omega arith) }
   goes_fits (Inline count) known = record { bytes = known; counts = λ e. absurd (omega arith) }

@@ -9,6 +9,7 @@ use lib.ListN.{length, drop, length-drop}
 use lib.Seq.{length-take-le, get_or-take}
 use lib.Dec.{eqb, ltb}
 use borrow.Author.Tests.{lt-ltb, leb-true}
+use Rattle.answer.specs.Number.{refusal_number}
 use Rattle.field.specs.Number.{le16}
 use Rattle.field.proofs.Choosing.{clash}
 use Rattle.walk.specs.Walk.{Seen}
@@ -45,7 +46,7 @@ module _ (at : At) (m : Memory) (s : Seen) (v : Volume) (b : ℕ) where
   stage_opened (TwoLast false) = refl
   stage_opened (TwoLast true) = refl
   stage_opened Journal = refl
-  stage_opened (Refused n) = refl
+  stage_opened (Refused refusal) = refl
 
 -- ---- the stages by their numbers
 
@@ -104,7 +105,7 @@ module _ (at : At) (m : Memory) (counts : NoCounts at) (sized : Sized m) (path :
   stage_fits (TwoLast false) h = in_stage 6 refl h
   stage_fits (TwoLast true) h = in_stage 7 refl h
   stage_fits Journal h = in_stage 8 refl h
-  stage_fits (Refused n) h = refused_in at n
+  stage_fits (Refused refusal) h = refused_in at (refusal_number refusal)
 
 stage_counts : (at : At) (v : Volume) (b : ℕ) → NoCounts at → (stage : Stage)
     → ((opens_at at v b stage).node_count ≡ at.node_count) × ((opens_at at v b stage).block_count ≡ at.block_count)
@@ -115,7 +116,7 @@ stage_counts at v b h OneLast = (refl, refl)
 stage_counts at v b h (TwoFirst passed) = (refl, refl)
 stage_counts at v b h (TwoLast passed) = (refl, refl)
 stage_counts at v b h Journal = (refl, refl)
-stage_counts at v b h (Refused n) = refused_counts at n h
+stage_counts at v b h (Refused refusal) = refused_counts at (refusal_number refusal) h
 
 stage_path : (at : At) (v : Volume) (b : ℕ) (stage : Stage) → (opens_at at v b stage).path_length ≡ at.path_length
 stage_path at v b FirstCopy = refl
@@ -125,7 +126,7 @@ stage_path at v b OneLast = refl
 stage_path at v b (TwoFirst passed) = refl
 stage_path at v b (TwoLast passed) = refl
 stage_path at v b Journal = refl
-stage_path at v b (Refused n) = refl
+stage_path at v b (Refused refusal) = refl
 
 stage_form : (at : At) (v : Volume) (b : ℕ) (stage : Stage) → Form (opens_at at v b stage)
 stage_form at v b FirstCopy = inr refl
@@ -135,7 +136,7 @@ stage_form at v b OneLast = inr refl
 stage_form at v b (TwoFirst passed) = inr refl
 stage_form at v b (TwoLast passed) = inr refl
 stage_form at v b Journal = inr refl
-stage_form at v b (Refused n) = inl (refl, refl)
+stage_form at v b (Refused refusal) = inl (refl, refl)
 
 -- ---- a block of opening came
 module _ (at : At) (m : Memory) (bytes : List ℕ) (fit : Fits at m) (l : at.stage < 9) (whole : length bytes ≡ 4096) where

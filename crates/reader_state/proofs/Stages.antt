@@ -71,7 +71,7 @@ module _ (at : At) (m : Memory) (fit : Fits at m) (walk : 9 ≤ at.stage) where
     node_in h (Table b) n = absurd n
     node_in h (Node b table_inode) n = h
     node_in h (Data b) n = absurd n
-    node_in h (Stop number) n = tt
+    node_in h (Stop reason) n = tt
     node_in h (Empty count) n = absurd n
     node_in h (Full count) n = absurd n
     node_in h (Inline count) n = absurd n

@@ -1,5 +1,6 @@
 -- What a reader does with the block that came: its numbers then, which bytes it keeps, and what it lists.
-use Rattle.std.specs.Prelude.{ℕ, ◌≡◌, Bool, true, false, List}
+use Rattle.std.specs.Prelude.{ℕ, ◌≡◌, Bool, false, List, Option, Some, None}
+use Rattle.answer.specs.Number.{refusal_number, stop_number}
 use Rattle.field.specs.Choice.{choose}
 use Rattle.walk.specs.Walk.{Seen, saw_block}
 use Rattle.asking.specs.Table.{journal_in}
@@ -94,13 +95,13 @@ opens_at at v b st.OneLast = opens_in at v b 3
 opens_at at v b (st.TwoFirst passed) = opens_in at v b (choose passed 5 4)
 opens_at at v b (st.TwoLast passed) = opens_in at v b (choose passed 7 6)
 opens_at at v b st.Journal = opens_in at v b 8
-opens_at at v b (st.Refused n) = refuses_at at n
+opens_at at v b (st.Refused refusal) = refuses_at at (refusal_number refusal)
 
 abbrev pub goes_at : At → Target → Spot → Goes → At
 goes_at at n p (g.Table b) = asks_at at at.volume n 0 p 9 b
 goes_at at n p (g.Node b table_inode) = asks_at at at.volume n table_inode p 10 b
 goes_at at n p (g.Data b) = asks_at at at.volume n 0 p 11 b
-goes_at at n p (g.Stop number) = ends_at at 1 number 0
+goes_at at n p (g.Stop reason) = ends_at at 1 (stop_number reason) 0
 goes_at at n p (g.Empty count) = ends_at at 2 1 count
 goes_at at n p (g.Full count) = ends_at at 3 0 count
 goes_at at n p (g.Inline count) = ends_at at 4 0 count
@@ -118,17 +119,21 @@ pub record StartsAt (blocks i length : ℕ) (at : At) : Type 0 where
 
 -- ---- the lists: a node that was looked up, and a block that the walk reads, which is listed when it is asked for
 
-abbrev pub reads_block : Goes → Bool
-reads_block (g.Table b) = false
-reads_block (g.Node b table_inode) = true
-reads_block (g.Data b) = true
-reads_block (g.Stop number) = false
-reads_block (g.Empty count) = false
-reads_block (g.Full count) = false
-reads_block (g.Inline count) = false
+abbrev pub block_read : Goes → Option ℕ
+block_read (g.Table b) = None
+block_read (g.Node b table_inode) = Some b
+block_read (g.Data b) = Some b
+block_read (g.Stop reason) = None
+block_read (g.Empty count) = None
+block_read (g.Full count) = None
+block_read (g.Inline count) = None
+
+abbrev pub read_then : Option ℕ → Seen → Seen
+read_then (Some block) s = saw_block block s
+read_then None s = s
 
 abbrev pub noted : Decision → Seen → Seen
-noted d s = choose d.reads (saw_block d.at.block (looked_up d.looked d.number s)) (looked_up d.looked d.number s)
+noted d s = read_then d.read (looked_up d.looked s)
 
 -- ---- the bytes
 
@@ -150,14 +155,13 @@ open_on at o =
       at = opens_at at o.volume o.block o.stage;
       keep = o.keep;
       journal = false;
-      looked = false;
-      number = 0;
-      reads = false;
+      looked = None;
+      read = None;
     }
 
 -- the journal can't be searched
 abbrev pub refuse_on : At → Decision
-refuse_on at = record { at = refuses_at at 8; keep = k.Nothing; journal = false; looked = false; number = 0; reads = false }
+refuse_on at = record { at = refuses_at at 8; keep = k.Nothing; journal = false; looked = None; read = None }
 
 -- where the walk goes
 abbrev pub walk_on : At → Move → Keep → Bool → Decision
@@ -167,6 +171,5 @@ walk_on at mv keep journal =
       keep = keep;
       journal = journal;
       looked = mv.looked;
-      number = mv.target.number;
-      reads = reads_block mv.goes;
+      read = block_read mv.goes;
     }

@@ -1,6 +1,6 @@
 -- What holds of the numbers and bytes of each state that the start or a step gave, and the test of it: by it no state, whatever it holds, leads
 -- out of what was lent.
-use Rattle.std.specs.Prelude.{ℕ, ◌+◌, ◌*◌, ◌%◌, ◌≤◌, ◌<◌, ◌≡◌, Bool, true, false, not, ◌&&◌, ◌||◌, List, ◌⊎◌, length, eqb, leb, ltb}
+use Rattle.std.specs.Prelude.{ℕ, ◌+◌, ◌*◌, ◌%◌, ◌≤◌, ◌<◌, ◌≡◌, Bool, true, false, not, ◌&&◌, ◌||◌, List, ◌⊎◌, length, eqb, leb, ltb, None}
 use Rattle.field.specs.Number.{le16}
 use Rattle.field.specs.Choice.{choose}
 use Rattle.superblock.specs.declared.Areas.{Areas}
@@ -103,7 +103,7 @@ Form at = ((at.asks ≡ 0) × (at.block ≡ 0)) ⊎ (at.asks ≡ 1)
 
 -- only the walk lists
 abbrev pub Quiet : Decision → Type 0
-Quiet d = (d.looked ≡ false) × (d.reads ≡ false)
+Quiet d = (d.looked ≡ None) × (d.read ≡ None)
 
 abbrev pub Walks : At → Type 0
 Walks at = (at.stage ≡ 0 → ⊥) × ((at.asks ≡ 0 → ⊥) → 9 ≤ at.stage)

@@ -1,3 +1,4 @@
 pub mod Resume
 pub mod Decision
 pub mod Fits
+pub mod State

@@ -6,7 +6,7 @@ use Rattle.field.specs.Number.{le16, le32, le64}
 use Rattle.field.specs.Map.{low_bit, zeros_from}
 use Rattle.field.specs.Bytes.{same_at}
 use Rattle.list.specs.Lists.{bytes_of, insert}
-use Rattle.nat.specs.declared.TableAnswer.TheVariants.{OutOfRange, Entry}
+use Rattle.nat.specs.Table.{OutOfRange, Entry}
 use Rattle.walk.specs.Walk.{empty, run, bind, onward, and_then, Outcome, ok, stop}
 use Rattle.inode.specs.Inode.{inode_of, has_inline_data, has_inline_dentry, has_extra_attr, data_room, dentry_room, is_directory, is_regular}
 use Rattle.inode.specs.Inode.{addresses_in, is_past, count_in}

@@ -7,7 +7,7 @@ use Rattle.field.specs.Number.{le16, le32, le64}
 use Rattle.field.specs.Map.{low_bit}
 use Rattle.field.specs.Bytes.{same_at}
 use Rattle.list.specs.Lists.{bytes_of, insert}
-use Rattle.nat.specs.declared.TableAnswer.TheVariants.{Entry}
+use Rattle.nat.specs.Table.{Entry}
 use Rattle.walk.specs.Walk.{run, bind, onward, and_then}
 use Rattle.inode.specs.Inode.{inode_of, has_inline_data, has_inline_dentry, has_extra_attr, data_room, is_directory, is_regular}
 use Rattle.inode.specs.Inode.{addresses_in, is_past, count_in}

@@ -9,8 +9,7 @@ use Rattle.field.specs.Choice.{choose}
 use Rattle.list.specs.Lists.{bytes_of, over}
 use Rattle.superblock.specs.declared.Areas.{Areas}
 use Rattle.checkpoint.specs.declared.Volume.{Volume}
-use Rattle.checkpoint.specs.declared.Opening.{Opening}
-use Rattle.checkpoint.specs.declared.Opening.TheVariants.{Opened, Refused}
+use Rattle.checkpoint.specs.Volume.{Opening, Opened, Refused}
 use Rattle.journal.specs.Journal.{search_from, journal_find}
 use Rattle.sit.specs.Entry.{valid_count, ones_below, map_ones}
 use Rattle.sit.specs.Table.{sit_journal_of, table_block, table_address, in_table, sit_entry}

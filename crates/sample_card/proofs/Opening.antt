@@ -4,15 +4,13 @@ use mathlib.Core.Bool.{true, false}
 use Rattle.field.specs.Number.{le16, le32, le64}
 use Rattle.field.specs.Bytes.{same_at}
 use Rattle.journal.specs.Journal.{search_from, twice_among, names_twice}
-use Rattle.superblock.specs.declared.Found.TheVariants.{At}
+use Rattle.superblock.specs.Areas.{At, found}
 use Rattle.superblock.specs.Superblock.{superblock_of, logs_pass, units_pass, counts_pass, areas_pass, ends_pass, fields_pass, passes}
-use Rattle.superblock.specs.Areas.{found}
-use Rattle.checkpoint.specs.declared.Chosen.TheVariants.{Pack}
-use Rattle.checkpoint.specs.declared.Opening.TheVariants.{Opened}
+use Rattle.std.specs.Prelude.{Some}
+use Rattle.checkpoint.specs.Volume.{Opened, maps_readable, header_readable, journal_readable, open_pack, opened}
 use Rattle.checkpoint.specs.Pack.{block_passes, pack_passes, chosen, first_passes, last_passes}
 use Rattle.checkpoint.specs.Checkpoint.{checkpoint_of}
 use Rattle.checkpoint.specs.Journal.{damaged, journal_in, journal_placed, journal_offset}
-use Rattle.checkpoint.specs.Volume.{maps_readable, header_readable, journal_readable, open_pack, opened}
 use Rattle.list.specs.Lists.{bytes_of}
 use Rattle.sample_card.specs.Image.{filled, zeros, superblock, checksum, pack, journal, runs, block_in, card}
 use Rattle.sample_card.specs.Volume.{areas, volume}
@@ -43,7 +41,7 @@ second_fails : pack_passes card 1024 ≡ false
 unfolding pack_passes first_passes block_passes checkpoint_of runs block_in zeros le16 le32
 second_fails = refl
 
-first_chosen : chosen card 512 ≡ Pack 512
+first_chosen : chosen card 512 ≡ Some 512
 unfolding chosen
 first_chosen = rw (first_passes_lem, second_fails)
 

@@ -7,10 +7,9 @@ use Rattle.field.specs.Map.{top_bit, low_bit}
 use Rattle.field.specs.Bytes.{same_at}
 use Rattle.name_hash.specs.Hash.{half_round, round, rounds, tea, push_all, key_of, absorb, hash_of}
 use Rattle.place.specs.Place.{place_of}
-use Rattle.nat.specs.declared.TableAnswer.TheVariants.{Entry}
+use Rattle.nat.specs.Table.{Entry, in_range, table_address, entry_in, in_table, table_answer}
 use Rattle.journal.specs.Journal.{search_from, journal_find}
 use Rattle.nat.specs.Entry.{in_journal}
-use Rattle.nat.specs.Table.{in_range, table_address, entry_in, in_table, table_answer}
 use Rattle.inode.specs.Inode.{inode_of, has_inline_data, has_inline_dentry, has_extra_attr, inline_start, data_room, is_directory, is_regular}
 use Rattle.inode.specs.Inode.{addresses_in, is_past, count_in}
 use Rattle.list.specs.Lists.{bytes_of, insert}

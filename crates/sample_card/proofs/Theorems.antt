@@ -9,8 +9,7 @@ use mathlib.Core.List.{List, [], ◌∷◌, ◌++◌}
 use lib.ListN.{length, drop, replicate}
 use Rattle.field.specs.Card.{Card, card_of}
 use Rattle.superblock.specs.Shape.{most_blocks}
-use Rattle.checkpoint.specs.declared.Opening.TheVariants.{Opened}
-use Rattle.checkpoint.specs.Volume.{opened, opened_image}
+use Rattle.checkpoint.specs.Volume.{Opened, opened, opened_image}
 use Rattle.name_hash.specs.Name.{name_bytes}
 use Rattle.nat.specs.Lookup.{table_numbers, lookup_of}
 use Rattle.list.specs.Lists.{bytes_of, insert, union, over}

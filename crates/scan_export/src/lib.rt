@@ -2,11 +2,14 @@
 // What it means is in specs/: Scanned.
 #![tactic(auto)]
 
-ghost use Rattle.std.specs.Prelude.{◌≡◌, ◌≤◌, drop};
+ghost use Rattle.std.specs.Prelude.{◌≡◌, ◌≤◌, drop, IfErr};
 ghost use Rattle.inode.specs.Inode.{inline_start};
 ghost use Rattle.dentry.specs.Slot.{layout_of, block_layout, inline_layout};
-ghost use Rattle.dentry.specs.Scan.{turns_most};
-ghost use Rattle.scan_export.specs.Scanned.{seeks, scanned};
+ghost use Rattle.dentry.specs.Scan.{turns_most, sought_of};
+ghost use Rattle.scan_export.specs.Scanned.{crossing, seeks, scanned};
+
+use answer::{Refusal, Stop};
+use dentry::{Name, Scan};
 
 // A scan's numbers, as they cross to C.
 #[repr(C)]
@@ -17,40 +20,39 @@ pub struct Scanned {
     pub turns: u32,
 }
 
-fn scan(block: &[u8], inline: bool, name: &[u8]) -> Scanned
-    ensures value { result ≡ scanned (layout_of inline) block.now name.now }
-    ensures turns_bound { result.turns ≤ turns_most (layout_of inline) (drop (layout_of inline).start block.now) (seeks name.now) }
+// What a scan came to, as it crosses.
+fn crossing(found: Result<Option<u32>, Stop>, turns: u32) -> Scanned
+    requires { IfErr found (λ stop. stop ≡ Stop.MalformedSlot) }
+    ensures { result ≡ crossing (sought_of found) turns }
 {
-    if !((block.len() == 4096) & name_hash::is_name(name)) {
+    let (answer, inode) = match found {
+        Ok(Some(inode)) => (answer::DATA, inode),
+        Ok(None) => (Stop::NoName.number(), 0),
+        Err(stop) => (stop.number(), 0),
+    };
+    Scanned {
+        answer,
+        inode,
+        turns,
+    }
+}
+
+fn scan(block: &[u8], inline: bool, bytes: &[u8]) -> Scanned
+    ensures value { result ≡ scanned (layout_of inline) block.now bytes.now }
+    ensures turns_bound { result.turns ≤ turns_most (layout_of inline) (drop (layout_of inline).start block.now) (seeks bytes.now) }
+{
+    if !((block.len() == 4096) & name_hash::is_name(bytes)) {
         return Scanned {
-            answer: answer::OUT_OF_SHAPE,
+            answer: Refusal::OutOfShape.number(),
             inode: 0,
             turns: 0,
         };
     }
-    let hash = name_hash::hash(name);
-    let layout = dentry::layout_of(inline);
-    let part = dentry::part_of(block, layout);
-    let step = dentry::scan_slots(part, layout, hash, name);
-    let turn = step.turn;
-    let turns = step.scan.turns as u32;
-    match turn {
-        dentry::Turn::On => Scanned {
-            answer: answer::NO_NAME,
-            inode: 0,
-            turns,
-        },
-        dentry::Turn::Found(inode) => Scanned {
-            answer: answer::DATA,
-            inode,
-            turns,
-        },
-        dentry::Turn::Malformed => Scanned {
-            answer: answer::MALFORMED_SLOT,
-            inode: 0,
-            turns,
-        },
-    }
+    let hash = name_hash::hash(bytes);
+    let mut scan = Scan::default();
+    let found = dentry::slots_of(block, inline).scan_slots(&mut scan, Name { hash, bytes });
+    let turns = scan.turns as u32;
+    crossing(found, turns)
 }
 
 // The slots of a directory block.

@@ -6,7 +6,7 @@ use lib.ListN.{length}
 use borrow.Author.Tests.{le-leb, lt-leb}
 use Rattle.field.specs.Card.{card_of}
 use Rattle.checkpoint.specs.declared.Volume.{Volume}
-use Rattle.checkpoint.specs.declared.Opening.TheVariants.{Opened, Refused}
+use Rattle.checkpoint.specs.Volume.{Opened, Refused}
 use Rattle.sit.specs.Opening.{opened_with_sit}
 use Rattle.segment_report.specs.Report.{refused_report, report_of, segment_report}
 
@@ -23,3 +23,5 @@ module _ (image list : List ℕ) where
     pub made : v.areas.main_segments ≤ length list / 4 → segment_report image list ≡ report_of (card_of image) v list
     unfolding segment_report
     made h = rw (e, le-leb _ _ h)
+
+pub ruleset ways_of_ending = (refused_by_opening, too_short, made)

@@ -14,10 +14,9 @@ use Rattle.field.proofs.Choosing.{either}
 use Rattle.superblock.specs.Shape.{most_blocks}
 use Rattle.superblock.proofs.Shaped.{shape_card}
 use Rattle.checkpoint.specs.declared.Volume.{Volume}
-use Rattle.checkpoint.specs.declared.Opening.{Opening}
-use Rattle.checkpoint.specs.declared.Opening.TheVariants.{Opened, Refused}
+use Rattle.checkpoint.specs.Volume.{Opening, Opened, Refused}
 use Rattle.checkpoint.proofs.Inside.{image_shaped, image_volume}
-use Rattle.list.specs.Lists.{Rising, AllOf, listing, numbers, entries}
+use Rattle.list.specs.Lists.{Rising, AllOf, listing, entries}
 use Rattle.list.proofs.Written.{numbers_over, drop_over}
 use Rattle.sit.specs.Entry.{valid_count, map_ones}
 use Rattle.sit.specs.Table.{table_block, table_address, sit_entry}

@@ -1,11 +1,12 @@
 -- What a segment report answers, and the lent list as it leaves it.
-use Rattle.std.specs.Prelude.{List, Bool, ℕ, ◌+◌, ◌*◌, ◌/◌, length, leb}
+use Rattle.std.specs.Prelude.{List, Bool, ℕ, ◌+◌, ◌*◌, ◌/◌, length, leb, Result, Ok, Err}
 use Rattle.field.specs.Number.{put32_at}
 use Rattle.field.specs.Card.{Card, card_of}
 use Rattle.field.specs.Choice.{choose}
 use Rattle.checkpoint.specs.declared.Volume.{Volume}
-use Rattle.checkpoint.specs.declared.Opening.{Opening}
-use Rattle.checkpoint.specs.declared.Opening.TheVariants.{Opened, Refused}
+use Rattle.checkpoint.specs.Volume.{Opening, Opened, Refused}
+use Rattle.answer.specs.declared.Refusal.{Refusal}
+use Rattle.answer.specs.Number.{refusal_number}
 use Rattle.list.specs.Lists.{over}
 use Rattle.sit.specs.Entry.{map_ones}
 use Rattle.sit.specs.Table.{sit_entry}
@@ -24,6 +25,11 @@ reported numbers list = record { numbers = numbers; list = list }
 -- "after a refusal, the whole list stay[s]", and a number that the answer doesn't name is 0
 abbrev pub refused_numbers : ℕ → Segments
 refused_numbers answer = record { answer = answer; count = 0; valid_blocks = 0 }
+
+-- the code's answer as the numbers: a report's, or those of an error
+abbrev pub numbers_in : Result Segments Refusal → Segments
+numbers_in (Ok numbers) = numbers
+numbers_in (Err refusal) = refused_numbers (refusal_number refusal)
 
 abbrev pub refused_report : ℕ → List ℕ → Reported
 refused_report answer list = reported (refused_numbers answer) list

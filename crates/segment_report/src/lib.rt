@@ -2,11 +2,13 @@
 // What each means is in specs/: Off, Report.
 #![tactic(auto)]
 
-ghost use Rattle.std.specs.Prelude.{◌≡◌, ◌*◌, ◌≤◌, ◌<◌, length};
-ghost use Rattle.field.specs.Card.{card_of};
+ghost use Rattle.std.specs.Prelude.{◌≡◌, ◌*◌, ◌≤◌, ◌<◌, length, Err};
+ghost use Rattle.checkpoint.specs.OpenImage.{card_in};
 ghost use Rattle.sit.specs.Table.{sit_entry};
-ghost use Rattle.sit.specs.Opening.{SitIn};
-ghost use Rattle.segment_report.specs.Report.{reported, with_segment, refused_numbers, report_of, segment_report};
+ghost use Rattle.segment_report.specs.Report.{reported, with_segment, numbers_in, report_of, segment_report};
+
+use answer::Refusal;
+use sit::SegmentTable;
 
 // A report's numbers, as they cross to C: how many segments are listed, and the ones in all maps.
 #[repr(C)]
@@ -18,79 +20,63 @@ pub struct Segments {
 }
 
 // One segment more: its ones are added, and it is listed if its count is off.
-fn add_segment(
-    image: &[u8],
-    v: checkpoint::Volume,
-    list: &mut [u8],
-    tally: Segments,
-    segment: u32,
-) -> Segments
-    requires sit_in { SitIn (card_of image.now) v }
-    requires segment_bound { (segment < v.areas.main_segments) × (4 * v.areas.main_segments ≤ length list.old) }
-    requires count_le_segment { (tally.count ≤ segment) × (tally.valid_blocks ≤ 512 * segment) }
-    ensures { reported result list.new
-        ≡ with_segment (sit_entry (card_of image.now) v segment) segment (reported tally list.old) }
+#[tactic(auto, using(sit::proofs::Inside::entry_size, crate::proofs::Tallying::in_order, crate::proofs::Tallying::off))]
+fn add_segment(table: SegmentTable, segment: u32, tally: &mut Segments, list: &mut [u8])
+    requires segment_bound { segment < table.card.volume.areas.main_segments }
+    requires room { 4 * table.card.volume.areas.main_segments ≤ length list.old }
+    requires tally_bound { (tally.old.count ≤ segment) × (tally.old.valid_blocks ≤ 512 * segment) }
+    ensures { reported tally.new list.new
+        ≡ with_segment (sit_entry (card_in table.entry.card) table.entry.card.volume segment) segment (reported tally.old list.old) }
 {
-    let entry = sit::entry_of(image, v, segment);
+    let entry = table.entry_of(segment);
     let ones = sit::ones(&entry[2..66]);
-    let count = tally.count;
-    let valid_blocks = tally.valid_blocks + ones;
-    if sit::valid_count(entry) == ones {
-        return Segments {
-            answer: tally.answer,
-            count,
-            valid_blocks,
-        };
-    }
-    field::put32(list, 4 * count as usize, segment);
-    Segments {
-        answer: tally.answer,
-        count: count + 1,
-        valid_blocks,
+    tally.valid_blocks += ones;
+    if sit::valid_count(entry) != ones {
+        field::put32(list, 4 * tally.count as usize, segment);
+        tally.count += 1;
     }
 }
 
 // All main segments in order, so that the list rises.
-fn report_opened(image: &[u8], v: checkpoint::Volume, list: &mut [u8]) -> Segments
-    requires sit_in { SitIn (card_of image.now) v }
-    requires main_segments_in_bounds { 4 * v.areas.main_segments ≤ length list.old }
-    ensures { reported result list.new ≡ report_of (card_of image.now) v list.old }
+fn report_opened(table: SegmentTable, list: &mut [u8]) -> Segments
+    requires { 4 * table.card.volume.areas.main_segments ≤ length list.old }
+    ensures { reported result list.new ≡ report_of (card_in table.entry.card) table.entry.card.volume list.old }
 {
     let mut tally = Segments {
         answer: answer::DATA,
         count: 0,
         valid_blocks: 0,
     };
-    let mut segment = 0;
-    while segment < v.areas.main_segments {
-        tally = add_segment(image, v, list, tally, segment);
-        segment += 1;
+    for segment in 0..table.card.volume.areas.main_segments {
+        add_segment(table, segment, &mut tally, list);
     }
     tally
 }
 
-fn refused(answer: u32) -> Segments
-    ensures { result ≡ refused_numbers answer }
+// The image opens first; only then does the number of its main segments say how long the list has to be.
+#[tactic(auto, using(crate::proofs::Ends::ways_of_ending))]
+fn report_or_refuse(image: &[u8], list: &mut [u8]) -> Result<Segments, Refusal>
+    ensures { reported (numbers_in result) list.new ≡ segment_report image.now list.old }
+{
+    let table = sit::open(image)?;
+    if list.len() / 4 < table.card.volume.areas.main_segments as usize {
+        return Err(Refusal::OutOfShape);
+    }
+    Ok(report_opened(table, list))
+}
+
+fn refused(refusal: Refusal) -> Segments
+    ensures { result ≡ numbers_in (Err refusal) }
 {
     Segments {
-        answer,
+        answer: refusal.number(),
         count: 0,
         valid_blocks: 0,
     }
 }
 
-// The image opens first; only then does the number of its main segments say how long the list has to be.
 pub fn report(image: &[u8], list: &mut [u8]) -> Segments
     ensures { reported result list.new ≡ segment_report image.now list.old }
 {
-    let opening = sit::open(image);
-    match opening {
-        checkpoint::Opening::Refused(answer) => refused(answer),
-        checkpoint::Opening::Opened(v) => {
-            if list.len() / 4 < v.areas.main_segments as usize {
-                return refused(answer::OUT_OF_SHAPE);
-            }
-            report_opened(image, v, list)
-        }
-    }
+    report_or_refuse(image, list).unwrap_or_else(refused)
 }

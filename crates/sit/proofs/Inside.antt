@@ -15,8 +15,7 @@ use Rattle.field.proofs.Choosing.{either}
 use Rattle.field.proofs.Blocks.{length_block}
 use Rattle.checkpoint.specs.declared.Volume.{Volume}
 use Rattle.checkpoint.specs.Volume.{is_compact, PlacesIn}
-use Rattle.journal.specs.declared.Sought.{Sought}
-use Rattle.journal.specs.declared.Sought.TheVariants.{At, Absent}
+use Rattle.std.specs.Prelude.{Option, Some, None}
 use Rattle.journal.specs.Journal.{entry_start, journal_find}
 use Rattle.journal.proofs.Searching.{found_inside}
 use Rattle.sit.specs.Table.{sit_journal_of, table_block, sit_map_of, table_address, entry_at, in_table, or_table, sit_entry}
@@ -69,7 +68,7 @@ module _ (image : List ℕ) (v : Volume) where
     journal_holds = let n = h.journal_count in omega (arith, journal_room h.volume.places)
 
     -- an entry that is found lies inside
-    pub journaled_inside : (segment at : ℕ) → journal_find 78 journal segment ≡ At at → at + 78 ≤ length journal
+    pub journaled_inside : (segment at : ℕ) → journal_find 78 journal segment ≡ Some at → at + 78 ≤ length journal
     journaled_inside segment at e = omega (arith, found_inside 78 journal segment at e, journal_holds)
 
     -- every entry has 74 bytes
@@ -85,6 +84,6 @@ module _ (image : List ℕ) (v : Volume) where
       unfolding sit_entry
       entry_size = go (journal_find 78 journal segment) refl
         where
-          go : (s : Sought) → journal_find 78 journal segment ≡ s → length (or_table journal s (in_table (card_of image) v segment)) ≡ 74
-          go (At at) e = entry_whole journal (at + 4) (omega (arith, journaled_inside segment at e))
-          go Absent e = table_whole
+          go : (s : Option ℕ) → journal_find 78 journal segment ≡ s → length (or_table journal s (in_table (card_of image) v segment)) ≡ 74
+          go (Some at) e = entry_whole journal (at + 4) (omega (arith, journaled_inside segment at e))
+          go None e = table_whole

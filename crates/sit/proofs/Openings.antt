@@ -10,12 +10,11 @@ use Rattle.field.specs.Card.{card_of}
 use Rattle.field.proofs.Choosing.{either}
 use Rattle.superblock.proofs.Shaped.{shape_card}
 use Rattle.checkpoint.specs.declared.Volume.{Volume}
-use Rattle.checkpoint.specs.declared.Opening.{Opening}
-use Rattle.checkpoint.specs.declared.Opening.TheVariants.{Opened, Refused}
-use Rattle.checkpoint.specs.Volume.{opened_image}
+use Rattle.checkpoint.specs.Volume.{Opening, Opened, Refused, opened_image}
 use Rattle.checkpoint.proofs.Inside.{image_shaped, image_volume, refusals}
 use Rattle.sit.specs.Table.{sit_journal_of}
 use Rattle.sit.specs.Opening.{sit_journal_readable, opened_with_sit, SitIn}
+use Rattle.sit.proofs.Inside.{journal_room}
 
 module _ (image : List ℕ) where
   abbrev journal : Volume → List ℕ
@@ -35,7 +34,7 @@ module _ (image : List ℕ) where
     unfolding opened_with_sit
     journal_opens p = rw (e, p)
 
-    sit_in : sit_journal_readable (journal v) ≡ true → SitIn (card_of image) v
+    pub sit_in : sit_journal_readable (journal v) ≡ true → SitIn (card_of image) v
     unfolding sit_journal_readable
     sit_in p =
         let whole = image_volume image v e in
@@ -77,3 +76,6 @@ module _ (image : List ℕ) where
       go : Ways (opened_with_sit image) → (4 ≤ n) × (n ≤ 8)
       go (refused k l m e) = let same : n ≡ k = cc in (omega arith, omega arith)
       go (opens u f s e) = let z : ◌≡◌ {A = ℕ} 0 1 = cc in absurd (omega arith)
+
+-- the ways, and what is known of the one that opens
+pub ruleset ways_of_opening = (still_refused, journal_refuses, journal_opens, sit_in, journal_room)

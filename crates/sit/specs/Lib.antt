@@ -1,3 +1,4 @@
 pub mod Entry
 pub mod Table
 pub mod Opening
+pub mod SegmentTable

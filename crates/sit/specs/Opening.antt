@@ -4,9 +4,7 @@ use Rattle.field.specs.Number.{le16}
 use Rattle.field.specs.Card.{Card, card_of}
 use Rattle.field.specs.Choice.{choose}
 use Rattle.checkpoint.specs.declared.Volume.{Volume}
-use Rattle.checkpoint.specs.declared.Opening.{Opening}
-use Rattle.checkpoint.specs.declared.Opening.TheVariants.{Opened, Refused}
-use Rattle.checkpoint.specs.Volume.{VolumeIn, opened_image}
+use Rattle.checkpoint.specs.Volume.{Opening, Opened, Refused, VolumeIn, opened_image}
 use Rattle.journal.specs.Journal.{count_within}
 use Rattle.sit.specs.Table.{sit_journal_of}
 

@@ -1,13 +1,11 @@
 -- A segment's SIT entry: what the SIT journal holds decides, and otherwise the table.
-use Rattle.std.specs.Prelude.{List, ℕ, ◌+◌, ◌*◌, ◌/◌, ◌%◌, take, drop, eqb}
+use Rattle.std.specs.Prelude.{List, ℕ, ◌+◌, ◌*◌, ◌/◌, ◌%◌, take, drop, eqb, Option, Some, None}
 use Rattle.field.specs.Map.{top_bit}
 use Rattle.field.specs.Card.{Card}
 use Rattle.field.specs.Choice.{choose}
 use Rattle.superblock.specs.declared.Areas.{Areas}
 use Rattle.checkpoint.specs.declared.Volume.{Volume}
 use Rattle.checkpoint.specs.Volume.{is_compact}
-use Rattle.journal.specs.declared.Sought.{Sought}
-use Rattle.journal.specs.declared.Sought.TheVariants.{At, Absent}
 use Rattle.journal.specs.Journal.{journal_find}
 
 -- The SIT journal, from its start to its block's end. A pack that isn't compact has near its end a block, the summary, for each log that
@@ -46,9 +44,9 @@ unfoldable pub in_table : Card → Volume → ℕ → List ℕ
 in_table card v segment = entry_at (card.block (table_address card v (table_block segment))) (74 * (segment % 55))
 
 -- a journal's "78-byte entries" are the segment's number, then its entry
-abbrev pub or_table : List ℕ → Sought → List ℕ → List ℕ
-or_table journal (At at) other = entry_at journal (at + 4)
-or_table journal Absent other = other
+abbrev pub or_table : List ℕ → Option ℕ → List ℕ → List ℕ
+or_table journal (Some at) other = entry_at journal (at + 4)
+or_table journal None other = other
 
 -- a main segment's SIT entry: "from the SIT journal of the cold-data summary if it is there .., else from the table copy"
 unfoldable pub sit_entry : Card → Volume → ℕ → List ℕ

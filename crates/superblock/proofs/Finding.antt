@@ -11,13 +11,10 @@ use Rattle.field.specs.Choice.{choose}
 use Rattle.field.proofs.Choosing.{needed, either}
 use Rattle.superblock.specs.declared.Superblock.{Superblock}
 use Rattle.superblock.specs.declared.Areas.{Areas}
-use Rattle.superblock.specs.declared.Found.{Found}
-use Rattle.superblock.specs.declared.Found.TheVariants.{At, Refused}
-use Rattle.superblock.specs.declared.Tried.{Tried}
-use Rattle.superblock.specs.declared.Tried.TheVariants.{Passed, Failed}
+use Rattle.superblock.specs.Areas.{Found, At, Refused, areas_of, accepted_copy, found, AreasIn}
+use Rattle.std.specs.Prelude.{Option, Some, None}
 use Rattle.superblock.specs.Shape.{most_blocks}
 use Rattle.superblock.specs.Superblock.{copy_in, superblock_of, end_of, passes, copy_passes}
-use Rattle.superblock.specs.Areas.{areas_of, accepted_copy, found, AreasIn}
 use Rattle.superblock.proofs.Passing.{passes_in}
 
 -- the areas of a copy that passes
@@ -26,17 +23,17 @@ unfolding passes
 passing blocks copy p = passes_in blocks (superblock_of copy) (needed (λ q. simp (q, and-false)) p)
 
 -- the answer `r` of trying a copy
-module _ (blocks : ℕ) (copy : List ℕ) {r : Tried} (e : r ≡ choose (passes blocks copy) (Passed (superblock_of copy)) Failed) where
-  pub passed : {s : Superblock} → r ≡ Passed s → (passes blocks copy ≡ true) × (s ≡ superblock_of copy)
+module _ (blocks : ℕ) (copy : List ℕ) {r : Option Superblock} (e : r ≡ choose (passes blocks copy) (Some (superblock_of copy)) None) where
+  pub passed : {s : Superblock} → r ≡ Some s → (passes blocks copy ≡ true) × (s ≡ superblock_of copy)
   passed k =
       ⊎_elim (λ p. let e' = rw p at e in (p, cc)) (λ p. let e' = rw p at e in (cc, cc))
       (either (passes blocks copy))
 
-  pub failed : r ≡ Failed → passes blocks copy ≡ false
+  pub failed : r ≡ None → passes blocks copy ≡ false
   failed k = ⊎_elim (λ p. let e' = rw p at e in cc) (λ p. p) (either (passes blocks copy))
 
   -- the end of its main area is a block address, so it fits 32 bits
-  pub passed_fits : blocks ≤ most_blocks → {s : Superblock} → r ≡ Passed s → end_of s.main_blkaddr s.segment_count_main < 4294967296
+  pub passed_fits : blocks ≤ most_blocks → {s : Superblock} → r ≡ Some s → end_of s.main_blkaddr s.segment_count_main < 4294967296
   passed_fits few k =
       let w = passed k in
       rw w.1 (omega (arith, (passing blocks copy w.0).in_card))

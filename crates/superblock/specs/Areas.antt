@@ -4,9 +4,12 @@ use Rattle.field.specs.Card.{Card}
 use Rattle.field.specs.Choice.{choose}
 use Rattle.superblock.specs.declared.Superblock.{Superblock}
 use Rattle.superblock.specs.declared.Areas.{Areas}
-use Rattle.superblock.specs.declared.Found.{Found}
-use Rattle.superblock.specs.declared.Found.TheVariants.{At, Refused}
 use Rattle.superblock.specs.Superblock.{copy_in, superblock_of, end_of, copy_passes}
+
+-- what is found: the areas, or the number of the answer that refuses the card
+pub data Found : Type 0 where
+  At : Areas → Found
+  Refused : ℕ → Found
 
 -- the address of each area in blocks, and its size in segments; the main area's end is the first block behind it
 abbrev pub areas_of : Superblock → Areas

@@ -1,3 +1,5 @@
 pub mod Shape
 pub mod Superblock
 pub mod Areas
+pub mod Search
+pub mod Shaped

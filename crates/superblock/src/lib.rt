@@ -2,14 +2,21 @@
 // What each means is in specs/: Shape, Superblock, Areas.
 #![tactic(auto)]
 
-ghost use Rattle.std.specs.Prelude.{◌≡◌, ◌≤◌, ◌<◌, length, eqb};
-ghost use Rattle.field.specs.Card.{card_of};
+ghost use Rattle.std.specs.Prelude.{◌≡◌, ◌≤◌, ◌<◌, length, eqb, Some, None};
 ghost use Rattle.field.specs.Choice.{choose};
-ghost use Rattle.superblock.specs.Shape.{in_shape, InShape};
+ghost use Rattle.superblock.specs.Shape.{in_shape};
+ghost use Rattle.superblock.specs.Shaped.{shaped_card, Shaped};
 ghost use Rattle.field.specs.Bytes.{same_at};
 ghost use Rattle.superblock.specs.Superblock.{copy_of, mark, superblock_of, logs_pass, units_pass, even_pairs};
 ghost use Rattle.superblock.specs.Superblock.{counts_pass, end_of, areas_pass, ends_pass, fields_pass, passes};
 ghost use Rattle.superblock.specs.Areas.{areas_of, accepted, found};
+ghost use Rattle.superblock.specs.Search.{found_in};
+
+use answer::Refusal;
+
+mod shaped_image;
+
+pub use shaped_image::ShapedImage;
 
 // The most blocks that an image may have, which are 16 GiB.
 const MOST_BLOCKS: usize = 4194304;
@@ -59,25 +66,22 @@ pub struct Areas {
     pub main_end: u32,
 }
 
-// The areas that the copy in use names, or the answer that refuses the image.
-#[derive(Clone, Copy)]
-pub enum Found {
-    At(Areas),
-    Refused(u32),
-}
-
-// A copy's fields, if it passes.
-#[derive(Clone, Copy)]
-pub enum Tried {
-    Passed(Superblock),
-    Failed,
-}
-
 // Whether an image of so many bytes is in shape.
 pub fn in_shape(bytes: usize) -> bool
     ensures { result ≡ in_shape bytes }
 {
     (bytes % 4096 == 0) & (2 <= bytes / 4096) & (bytes / 4096 <= MOST_BLOCKS)
+}
+
+impl<'a> ShapedImage<'a> {
+    pub fn of(image: &'a [u8]) -> Result<ShapedImage<'a>, Refusal>
+        ensures { Shaped image.now result }
+    {
+        if !in_shape(image.len()) {
+            return Err(Refusal::OutOfShape);
+        }
+        Ok(ShapedImage { bytes: image })
+    }
 }
 
 fn has_mark(copy: &[u8]) -> bool
@@ -199,20 +203,20 @@ fn copy_of(block: &[u8]) -> &[u8]
     &block[1024..]
 }
 
-// The copy in a block of a card of so many blocks. Its fields are read once, for the test and for the answer.
-pub fn try_copy(block: &[u8], blocks: u64) -> Tried
+// The copy in a block of a card of so many blocks: its fields, if it passes. They are read once, for the test and for the answer.
+pub fn try_copy(block: &[u8], blocks: u64) -> Option<Superblock>
     requires { length block.now ≡ 4096 }
     ensures { result
         ≡ choose (passes blocks (copy_of block.now))
-        (Tried.Passed (superblock_of (copy_of block.now)))
-        Tried.Failed }
+        (Some (superblock_of (copy_of block.now)))
+        None }
 {
     let copy = copy_of(block);
     let s = read_fields(copy);
     if has_mark(copy) & fields_pass(blocks, s) {
-        Tried::Passed(s)
+        Some(s)
     } else {
-        Tried::Failed
+        None
     }
 }
 
@@ -235,32 +239,31 @@ fn areas_of(s: Superblock) -> Areas
     }
 }
 
-// The answer, if the copy is the one in use.
-pub fn accept(s: Superblock) -> Found
+// The areas that the copy in use names, unless the card has what isn't read.
+pub fn accept(s: Superblock) -> Result<Areas, Refusal>
     requires { end_of s.main_blkaddr s.segment_count_main < 4294967296 }
-    ensures { result ≡ accepted s }
+    ensures { found_in result ≡ accepted s }
 {
     if (s.feature == 0) & (s.cp_payload == 0) {
-        Found::At(areas_of(s))
+        Ok(areas_of(s))
     } else {
-        Found::Refused(answer::FEATURES)
+        Err(Refusal::Features)
     }
 }
 
 // The copy in block 1 is looked at only if the one in block 0 fails.
-pub fn find_superblock(image: &[u8]) -> Found
-    requires { InShape (card_of image.now) }
-    ensures { result ≡ found (card_of image.now) }
+pub fn find_superblock(image: ShapedImage) -> Result<Areas, Refusal>
+    ensures { found_in result ≡ found (shaped_card image.entry) }
 {
-    let blocks = field::image_blocks(image);
-    let first = try_copy(field::block_at(image, 0), blocks);
+    let blocks = field::image_blocks(image.bytes);
+    let first = try_copy(field::block_at(image.bytes, 0), blocks);
     match first {
-        Tried::Passed(s) => accept(s),
-        Tried::Failed => {
-            let second = try_copy(field::block_at(image, 1), blocks);
+        Some(s) => accept(s),
+        None => {
+            let second = try_copy(field::block_at(image.bytes, 1), blocks);
             match second {
-                Tried::Passed(s) => accept(s),
-                Tried::Failed => Found::Refused(answer::NO_SUPERBLOCK),
+                Some(s) => accept(s),
+                None => Err(Refusal::NoSuperblock),
             }
         }
     }

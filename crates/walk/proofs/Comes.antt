@@ -5,7 +5,7 @@ use mathlib.Core.Bool.{Bool, true, false}
 use Rattle.field.specs.Choice.{choose}
 use mathlib.Core.List.{List}
 use Prim.Native.Nat.{ℕ}
-use Rattle.nat.specs.declared.TableAnswer.{TableAnswer}
+use Rattle.nat.specs.Table.{TableAnswer}
 use Rattle.walk.specs.Walk.{View, Seen, saw_node, saw_block, Walk, done, look, read, Ran, run, Outcome, ok, stop, onward, and_then}
 use Rattle.walk.proofs.Runs.{run_bind}
 

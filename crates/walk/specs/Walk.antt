@@ -3,9 +3,7 @@
 use Rattle.std.specs.Prelude.{ℕ, suc, ◌*◌, ◌≤◌, ◌≡◌, ◌⊎◌, Bool, true, ◌&&◌, ◌||◌, eqb, leb, List, [], length}
 use Rattle.field.specs.Card.{Card, card_of}
 use Rattle.checkpoint.specs.declared.Volume.{Volume}
-use Rattle.nat.specs.declared.TableAnswer.{TableAnswer}
-use Rattle.nat.specs.Table.{table_answer}
-use Rattle.walk.specs.declared.Counts.{Counts}
+use Rattle.nat.specs.Table.{TableAnswer, table_answer}
 use Rattle.list.specs.Lists.{insert, union, Rising, numbers, Grown}
 
 -- ---- the tree and its run
@@ -110,6 +108,11 @@ unfoldable pub and_then : {A B : Type 0} → Walk (Outcome A) → (A → Walk (O
 and_then w f = bind w (onward f)
 
 -- ---- walks over lent bytes
+
+-- how many nodes and blocks are listed
+pub record Counts : Type 0 where
+  pub nodes : ℕ
+  pub blocks : ℕ
 
 -- two lent byte slices, and how many numbers at the front of each are listed
 pub record Lists : Type 0 where

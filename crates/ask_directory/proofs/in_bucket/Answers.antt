@@ -2,7 +2,7 @@
 use native.Mathlib.Omega.{arith}
 use mathlib.Core.Path.{◌≡◌, ap, ◌∙◌}
 use Rattle.inode.specs.Inode.{inode_of, addresses_in}
-use Rattle.asking.specs.Table.{keeping}
+use Rattle.ask_node.specs.Wants.{kept_in}
 use Rattle.ask_directory.specs.declared.Move.{Move}
 use Rattle.ask_directory.proofs.Searching.{past_last, up_to_last}
 use Rattle.ask_directory.proofs.in_bucket.Goals as goal
@@ -14,7 +14,7 @@ held k = k.addresses_in.ensures.0 ∙ ap addresses_in k.inode_of-i.ensures
 pub returns-then-last-index : goal.returns-then-last-index
 returns-then-last-index c =
     let here = goal.at.returns-then-last-index c in
-    let none = past_last (keeping c.args.v c.args.first.now c.args.journal.now) c.args.inode.now c.args.spot c.args.index
+    let none = past_last (kept_in c.args.kept) c.args.inode.now c.args.spot c.args.index
     (omega (arith, c.if-last-index.true, held here.After-addresses_in)) in
     let hop = ap (λ (m : Move). m.target.hop) c.go_to.ensures in
     record {
@@ -25,7 +25,7 @@ returns-then-last-index c =
 pub returns : goal.returns
 returns c =
     let here = goal.at.returns c in
-    let some = up_to_last (keeping c.args.v c.args.first.now c.args.journal.now) c.args.inode.now c.args.spot c.args.index
+    let some = up_to_last (kept_in c.args.kept) c.args.inode.now c.args.spot c.args.index
     (omega (arith, c.if-last-index.false, held here.After-addresses_in)) in
     let hop = ap (λ (m : Move). m.target.hop) c.fetch_move.ensures in
     record {

@@ -2,6 +2,7 @@
 use native.Mathlib.Omega.{arith}
 use mathlib.Core.Path.{◌≡◌, refl, sym, ◌∙◌}
 use mathlib.Core.Bool.{true}
+use Rattle.answer.specs.declared.Refusal.TheVariants.{NoCheckpoint}
 use Rattle.ask_open.proofs.Cases.{none_passes, first_alone}
 use Rattle.ask_open.proofs.Going.{goes_refused}
 use Rattle.ask_open.proofs.Knowing.{has_passed, knows_refused}
@@ -20,7 +21,7 @@ returns-then-not-passed c =
     let refused = c.refuse.ensures.0 in
     record {
       result_value = (λ k blocks second bytes.
-          goes_refused k blocks first second bytes o 7 refused
+          goes_refused k blocks first second bytes o NoCheckpoint refused
           ∙ sym (none_passes k a.areas first first a.passed c.if-not-passed.true));
       by_index = (λ second bytes. knows_refused first second bytes o refused);
     }

@@ -3,6 +3,7 @@ use Prim.Native.Nat.{◌≤◌}
 use native.Mathlib.Omega.{arith}
 use mathlib.Core.Path.{◌≡◌, sym, ◌∙◌}
 use mathlib.Core.Bool.{true}
+use Rattle.answer.specs.declared.Refusal.TheVariants.{Unreadable}
 use Rattle.checkpoint.specs.Volume.{header_readable}
 use Rattle.checkpoint.proofs.Reading.{readable_maps}
 use Rattle.checkpoint.proofs.Negated.{fails, holds}
@@ -30,7 +31,7 @@ returns-then-not-header_readable c =
     let fails-here = rw c.checkpoint_of-cp.ensures at (fails c.header_readable.ensures c.if-not-header_readable.true) in
     record {
       result_value = λ k blocks one second bytes kept.
-          goes_refused k blocks one second bytes o 8 refused ∙ sym (header_refuses k a.areas a.start a.first.now fails-here);
+          goes_refused k blocks one second bytes o Unreadable refused ∙ sym (header_refuses k a.areas a.start a.first.now fails-here);
       by_index = λ one second bytes. knows_refused one second bytes o refused;
     }
 

@@ -5,8 +5,8 @@ use mathlib.Core.Path.{◌≡◌, sym, ap, ◌∙◌}
 use mathlib.Core.Bool.{true, false}
 use Rattle.inode.specs.Inode.{inline_start, is_regular, is_past}
 use Rattle.inode.proofs.Inline.{inline_room}
-use Rattle.asking.specs.Table.{keeping}
 use Rattle.ask_node.specs.declared.Fetch.{Fetch}
+use Rattle.ask_node.specs.Wants.{kept_in}
 use Rattle.ask_directory.specs.declared.Spot.{Spot}
 use Rattle.ask_directory.specs.Left.{question}
 use Rattle.ask_directory.specs.Move.{fetch_move}
@@ -30,7 +30,7 @@ returns-then-not-is_regular c =
     let other = sym c.is_regular.ensures ∙ c.if-not-is_regular.true in
     record {
       by_index = λ path seen behind.
-          let q = question (keeping c.args.v c.args.first.now c.args.journal.now) path a.index in
+          let q = question (kept_in c.args.kept) path a.index in
           rw c.go_to.ensures (kind_came q p a.bytes.now seen (no_names path a.name_at behind) c.inode_of-i.ensures other);
       by_index_2 = λ path behind. rw c.go_to.ensures tt;
     }
@@ -43,7 +43,7 @@ returns-then-is_past c =
     let past = sym c.is_past.ensures ∙ c.if-is_past.true in
     record {
       by_index = λ path seen behind.
-          let q = question (keeping c.args.v c.args.first.now c.args.journal.now) path a.index in
+          let q = question (kept_in c.args.kept) path a.index in
           let no = no_names path a.name_at behind in
           rw c.go_to-then-is_past.ensures (past_came q p a.bytes.now seen no c.inode_of-i.ensures (is_regular_lem here.Else-not-is_regular) past);
       by_index_2 = λ path behind. rw c.go_to-then-is_past.ensures tt;
@@ -65,7 +65,7 @@ returns-then-has_inline_data c =
     let inline = sym c.has_inline_data.ensures ∙ c.if-has_inline_data.true in
     record {
       by_index = λ path seen behind.
-          let q = question (keeping c.args.v c.args.first.now c.args.journal.now) path a.index in
+          let q = question (kept_in c.args.kept) path a.index in
           let no = no_names path a.name_at behind in
           rw c.go_to-then-has_inline_data.ensures
           (inline_came q p a.bytes.now seen no c.inode_of-i.ensures (is_regular_lem here.Else-not-is_regular) _ (inside here.Else-is_past) count inline);
@@ -84,7 +84,7 @@ returns c =
     let next = c.fetch_move.ensures ∙ ap (λ (f : Fetch). fetch_move f a.index p c.count_in-count.result) same in
     record {
       by_index = λ path seen behind.
-          let q = question (keeping c.args.v c.args.first.now c.args.journal.now) path a.index in
+          let q = question (kept_in c.args.kept) path a.index in
           let no = no_names path a.name_at behind in
           rw next
           (fetch_came q p a.bytes.now seen no c.inode_of-i.ensures (is_regular_lem here.Else-not-is_regular) _ (inside here.Else-is_past) count outside);

@@ -8,9 +8,9 @@ use lib.ListN.{length, take, drop}
 use Rattle.path.proofs.Parts.{part_inside}
 use Rattle.inode.specs.declared.Inode.{Inode}
 use Rattle.inode.specs.Inode.{inode_of, is_directory, is_past, count_in}
-use Rattle.asking.specs.Table.{keeping}
 use Rattle.ask_node.specs.declared.Fetch.{Fetch}
 use Rattle.ask_node.specs.Fetch.{next_fetch}
+use Rattle.ask_node.specs.Wants.{kept_in}
 use Rattle.ask_directory.specs.declared.Move.{Move}
 use Rattle.ask_directory.specs.Left.{question, names_from}
 use Rattle.ask_directory.specs.Move.{goes_on, fetch_move, is_empty}
@@ -20,11 +20,11 @@ use Rattle.ask_path.proofs.Spots.{file_has, directory_has}
 use Rattle.ask_path.proofs.Directories.{hole_came}
 use Rattle.ask_path.proofs.Nodes.{hop_file, hop_block, hop_hole}
 use Rattle.ask_path.proofs.at_way.Goals as goal
-use Rattle.ask_path.proofs.at_way.Goals.{After-count_in-count, After-fetch_move-next, After-fetch_next-f, After-part_end-end, Else-path-at, Then-path-at}
+use Rattle.ask_path.proofs.at_way.Goals.{After-count_in-count, After-fetch_move-fetched, After-fetch_next-f, After-part_end-end, Else-path-at, Then-path-at}
 
 -- ---- what is known there
 fetched : (k : After-fetch_next-f) → let a = k.args in
-    k.fetch_next-f.result ≡ next_fetch (keeping a.v a.first.now a.journal.now) a.inode.now a.target.index a.target.hop a.bytes.now
+    k.fetch_next-f.result ≡ next_fetch (kept_in a.kept) a.inode.now a.target.index a.target.hop a.bytes.now
 fetched k = k.fetch_next-f.ensures.value
 
 has_index : (k : Then-path-at) → let a = k.args in is_past (inode_of a.inode.now) a.index ≡ false
@@ -41,11 +41,11 @@ is_directory_lem : (k : Else-path-at) → let a = k.args in
 is_directory_lem k = directory_has k.args.path.now _ _ k.args.spot (named k) k.requires.spot_in
 
 -- what the move is by
-goes : (k : After-fetch_move-next) → let a = k.args in
-    is_empty k.fetch_move-next.result.goes
-    ≡ is_empty (goes_on 0 (next_fetch (keeping a.v a.first.now a.journal.now) a.inode.now a.target.index a.target.hop a.bytes.now).wants)
+goes : (k : After-fetch_move-fetched) → let a = k.args in
+    is_empty k.fetch_move-fetched.result.goes
+    ≡ is_empty (goes_on 0 (next_fetch (kept_in a.kept) a.inode.now a.target.index a.target.hop a.bytes.now).wants)
 goes k =
-    ap (λ (m : Move). is_empty m.goes) k.fetch_move-next.ensures ∙ ap (λ (f : Fetch). is_empty (goes_on 0 f.wants)) k.fetch_next-f.ensures.value
+    ap (λ (m : Move). is_empty m.goes) k.fetch_move-fetched.ensures ∙ ap (λ (f : Fetch). is_empty (goes_on 0 f.wants)) k.fetch_next-f.ensures.value
 
 inside : (k : After-part_end-end) → let a = k.args in
     (a.spot.name_at ≤ k.part_end-end.result) × (k.part_end-end.result ≤ length a.path.now)
@@ -70,7 +70,7 @@ returns-then-path-at c =
     let a = c.args in
     let no = no_names a.path.now a.spot.name_at c.if-path-at.true in
     let next = c.fetch_move.ensures ∙ ap (λ (f : Fetch). fetch_move f a.target.index a.spot c.count_in-count.result) (fetched here.After-fetch_next-f) in
-    let q = question (keeping a.v a.first.now a.journal.now) a.path.now a.index in
+    let q = question (kept_in a.kept) a.path.now a.index in
     let count = count_is here.After-count_in-count in
     record {
       result_value = λ seen. rw next (hop_file q a.spot _ _ _ _ seen c.requires.inode_len.3 _ no count);
@@ -82,31 +82,31 @@ pub returns-then-not-is_empty : goal.returns-then-not-is_empty
 returns-then-not-is_empty c =
     let here = goal.at.returns-then-not-is_empty c in
     let a = c.args in
-    let some = sym (goes here.After-fetch_move-next) ∙ sym c.is_empty.ensures ∙ c.if-not-is_empty.true in
-    let next = c.fetch_move-next.ensures ∙ ap (λ (f : Fetch). fetch_move f a.target.index a.spot 0) (fetched here.After-fetch_next-f) in
-    let q = question (keeping a.v a.first.now a.journal.now) a.path.now a.index in
+    let some = sym (goes here.After-fetch_move-fetched) ∙ sym c.is_empty.ensures ∙ c.if-not-is_empty.true in
+    let next = c.fetch_move-fetched.ensures ∙ ap (λ (f : Fetch). fetch_move f a.target.index a.spot 0) (fetched here.After-fetch_next-f) in
+    let q = question (kept_in a.kept) a.path.now a.index in
     record {
       result_value = λ seen. rw next (hop_block q a.spot _ _ _ _ seen c.requires.inode_len.3 some);
-      move_in = rw c.fetch_move-next.ensures
+      move_in = rw c.fetch_move-fetched.ensures
           (fetch_in _ _ _ a.spot c.requires.spot_in c.fetch_next-f.result a.target.index 0 (omega arith) c.fetch_next-f.ensures.hop_in);
     }
 
 pub slice_bounds-hash-end : goal.slice_bounds-hash-end
 slice_bounds-hash-end c = let known = inside c in omega arith
 
-pub overflow_add-spot : goal.overflow_add-spot
-overflow_add-spot c = let known = is_directory_lem (goal.at.overflow_add-spot c).Else-path-at in omega (arith, known.2)
+pub overflow_add-next : goal.overflow_add-next
+overflow_add-next c = let known = is_directory_lem (goal.at.overflow_add-next c).Else-path-at in omega (arith, known.2)
 
 pub search-requires : goal.search-requires
 search-requires c =
     let known = is_directory_lem (goal.at.search-requires c).Else-path-at in
-    record { kept_in = c.requires.kept_in; inode_len = (c.requires.inode_len.0, known.0, known.1, omega (arith, known.2)) }
+    record { inode_len = (c.requires.inode_len.0, known.0, known.1, omega (arith, known.2)) }
 
 pub returns : goal.returns
 returns c =
     let a = c.args in
-    let none = sym (goes (goal.at.returns c).After-fetch_move-next) ∙ sym c.is_empty.ensures ∙ c.if-not-is_empty.false in
-    let q = question (keeping a.v a.first.now a.journal.now) a.path.now a.index in
+    let none = sym (goes (goal.at.returns c).After-fetch_move-fetched) ∙ sym c.is_empty.ensures ∙ c.if-not-is_empty.false in
+    let q = question (kept_in a.kept) a.path.now a.index in
     let left = names (goal.at.returns c).After-part_end-end in
     record {
       result_value = λ seen.

@@ -7,7 +7,7 @@ use lib.ListN.{length}
 use borrow.Author.Tests.{lt-ltb, le-ltb}
 use Rattle.inode.specs.declared.Inode.{Inode}
 use Rattle.inode.specs.Inode.{inode_of, is_past, count_in}
-use Rattle.asking.specs.Table.{keeping}
+use Rattle.ask_node.specs.Wants.{kept_in}
 use Rattle.ask_directory.specs.Left.{question}
 use Rattle.ask_path.proofs.Names.{no_names}
 use Rattle.ask_path.proofs.Spots.{file_has, directory_has}
@@ -33,7 +33,7 @@ returns-then-path-spot c =
     let here = goal.at.returns-then-path-spot c in
     let a = c.args in
     let behind = c.if-path-spot.true in
-    let q = question (keeping a.v a.first.now a.journal.now) a.path.now a.index in
+    let q = question (kept_in a.kept) a.path.now a.index in
     let no = no_names a.path.now a.spot.name_at behind in
     record {
       result_value = λ seen. rw (lt-ltb _ _ behind, c.go_to.ensures)
@@ -45,7 +45,6 @@ pub at_slots-requires : goal.at_slots-requires
 at_slots-requires c =
     let known = directory_has c.args.path.now c.args.index _ c.args.spot (named c) c.requires.spot_in in
     record {
-      kept_in = c.requires.kept_in;
       inode_len = (c.requires.inode_len.0, c.requires.inode_len.1, named c, c.requires.inode_len.2);
       inode_value = known;
     }

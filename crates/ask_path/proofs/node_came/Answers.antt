@@ -4,8 +4,9 @@ use mathlib.Core.Path.{◌≡◌, sym, ap, ◌∙◌}
 use borrow.Author.Tests.{eq-eqb, ne_eqb}
 use Rattle.node.specs.Node.{at_block}
 use Rattle.walk.specs.Walk.{Seen, and_then}
-use Rattle.asking.specs.Table.{keeping, asking}
+use Rattle.asking.specs.Table.{asking}
 use Rattle.asking.specs.Pull.{came}
+use Rattle.ask_node.specs.Wants.{kept_in}
 use Rattle.ask_directory.specs.Left.{question, names_at, inode_then, node_then}
 use Rattle.ask_path.proofs.Nodes.{foreign_came, own_came, inode_next}
 use Rattle.ask_path.proofs.node_came.Goals as goal
@@ -13,26 +14,26 @@ use Rattle.ask_path.proofs.node_came.Goals.{Else-not-belongs, Else-target-ne0}
 
 -- ---- what is known there
 own : (k : Else-not-belongs) → (seen : Seen) → let a = k.args in
-    let q = question (keeping a.v a.first.now a.journal.now) a.path.now a.index in
+    let q = question (kept_in a.kept) a.path.now a.index in
     let next = node_then q a.spot a.inode.now a.target.index a.target.hop in
     asking q.kept came seen (and_then (at_block a.target.number a.spot.ino a.target.place a.table_inode a.bytes.now) next)
     ≡ asking q.kept came seen (next a.bytes.now)
 own k seen =
     let a = k.args in
-    let q = question (keeping a.v a.first.now a.journal.now) a.path.now a.index in
+    let q = question (kept_in a.kept) a.path.now a.index in
     own_came q a.target.number a.spot.ino a.target.place a.table_inode a.bytes.now seen (node_then q a.spot a.inode.now a.target.index a.target.hop)
     (sym k.belongs.ensures ∙ k.if-not-belongs.false)
 
 -- an inode, with the names that are left
 inode_left : (k : Else-target-ne0) → (seen : Seen) → let a = k.args in
-    let q = question (keeping a.v a.first.now a.journal.now) a.path.now a.index in
+    let q = question (kept_in a.kept) a.path.now a.index in
     asking q.kept came seen
     (and_then (at_block a.target.number a.spot.ino a.target.place a.table_inode a.bytes.now)
     (node_then q a.spot a.inode.now a.target.index a.target.hop))
     ≡ asking q.kept came seen (inode_then q a.spot.ino (names_at q a.spot) a.bytes.now)
 inode_left k seen =
     let a = k.args in
-    let q = question (keeping a.v a.first.now a.journal.now) a.path.now a.index in
+    let q = question (kept_in a.kept) a.path.now a.index in
     let own-here = own_came q a.target.number a.spot.ino a.target.place a.table_inode a.bytes.now seen
     (node_then q a.spot a.inode.now a.target.index a.target.hop) (sym k.belongs.ensures ∙ k.if-not-belongs.false) in
     let next = inode_next q a.spot a.inode.now a.target.index a.target.hop a.bytes.now k.if-target-ne0.false in
@@ -41,7 +42,7 @@ inode_left k seen =
 pub returns-then-not-belongs : goal.returns-then-not-belongs
 returns-then-not-belongs c =
     let a = c.args in
-    let q = question (keeping a.v a.first.now a.journal.now) a.path.now a.index in
+    let q = question (kept_in a.kept) a.path.now a.index in
     let other = sym c.belongs.ensures ∙ c.if-not-belongs.true in
     record { result_value = λ seen. rw c.go_to.ensures (foreign_came q _ _ _ _ _ seen _ _ a.spot other); move_in = rw c.go_to.ensures tt }
 
@@ -50,7 +51,6 @@ at_way-requires c =
     let hop = c.if-target-ne0.true in
     let inodes = c.requires.inode_len in
     record {
-      kept_in = c.requires.kept_in;
       inode_len = (inodes.0, inodes.1, inodes.2, omega (arith, hop), inodes.3);
       spot_in = c.requires.spot_in hop;
     }

@@ -1,8 +1,14 @@
 -- `scan` meets its contract: what the scan of a part comes to is what the slots of its block do.
+use Rattle.dentry.proofs.Scans.{scanning_start}
 use Rattle.ask_path.proofs.Directories.{part_scanned}
 use Rattle.ask_path.proofs.scan.Goals as goal
 
+pub scan_slots-requires : goal.scan_slots-requires
+scan_slots-requires c = scanning_start _ _ _ c.default-scan.ensures
+
 pub returns : goal.returns
 returns c =
-    let a = c.args in
-    part_scanned _ _ _ _ a.inline c.layout_of-layout.ensures.0 c.part_of-part.ensures.0 c.scan_slots-step.ensures.name_value.0
+    record {
+      value = part_scanned _ _ _ _ c.args.inline c.slots_of.ensures.0 c.slots_of.ensures.1 c.scan_slots.ensures.name_value.0;
+      stop_value = c.scan_slots.ensures.stop_value;
+    }

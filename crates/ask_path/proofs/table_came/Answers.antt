@@ -4,22 +4,13 @@ use Rattle.node.specs.Node.{bounds_of}
 use Rattle.asking.specs.Table.{keeping}
 use Rattle.ask_directory.specs.Left.{question}
 use Rattle.ask_directory.specs.Move.{goes_on}
-use Rattle.ask_path.proofs.Entering.{entry_moved, no_entry_moved, entry_is_node}
+use Rattle.ask_path.proofs.Entering.{entry_moved, entry_is_node}
 use Rattle.ask_path.proofs.table_came.Goals as goal
 
-pub returns-in-OutOfRange : goal.returns-in-OutOfRange
-returns-in-OutOfRange c =
+pub returns : goal.returns
+returns c =
     let a = c.args in
-    let said = sym c.table_entry.ensures ∙ c.in-OutOfRange.is in
-    record {
-      by_index = λ first journal path index inode s. rw said (no_entry_moved (question (keeping a.v first journal) path index) inode a.target a.spot s);
-      target_value = (refl, refl, tt);
-    }
-
-pub returns-in-Entry : goal.returns-in-Entry
-returns-in-Entry c =
-    let a = c.args in
-    let said = sym c.table_entry.ensures ∙ c.in-Entry.is in
+    let said = sym c.table_entry.ensures in
     let goes = c.goes_on-goes.ensures ∙ ap (goes_on 0) c.from_entry-wants.ensures in
     record {
       by_index = λ first journal path index inode s.

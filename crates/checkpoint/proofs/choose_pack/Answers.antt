@@ -9,7 +9,7 @@ use Rattle.checkpoint.proofs.choose_pack.Goals.{After-is_newer}
 
 -- the test is of the two packs' headers on the card
 newer_by : (k : After-is_newer) → let a = k.args in
-    k.is_newer.result ≡ newer (header_of (card_of a.image.now) a.address) (header_of (card_of a.image.now) (second_pack a.address))
+    k.is_newer.result ≡ newer (header_of (card_of a.image.bytes.now) a.address) (header_of (card_of a.image.bytes.now) (second_pack a.address))
 newer_by k =
     rw (k.checkpoint_of-one.ensures, k.block_at.ensures, k.checkpoint_of-other.ensures, k.block_at-2.ensures) at k.is_newer.ensures
 

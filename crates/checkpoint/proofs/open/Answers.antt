@@ -1,34 +1,54 @@
-use Rattle.std.proofs.Common.{◌≡◌, true, length, sym, ◌∙◌}
-use Rattle.superblock.specs.Shape.{in_shape}
-use Rattle.superblock.proofs.Shaped.{shape_card}
+use Rattle.std.proofs.Common.{◌≡◌, sym, ap, ◌∙◌}
+use Rattle.std.proofs.lemmas.Result.{err_from_is_err_and}
+use Rattle.superblock.specs.Areas.{found, At}
+use Rattle.superblock.specs.Search.{found_in}
+use Rattle.superblock.specs.Shaped.{shaped_card}
 use Rattle.superblock.proofs.Finding.{areas_in_lem}
-use Rattle.checkpoint.proofs.Ways.{shape_refuses, shape_opens, opened_at}
-use Rattle.checkpoint.proofs.Negated.{fails, holds}
+use Rattle.checkpoint.specs.OpenImage.{volume_read}
+use Rattle.checkpoint.specs.Volume.{opened_image, Opened}
+use Rattle.checkpoint.proofs.Ways.{tested_opens, tested_refuses, opened_at}
+use Rattle.checkpoint.proofs.Inside.{image_volume}
 use Rattle.checkpoint.proofs.open.Goals as goal
-use Rattle.checkpoint.proofs.open.Goals.{Else-not-in_shape}
+use Rattle.checkpoint.proofs.open.Goals.{In_ok-areas, In_ok-volume}
 
-shaped : (k : Else-not-in_shape) → in_shape (length k.args.image.now) ≡ true
-shaped k = holds k.in_shape.ensures k.if-not-in_shape.false
+-- the areas that are found, and the volume
+areas_found : (k : In_ok-areas) → found (shaped_card k.in_ok-shaped.shaped) ≡ At k.in_ok-areas.areas
+areas_found k = sym k.find_superblock.ensures ∙ ap found_in k.in_ok-areas.was
 
-pub returns-then-not-in_shape : goal.returns-then-not-in_shape
-returns-then-not-in_shape c =
-    sym (shape_refuses _ (fails c.in_shape.ensures c.if-not-in_shape.true))
+volume_found : (k : In_ok-volume) → opened_image k.args.image.now ≡ Opened k.in_ok-volume.volume
+volume_found k =
+    let shaped = tested_opens k.args.image.now k.in_ok-shaped.was k.of.ensures in
+    let areas = sym k.find_superblock.ensures ∙ ap found_in k.in_ok-areas.was in
+    let read = sym k.open_areas.ensures ∙ ap volume_read k.in_ok-volume.was in
+    shaped ∙ opened_at _ _ areas ∙ read
 
-pub find_superblock-found-requires : goal.find_superblock-found-requires
-find_superblock-found-requires c =
-    shape_card _ (shaped c)
+pub returns-in_err-shaped-clause-opening : goal.returns-in_err-shaped-clause-opening
+returns-in_err-shaped-clause-opening c =
+    let p = err_from_is_err_and c.from_residual.result c.from_residual.ensures.1 in
+    rw (p.1, p.2) (sym (tested_refuses c.args.image.now c.in_err-shaped.was c.of.ensures))
 
 pub open_areas-requires : goal.open_areas-requires
 open_areas-requires c =
-    let areas = areas_in_lem _ _ (sym c.find_superblock-found.ensures ∙ c.in-At.is) in
-    record { in_shape = shape_card _ (shaped (goal.at.open_areas-requires c).Else-not-in_shape); areas_in = areas }
+    record { areas_in = areas_in_lem _ _ (areas_found (goal.at.open_areas-requires c).In_ok-areas) }
 
-pub returns-in-At : goal.returns-in-At
-returns-in-At c =
-    let found = sym c.find_superblock-found.ensures ∙ c.in-At.is in
-    c.open_areas.ensures ∙ sym (opened_at _ _ found) ∙ sym (shape_opens _ (shaped (goal.at.returns-in-At c).Else-not-in_shape))
+pub returns-in_err-areas-clause-opening : goal.returns-in_err-areas-clause-opening
+returns-in_err-areas-clause-opening c =
+    let p = err_from_is_err_and c.from_residual-in_err-areas.result c.from_residual-in_err-areas.ensures.1 in
+    let shaped = tested_opens c.args.image.now c.in_ok-shaped.was c.of.ensures in
+    let refused = sym c.find_superblock.ensures ∙ ap found_in c.in_err-areas.was in
+    rw (p.1, p.2) (sym (shaped ∙ opened_at _ _ refused))
 
-pub returns-in-Refused : goal.returns-in-Refused
-returns-in-Refused c =
-    let found = sym c.find_superblock-found.ensures ∙ c.in-Refused.is in
-    sym (opened_at _ _ found) ∙ sym (shape_opens _ (shaped (goal.at.returns-in-Refused c).Else-not-in_shape))
+pub returns-in_err-volume-clause-opening : goal.returns-in_err-volume-clause-opening
+returns-in_err-volume-clause-opening c =
+    let p = err_from_is_err_and c.from_residual-in_err-volume.result c.from_residual-in_err-volume.ensures.1 in
+    let shaped = tested_opens c.args.image.now c.in_ok-shaped.was c.of.ensures in
+    let areas = sym c.find_superblock.ensures ∙ ap found_in c.in_ok-areas.was in
+    let refused = sym c.open_areas.ensures ∙ ap volume_read c.in_err-volume.was in
+    rw (p.1, p.2) (sym (shaped ∙ opened_at _ _ areas ∙ refused))
+
+pub invariant_of-result : goal.invariant_of-result
+invariant_of-result c =
+    record { volume_in = image_volume _ _ (volume_found c) }
+
+pub returns-clause-opening : goal.returns-clause-opening
+returns-clause-opening c = sym (volume_found (goal.at.returns-clause-opening c).In_ok-volume)

@@ -12,7 +12,7 @@ use Rattle.checkpoint.proofs.open_pack.Goals as goal
 use Rattle.checkpoint.proofs.open_pack.Goals.{After-checkpoint_of-cp, After-volume_of-volume, Else-not-header_readable}
 
 -- the header is the pack's, whose total is 2 to 512
-read_of : (k : After-checkpoint_of-cp) → let a = k.args in k.checkpoint_of-cp.result ≡ header_of (card_of a.image.now) a.start
+read_of : (k : After-checkpoint_of-cp) → let a = k.args in k.checkpoint_of-cp.result ≡ header_of (card_of a.image.bytes.now) a.start
 read_of k = rw k.block_at.ensures at k.checkpoint_of-cp.ensures
 
 total : (k : After-checkpoint_of-cp) → let cp = k.checkpoint_of-cp.result in
@@ -28,7 +28,7 @@ maps k = readable_maps _ _ (readable k)
 
 -- the journal lies in the card
 placed : (k : After-volume_of-volume) → let v = k.volume_of-volume.result in
-    (v.journal_block < (card_of k.args.image.now).blocks) × (v.journal_at ≤ 3584)
+    (v.journal_block < (card_of k.args.image.bytes.now).blocks) × (v.journal_at ≤ 3584)
 placed k =
     let read = rw k.block_at.ensures at k.checkpoint_of-cp.ensures in
     let few : (2 ≤ k.checkpoint_of-cp.result.cp_pack_total_block_count) × (k.checkpoint_of-cp.result.cp_pack_total_block_count ≤ 512) =
@@ -56,12 +56,12 @@ volume_of-volume-requires c =
 
 pub journal_of-requires : goal.journal_of-requires
 journal_of-requires c =
-    let whole = placed c in
+    let whole = placed (goal.at.journal_of-requires c).After-volume_of-volume in
     record { journal_block_bound = whole.0; journal_at_bound = whole.1 }
 
 pub journal_readable-requires : goal.journal_readable-requires
 journal_readable-requires c =
-    let image = c.args.image.now in
+    let image = c.args.image.bytes.now in
     rw c.journal_of.ensures (journal_room image c.volume_of-volume.result (placed (goal.at.journal_readable-requires c).After-volume_of-volume).0
     (placed (goal.at.journal_readable-requires c).After-volume_of-volume).1)
 

@@ -1,53 +1,42 @@
-use mathlib.Core.Path.{◌≡◌, sym, ◌∙◌}
-use mathlib.Core.Bool.{true}
-use Prim.Native.Nat.{◌*◌, ◌≤◌}
-use native.Mathlib.Omega.{arith}
-use lib.ListN.{length}
+use mathlib.Core.Path.{◌≡◌, ◌∙◌}
+use mathlib.Core.Bool.{◌&&◌}
+use lib.Dec.{leb}
 use Rattle.list.specs.Lists.{listing}
-use Rattle.list.proofs.Columns.{numbers_column}
-use Rattle.compare.proofs.Shapes.{CountsFit, counts_refuse, counts_pass_lem, counts_held}
+use Rattle.node.specs.Node.{bounds_of}
+use Rattle.compare.specs.Lists.{lists_in_shape}
+use Rattle.compare.proofs.Shapes.{nodes_refuse, blocks_refuse, counts_pass_lem}
 use Rattle.compare.proofs.lists_in_shape.Goals as goal
-use Rattle.compare.proofs.lists_in_shape.Goals.{Else-not-counts_fit}
+use Rattle.compare.proofs.lists_in_shape.Goals.{After-all_in}
 
--- the counts passed, so each list is held by its slice
-passed : (k : Else-not-counts_fit) → let a = k.args in
-    CountsFit (listing a.nodes.now a.node_count) (listing a.blocks.now a.block_count) ≡ true
-passed k = sym k.counts_fit.ensures ∙ k.if-not-counts_fit.false
+pub returns-in_err-nodes : goal.returns-in_err-nodes
+returns-in_err-nodes c = rw c.from_residual.ensures (nodes_refuse _ _ _ c.in_err-nodes.ensures)
 
-held : (k : Else-not-counts_fit) → let a = k.args in
-    (4 * a.node_count ≤ length a.nodes.now) × (4 * a.block_count ≤ length a.blocks.now)
-held k =
+pub returns-in_err-blocks : goal.returns-in_err-blocks
+returns-in_err-blocks c = rw c.from_residual-in_err-blocks.ensures (blocks_refuse _ _ _ c.in_err-blocks.ensures)
+
+-- what the code tests once both counts have passed is all that is left
+tested : (k : After-all_in) → let a = k.args in
+    lists_in_shape (bounds_of a.v) (listing a.nodes.now a.node_count) (listing a.blocks.now a.block_count)
+    ≡ (leb 1 k.in_ok-nodes.nodes.count && k.is_rising.result && k.is_rising-2.result && k.all_in.result)
+tested k =
     let a = k.args in
-    counts_held (listing a.nodes.now a.node_count) (listing a.blocks.now a.block_count) (passed k)
-
-pub returns-then-not-counts_fit : goal.returns-then-not-counts_fit
-returns-then-not-counts_fit c =
-    sym (counts_refuse _ _ _ (sym c.counts_fit.ensures ∙ c.if-not-counts_fit.true))
-
-pub is_rising-requires : goal.is_rising-requires
-is_rising-requires c =
-    let h = (held (goal.at.is_rising-requires c).Else-not-counts_fit).0 in
-    (omega arith, omega arith)
-
-pub is_rising-requires-2 : goal.is_rising-requires-2
-is_rising-requires-2 c =
-    let h = (held (goal.at.is_rising-requires-2 c).Else-not-counts_fit).1 in
-    (omega arith, omega arith)
-
-pub all_in_main-requires : goal.all_in_main-requires
-all_in_main-requires c =
-    let h = (held (goal.at.all_in_main-requires c).Else-not-counts_fit).1 in
-    (omega arith, omega arith)
-
-pub returns : goal.returns
-returns c =
-    let k = (goal.at.returns c).Else-not-counts_fit in
-    let a = c.args in
+    let n = k.in_ok-nodes.ensures in
+    let b = k.in_ok-blocks.ensures in
     rw (
-      c.is_rising.ensures,
-      c.is_rising-2.ensures,
-      c.all_in_main.ensures,
-      ← numbers_column a.nodes.now 0 a.node_count,
-      ← numbers_column a.blocks.now 0 a.block_count,
+      counts_pass_lem (bounds_of a.v) (listing a.nodes.now a.node_count) (listing a.blocks.now a.block_count) n.0 b.0,
+      ← n.1,
+      ← b.1,
+      ← k.is_rising.ensures,
+      ← k.is_rising-2.ensures,
+      ← k.main_area.ensures,
+      ← k.all_in.ensures,
+      n.2,
     )
-    (sym (counts_pass_lem _ _ _ (passed k)))
+
+pub returns-then-nodes-is_rising : goal.returns-then-nodes-is_rising
+returns-then-nodes-is_rising c =
+    let told = tested (goal.at.returns-then-nodes-is_rising c).After-all_in in
+    (told ∙ c.if-nodes-is_rising.true, c.in_ok-nodes.ensures.1, c.in_ok-blocks.ensures.1)
+
+pub returns-else-nodes-is_rising : goal.returns-else-nodes-is_rising
+returns-else-nodes-is_rising c = tested (goal.at.returns-else-nodes-is_rising c).After-all_in ∙ c.if-nodes-is_rising.false

@@ -4,6 +4,6 @@ use Rattle.crc32.specs.Checksum.{crc_bit, crc_bits}
 use Rattle.crc32.proofs.EntryTest.{is_table}
 use Rattle.crc32.proofs.checksum.Goals as goal
 
-pub over_bytes-requires : goal.over_bytes-requires
+pub invariant_of-steps : goal.invariant_of-steps
 unfolding crc_bit crc_bits
-over_bytes-requires c = is_table _ refl tt tt
+invariant_of-steps c = record { rule = is_table _ refl tt tt }

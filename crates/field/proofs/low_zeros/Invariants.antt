@@ -5,7 +5,7 @@ use Rattle.field.specs.Map.{low_zeros}
 use Rattle.field.proofs.low_zeros.Given as goal
 
 abbrev pub invariant-loop-run : goal.invariant-loop-run
-invariant-loop-run l = (l.run ≤ l.end - l.b) × (l.most ≡ l.end - l.b) × (low_zeros l.map l.run l.b ≡ l.run)
+invariant-loop-run l = record { within : l.run ≤ l.end - l.b; zeros : low_zeros l.map l.run l.b ≡ l.run }
 
 abbrev pub decreases-loop-run : goal.decreases-loop-run
 decreases-loop-run l = l.most - l.run

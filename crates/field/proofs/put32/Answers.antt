@@ -1,18 +1,6 @@
-use native.Mathlib.Omega.{arith}
-use mathlib.Core.Path.{refl}
-use lib.ListN.{length-set}
-use Rattle.field.specs.Number.{put32_at}
+use mathlib.Core.Path.{◌∙◌}
+use Rattle.field.proofs.Endian.{put32_written}
 use Rattle.field.proofs.put32.Goals as goal
 
-pub bounds-bytes-at-2 : goal.bounds-bytes-at-2
-bounds-bytes-at-2 c = simp length-set (omega arith)
-
-pub bounds-bytes-at-3 : goal.bounds-bytes-at-3
-bounds-bytes-at-3 c = simp length-set (omega arith)
-
-pub bounds-bytes-at-4 : goal.bounds-bytes-at-4
-bounds-bytes-at-4 c = simp length-set (omega arith)
-
 pub returns : goal.returns
-unfolding put32_at
-returns c = refl
+returns c = put32_written c.args.bytes.now c.args.at c.args.x c.requires c.ranges.x.fits (c.copy_from_slice.ensures.after ∙ c.to_le_bytes.ensures)

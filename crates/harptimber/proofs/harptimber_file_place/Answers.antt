@@ -12,4 +12,4 @@ pub returns-else-addresses : goal.returns-else-addresses
 unfolding file_place
 returns-else-addresses c =
     rw c.if-addresses.false
-    (c.answer_with.ensures ∙ ap (crossing 4) c.no_way.ensures)
+    (c.answer_with.ensures ∙ ap (λ n. crossing n c.no_way.result) c.number.ensures ∙ ap (crossing 4) c.no_way.ensures)

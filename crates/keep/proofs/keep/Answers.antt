@@ -4,7 +4,6 @@ use mathlib.Core.Bool.{true, not, ◌&&◌}
 use lib.Dec.{eqb}
 use lib.ListN.{length}
 use Rattle.superblock.specs.Shape.{in_shape}
-use Rattle.checkpoint.proofs.Inside.{image_volume}
 use Rattle.path.specs.Path.{is_path}
 use Rattle.keep.proofs.Calls.{call_refused, call_opens, path_in_shape, counted_shape}
 use Rattle.keep.proofs.keep.Goals as goal
@@ -21,24 +20,20 @@ in_shape_lem k = counted_shape k.args.image.now k.args.path.now k.name_count-k.e
 pub returns-then-not-in_shape-k : goal.returns-then-not-in_shape-k
 returns-then-not-in_shape-k c =
     let k = (goal.at.returns-then-not-in_shape-k c).After-in_shape in
-    sym (call_refused c.args.image.now c.args.path.now c.args.index c.args.room.now (tested k ∙ c.if-not-in_shape-k.true))
+    rw c.number.ensures (sym (call_refused c.args.image.now c.args.path.now c.args.index c.args.room.now (tested k ∙ c.if-not-in_shape-k.true)))
 
 pub keep_opened-requires : goal.keep_opened-requires
 keep_opened-requires c =
-    let k = (goal.at.keep_opened-requires c).Else-not-in_shape-k in
-    record {
-      volume_in = image_volume _ _ (sym c.open.ensures ∙ c.in-Opened.is);
-      path_value = path_in_shape c.args.image.now c.args.path.now (in_shape_lem k);
-    }
+    path_in_shape c.args.image.now c.args.path.now (in_shape_lem (goal.at.keep_opened-requires c).Else-not-in_shape-k)
 
-pub returns-in-Refused : goal.returns-in-Refused
-returns-in-Refused c =
-    let k = (goal.at.returns-in-Refused c).Else-not-in_shape-k in
-    let opens = sym c.open.ensures ∙ c.in-Refused.is in
-    sym (call_opens c.args.image.now c.args.path.now c.args.index c.args.room.now _ (in_shape_lem k) opens)
+pub returns-in-Ok : goal.returns-in-Ok
+returns-in-Ok c =
+    let k = (goal.at.returns-in-Ok c).Else-not-in_shape-k in
+    let told = rw c.in-Ok.ensures.same_image at c.keep_opened.ensures in
+    told ∙ sym (call_opens c.args.image.now c.args.path.now c.args.index c.args.room.now _ (in_shape_lem k) (sym c.in-Ok.ensures.opening))
 
-pub returns-in-Opened : goal.returns-in-Opened
-returns-in-Opened c =
-    let k = (goal.at.returns-in-Opened c).Else-not-in_shape-k in
-    let opens = sym c.open.ensures ∙ c.in-Opened.is in
-    c.keep_opened.ensures ∙ sym (call_opens c.args.image.now c.args.path.now c.args.index c.args.room.now _ (in_shape_lem k) opens)
+pub returns-in-Err : goal.returns-in-Err
+returns-in-Err c =
+    let k = (goal.at.returns-in-Err c).Else-not-in_shape-k in
+    rw c.number-in-Err.ensures
+    (sym (call_opens c.args.image.now c.args.path.now c.args.index c.args.room.now _ (in_shape_lem k) (sym c.in-Err.ensures.opening)))

@@ -1,28 +1,26 @@
 use mathlib.Core.Path.{◌≡◌, refl, sym, ◌∙◌}
-use Prim.Native.Nat.{◌+◌, ◌-◌, ◌*◌}
+use Prim.Native.Nat.{◌+◌, ◌*◌}
 use native.Mathlib.Omega.{arith}
-use Rattle.field.specs.Card.{card_of}
+use Rattle.checkpoint.specs.OpenImage.{card_in}
 use Rattle.keep.proofs.Pieces.{node_size}
 use Rattle.keep.proofs.Turns.{turns_start, turns_over, turn}
 use Rattle.keep.proofs.put_nodes.Goals as goal
 
--- ---- the needs
 pub loop-i-init : goal.loop-i-init
-loop-i-init c =
-    (omega arith, refl, turns_start _ _ _ _ _ _ c.args.room.now (omega arith))
+loop-i-init c = (refl, turns_start _ _ _ _ _ _ c.args.room.now (omega arith))
 
 pub loop-i-preserved : goal.loop-i-preserved
 loop-i-preserved c =
     let loop = c.loop-i in
     let place = c.args.at + 16 * loop.i in
-    let size = node_size (card_of c.args.image.now) c.args.v c.get32.result in
+    let size = node_size (card_in c.args.card) c.args.card.volume c.get32.result in
     let on =
     turn _ _ c.args.nodes.now loop.i c.args.count c.loop-i-test.true c.get32.ensures place 16
     loop.room size (omega arith) c.put_node.ensures in
     let next : c.args.at + 16 * (loop.i + 1) ≡ place + 16 = omega arith in
-    (omega arith, omega arith, rw next (on ∙ loop.invariant.2))
+    (omega arith, rw next (on ∙ loop.invariant.1))
 
 pub returns : goal.returns
 returns c =
     let loop = c.loop-i in
-    sym (turns_over _ _ c.args.nodes.now loop.i c.args.count (c.args.at + 16 * loop.i) loop.room c.loop-i-test.false) ∙ loop.invariant.2
+    sym (turns_over _ _ c.args.nodes.now loop.i c.args.count (c.args.at + 16 * loop.i) loop.room c.loop-i-test.false) ∙ loop.invariant.1

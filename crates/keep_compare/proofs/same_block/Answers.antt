@@ -3,10 +3,9 @@ use native.Mathlib.Omega.{arith}
 use Prim.Native.Nat.{ℕ, ◌+◌, ◌-◌}
 use mathlib.Core.Path.{◌≡◌, ap, ◌∙◌}
 use mathlib.Core.List.{List}
-use lib.ListN.{length, take, drop}
-use Rattle.field.proofs.Blocks.{length_of_block}
+use lib.ListN.{take, drop}
 use Rattle.keep_file.specs.Reading.{bytes_at}
-use Rattle.keep_file.proofs.Lengths.{bytes_length}
+use Rattle.compare.proofs.Sameness.{pointwise_same}
 use Rattle.keep_compare.proofs.same_block.Goals as goal
 
 -- the part as the slice has it
@@ -14,10 +13,6 @@ part : (file : List ℕ) (at : ℕ) → take (at + 4096 - at) (drop at file) ≡
 unfolding bytes_at
 part file at = let e : at + 4096 - at ≡ 4096 = omega arith in ap (λ (n : ℕ). take n (drop at file)) e
 
-pub same_bytes-requires : goal.same_bytes-requires
-same_bytes-requires c =
-    (ap length (part _ _) ∙ bytes_length _ _ c.requires.at_in_bounds, length_of_block _ _ c.requires.b_bound c.block_at.ensures)
-
 pub returns : goal.returns
 returns c =
-    rw (← part _ _, ← c.block_at.ensures) c.same_bytes.ensures
+    rw (← part c.args.file.now c.args.at, ← c.block_at.ensures) (c.eq.ensures ∙ pointwise_same _ _)

@@ -1,37 +1,19 @@
-use native.Mathlib.Omega.{arith}
-use mathlib.Core.Path.{refl, ap}
-use lib.ListN.{length}
-use borrow.Author.Tests.{eq-eqb, ne_eqb}
-use Rattle.path.proofs.Parts.{first_on, first_slash, first_end}
+use Rattle.std.proofs.Common.{◌∙◌, ◌+◌, ap, rules, tests, eqb, not, drop}
+use Rattle.std.proofs.lemmas.Iterator.{YieldsList-from_slice}
+use Rattle.std.proofs.lemmas.Iterator.Consumers.{YieldsList-at, count_from_yields_List}
+use Rattle.std.proofs.lemmas.Iterator.Search.{YieldsList-from_take_while}
+use Rattle.std.proofs.lemmas.List.{take_rest}
+use Rattle.std.proofs.lemmas.List.Folds.{length-prefix_len}
+use Rattle.path.specs.Path.{slash}
+use Rattle.path.proofs.Splits.{prefix_is}
 use Rattle.path.proofs.part_end.Goals as goal
-
--- ---- the needs
-pub loop-i-init : goal.loop-i-init
-loop-i-init c = (c.requires, refl)
-
-pub bounds-path-i : goal.bounds-path-i
-bounds-path-i c = omega arith
-
-pub returns-then-path-i-eq47 : goal.returns-then-path-i-eq47
-returns-then-path-i-eq47 c =
-    let ends = ap length (first_slash c.loop-i.i c.args.path.now (omega arith) (eq-eqb _ _ c.if-path-i-eq47.true)) in
-    let known = c.loop-i.invariant.1 in
-    omega arith
-
-pub overflow_add-i : goal.overflow_add-i
-overflow_add-i c = omega arith
-
-pub loop-i-smaller : goal.loop-i-smaller
-loop-i-smaller c = omega arith
-
-pub loop-i-preserved : goal.loop-i-preserved
-loop-i-preserved c =
-    let goes_on = first_on c.loop-i.i c.args.path.now (omega arith) (ne_eqb _ _ c.if-path-i-eq47.false) in
-    let known = c.loop-i.invariant.1 in
-    (omega arith, omega arith)
 
 pub returns : goal.returns
 returns c =
-    let ends = ap length (first_end c.loop-i.i c.args.path.now (omega arith)) in
-    let known = c.loop-i.invariant.1 in
-    omega arith
+    let path = drop c.args.start c.args.path.now in
+    let rest = c.iter.ensures.rest ∙ take_rest c.args.path.now c.args.start in
+    let taken = c.take_while-part.ensures in
+    let part = count_from_yields_List c.take_while-part.result _ c.count.ensures.ran
+    (YieldsList-from_take_while _ (λ b. not (eqb b slash)) (YieldsList-at taken.source (YieldsList-from_slice path rest))
+    taken.closure taken.done (λ x b q k. search (rules, tests))) in
+    ap (◌+◌ c.args.start) (part ∙ length-prefix_len (λ b. not (eqb b slash)) path ∙ prefix_is path)

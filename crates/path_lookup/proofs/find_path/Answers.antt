@@ -1,77 +1,32 @@
-use Prim.Native.Nat.{◌-◌, ◌^◌, ◌≤◌, ◌<◌}
+-- `find_path` meets its contract.
 use native.Mathlib.Omega.{arith}
-use mathlib.Core.Path.{◌≡◌, ap}
-use lib.ListN.{length}
-use Rattle.walk.specs.Walk.{ok}
-use Rattle.directory.specs.Find.{entry_of}
+use mathlib.Core.Path.{refl}
+use Rattle.std.proofs.lemmas.Result.{err_from_is_err_and}
+use Rattle.walk.proofs.Same.{same_refl, same_trans}
 use Rattle.path_lookup.proofs.Turns.{names_start, name_inside, name_fits, names_stop, names_end, names_next}
 use Rattle.path_lookup.proofs.find_path.Goals as goal
-use Rattle.path_lookup.proofs.find_path.Goals.{After-part_end-end, In-Found, Start}
 
--- ---- what is known there
-inside : (k : After-part_end-end) → (k.loop-answer.start ≤ k.part_end-end.result) × (k.part_end-end.result ≤ length k.args.path.now)
-inside k = name_inside k.loop-answer.invariant k.part_end-end.ensures
-
-led : (k : In-Found) → entry_of k.find_in-step.result.entry ≡ ok k.in-Found.child
-led k = ap entry_of k.in-Found.is
-
--- what a lent slice's length is below
-path_small : (s : Start) → length s.args.path.now < 2 ^ 64
-path_small s = s.well_formed.1.1.1.1.1.0.0
-
--- ---- the needs
-pub loop-answer-init : goal.loop-answer-init
-loop-answer-init c = names_start _ _ _ _
-
-pub part_end-end-requires : goal.part_end-end-requires
-part_end-end-requires c = c.loop-answer.invariant.inside
-
-pub slice_bounds-find_in-count : goal.slice_bounds-find_in-count
-slice_bounds-find_in-count c = (inside (goal.at.slice_bounds-find_in-count c).After-part_end-end).0
-
-pub slice_bounds-find_in-start : goal.slice_bounds-find_in-start
-slice_bounds-find_in-start c = let known = inside (goal.at.slice_bounds-find_in-start c).After-part_end-end in omega arith
+pub loop-ino-init : goal.loop-ino-init
+loop-ino-init c = record { at = names_start _ _ _ _; same = same_refl c.args.seen.now }
 
 pub slice_bounds-find_in-end : goal.slice_bounds-find_in-end
-slice_bounds-find_in-end c = let known = inside (goal.at.slice_bounds-find_in-end c).After-part_end-end in omega arith
+slice_bounds-find_in-end c = let inside = name_inside c.loop-ino.invariant.at c.part_end-end.ensures in omega arith
 
-pub find_in-step-requires : goal.find_in-step-requires
-find_in-step-requires c =
-    record { fits = name_fits c.loop-answer.invariant c.part_end-end.ensures c.requires.fits; volume_in = c.requires.volume_in }
+pub find_in-requires : goal.find_in-requires
+find_in-requires c = name_fits c.loop-ino.invariant.at c.part_end-end.ensures c.requires.fits
 
-pub overflow_add-start : goal.overflow_add-start
-overflow_add-start c =
-    let known = inside (goal.at.overflow_add-start c).After-part_end-end in
-    let more = c.if-end-path.false in
-    let small = path_small (goal.at.overflow_add-start c).Start in
-    omega arith
+pub returns-in_err-ino-clause-walked : goal.returns-in_err-ino-clause-walked
+returns-in_err-ino-clause-walked c =
+    let p = err_from_is_err_and c.from_residual.result c.from_residual.ensures.1 in
+    rw (p.1, p.2) (names_stop c.loop-ino.invariant.at c.part_end-end.ensures c.in_err-ino.ensures.walked refl)
 
-pub loop-answer-smaller : goal.loop-answer-smaller
-loop-answer-smaller c =
-    let known = inside (goal.at.loop-answer-smaller c).After-part_end-end in
-    let more = c.if-end-path.false in
-    omega arith
+pub returns-then-end-path-clause-walked : goal.returns-then-end-path-clause-walked
+returns-then-end-path-clause-walked c =
+    names_end c.loop-ino.invariant.at c.part_end-end.ensures c.in_ok-ino.ensures.walked refl c.if-end-path.true
 
-pub loop-answer-preserved : goal.loop-answer-preserved
-loop-answer-preserved c =
-    names_next c.loop-answer.invariant c.part_end-end.ensures c.find_in-step.ensures (led (goal.at.loop-answer-preserved c).In-Found) c.if-end-path.false
-
-pub returns-in-Stop : goal.returns-in-Stop
-returns-in-Stop c =
-    names_stop c.loop-answer.invariant c.part_end-end.ensures c.find_in-step.ensures (ap entry_of c.in-Stop.is)
-
-pub returns-then-end-path : goal.returns-then-end-path
-returns-then-end-path c =
-    names_end c.loop-answer.invariant c.part_end-end.ensures c.find_in-step.ensures (led (goal.at.returns-then-end-path c).In-Found) c.if-end-path.true
-
-pub shape_of-nodes-in-Stop : goal.shape_of-nodes-in-Stop
-shape_of-nodes-in-Stop c = (returns-in-Stop c).nodes_grown.size
-
-pub shape_of-blocks-in-Stop : goal.shape_of-blocks-in-Stop
-shape_of-blocks-in-Stop c = (returns-in-Stop c).blocks_grown.size
-
-pub shape_of-nodes-then-end-path : goal.shape_of-nodes-then-end-path
-shape_of-nodes-then-end-path c = (returns-then-end-path c).nodes_grown.size
-
-pub shape_of-blocks-then-end-path : goal.shape_of-blocks-then-end-path
-shape_of-blocks-then-end-path c = (returns-then-end-path c).blocks_grown.size
+pub loop-ino-preserved : goal.loop-ino-preserved
+loop-ino-preserved c =
+    record {
+      at = names_next c.loop-ino.invariant.at c.part_end-end.ensures c.in_ok-ino.ensures.walked refl c.if-end-path.false;
+      same = same_trans c.args.seen.now c.loop-ino.seen c.find_in.new.seen c.loop-ino.invariant.same c.in_ok-ino.ensures.same;
+    }

@@ -1,39 +1,36 @@
 -- `fill_from_path` meets its contract: the path looked up once, then the blocks of the file.
-use mathlib.Core.Path.{ap}
+use mathlib.Core.Path.{refl}
+use Rattle.std.proofs.lemmas.Result.{err_from_is_err_and}
 use Rattle.walk.proofs.Fits.{fits_part}
 use Rattle.node.specs.Node.{bounds_of}
-use Rattle.directory.specs.Find.{entry_of}
 use Rattle.file_run.specs.Walks.{file_run_walk}
 use Rattle.file_run.proofs.Unless.{unless_stop, unless_fits, unless_filled}
 use Rattle.pull_run.specs.Walk.{run_walk}
 use Rattle.pull_run.proofs.fill_from_path.Goals as goal
 
 -- ---- the needs
-pub find_path-step-requires : goal.find_path-step-requires
+pub find_path-requires : goal.find_path-requires
 unfolding run_walk
-find_path-step-requires c =
-    record { fits = fits_part _ _ c.requires.fits; volume_in = c.requires.volume_in }
+find_path-requires c =
+    record { fits = fits_part _ _ c.requires.fits }
 
-pub fill_of_file-requires : goal.fill_of_file-requires
+pub fill_of_file-requires-clause-fits : goal.fill_of_file-requires-clause-fits
 unfolding run_walk
-fill_of_file-requires c =
+fill_of_file-requires-clause-fits c =
     let a = c.args in
-    let found = ap entry_of c.in-Found.is in
-    record {
-      fits = unless_fits (file_run_walk (bounds_of a.v) a.wanted a.index) c.find_path-step.ensures found c.requires.fits;
-      volume_in = c.requires.volume_in;
-      room_for = c.requires.room_for;
-    }
+    unless_fits (file_run_walk (bounds_of a.card.volume) a.wanted a.index) c.in_ok-ino.ensures.walked refl c.requires.fits
 
-pub returns-in-Stop : goal.returns-in-Stop
+-- ---- what it leaves
+pub returns-in_err-ino-clause-filled : goal.returns-in_err-ino-clause-filled
 unfolding run_walk
-returns-in-Stop c =
+returns-in_err-ino-clause-filled c =
     let a = c.args in
-    unless_stop (file_run_walk (bounds_of a.v) a.wanted a.index) c.find_path-step.ensures (ap entry_of c.in-Stop.is)
+    let p = err_from_is_err_and c.from_residual.result c.from_residual.ensures.1 in
+    let room = c.requires.room_for in
+    rw (p.1, p.2) (unless_stop (file_run_walk (bounds_of a.card.volume) a.wanted a.index) c.in_err-ino.ensures.walked room.none room.no_last refl)
 
-pub returns-in-Found : goal.returns-in-Found
+pub returns-clause-filled : goal.returns-clause-filled
 unfolding run_walk
-returns-in-Found c =
+returns-clause-filled c =
     let a = c.args in
-    let found = ap entry_of c.in-Found.is in
-    unless_filled (file_run_walk (bounds_of a.v) a.wanted a.index) c.find_path-step.ensures found c.fill_of_file.ensures
+    unless_filled (file_run_walk (bounds_of a.card.volume) a.wanted a.index) c.in_ok-ino.ensures.walked refl c.fill_of_file.ensures.filled

@@ -2,34 +2,37 @@
 use Prim.Native.Nat.{ℕ, ◌≤◌}
 use mathlib.Core.Path.{◌≡◌, sym, ap, subst, ◌∙◌}
 use mathlib.Core.Bool.{true, not, ◌&&◌}
+use mathlib.Core.List.{List}
 use lib.Dec.{eqb}
-use Rattle.checkpoint.proofs.Inside.{image_volume}
+use Rattle.field.specs.Card.{card_of}
+use Rattle.checkpoint.specs.Volume.{Opened}
 use Rattle.path.specs.Path.{names_most}
 use Rattle.path.proofs.Counting.{count_few}
 use Rattle.pull.specs.Pull.{lending}
 use Rattle.pull_run.specs.declared.Run.{Run}
-use Rattle.pull_run.specs.Run.{run_in_shape, run_call_in_shape, run_result}
+use Rattle.pull_run.specs.Run.{run_in_shape, run_call_in_shape, run_result, run_written, run_pulls}
 use Rattle.pull_run.proofs.Results.{run_refused, run_opens, run_path_shape, run_lent_shape, counted_run_shape}
 use Rattle.pull_run.proofs.pull_run.Goals as goal
 use Rattle.pull_run.proofs.pull_run.Goals.{After-open, After-run_in_shape}
 
 -- ---- what is known there
-tested : (k : After-run_in_shape) → run_call_in_shape k.args.image.now k.args.path.now k.args.wanted
-    (lending k.args.buffer.now k.args.nodes.now k.args.blocks.now)
+tested : (k : After-run_in_shape) → let a = k.args in
+    run_call_in_shape a.image.now a.path.now a.wanted (lending a.buffer.now a.nodes.now a.blocks.now)
     ≡ (k.in_shape.result && not (eqb k.name_count-k.result 0) && k.run_in_shape.result)
 unfolding run_in_shape
 tested k =
-    counted_run_shape k.args.image.now k.args.path.now k.args.index k.args.wanted (lending k.args.buffer.now k.args.nodes.now k.args.blocks.now)
-    k.name_count-k.ensures
+    let a = k.args in
+    counted_run_shape a.image.now a.path.now a.index a.wanted (lending a.buffer.now a.nodes.now a.blocks.now) k.name_count-k.ensures
     k.in_shape.ensures k.run_in_shape.ensures
 
-in_shape_lem : (k : After-open) → let lent = lending k.args.buffer.now k.args.nodes.now k.args.blocks.now in
-    run_call_in_shape k.args.image.now k.args.path.now k.args.wanted lent ≡ true
+in_shape_lem : (k : After-open) → let a = k.args in
+    run_call_in_shape a.image.now a.path.now a.wanted (lending a.buffer.now a.nodes.now a.blocks.now) ≡ true
 unfolding run_in_shape
 in_shape_lem k =
-    let lent = lending k.args.buffer.now k.args.nodes.now k.args.blocks.now in
-    let counted = counted_run_shape k.args.image.now k.args.path.now k.args.index k.args.wanted lent k.name_count-k.ensures in
-    counted k.in_shape.ensures k.run_in_shape.ensures ∙ k.if-not-in_shape-k.false
+    let a = k.args in
+    counted_run_shape a.image.now a.path.now a.index a.wanted (lending a.buffer.now a.nodes.now a.blocks.now) k.name_count-k.ensures
+    k.in_shape.ensures k.run_in_shape.ensures
+    ∙ k.if-not-in_shape-k.false
 
 pub run_in_shape-requires : goal.run_in_shape-requires
 run_in_shape-requires c =
@@ -37,32 +40,37 @@ run_in_shape-requires c =
 
 pub returns-then-not-in_shape-k : goal.returns-then-not-in_shape-k
 returns-then-not-in_shape-k c =
+    let a = c.args in
+    let lent = lending a.buffer.now a.nodes.now a.blocks.now in
     let out = tested (goal.at.returns-then-not-in_shape-k c).After-run_in_shape ∙ c.if-not-in_shape-k.true in
-    ap (λ (r : Run). run_result r (lending c.args.buffer.now c.args.nodes.now c.args.blocks.now)) c.refused_run.ensures
-    ∙ sym (run_refused c.args.image.now c.args.path.now c.args.index c.args.wanted (lending c.args.buffer.now c.args.nodes.now c.args.blocks.now) out)
+    ap (λ (r : Run). run_result r lent) (c.refused_run.ensures ∙ rw c.number.ensures)
+    ∙ sym (run_refused a.image.now a.path.now a.index a.wanted lent out)
 
-pub run_opened-requires : goal.run_opened-requires
-run_opened-requires c =
-    let opens = sym c.open.ensures ∙ c.in-Opened.is in
-    let shape = in_shape_lem (goal.at.run_opened-requires c).After-open in
-    record {
-      volume_in = image_volume _ _ opens;
-      path_value = run_path_shape c.args.image.now c.args.path.now c.args.index c.args.wanted (lending c.args.buffer.now c.args.nodes.now c.args.blocks.now)
-          shape;
-      blocks_value = run_lent_shape c.args.image.now c.args.path.now c.args.index c.args.wanted
-          (lending c.args.buffer.now c.args.nodes.now c.args.blocks.now) shape;
-    }
+pub run_opened-requires-clause-path_value : goal.run_opened-requires-clause-path_value
+run_opened-requires-clause-path_value c =
+    let a = c.args in
+    run_path_shape a.image.now a.path.now a.index a.wanted (lending a.buffer.now a.nodes.now a.blocks.now)
+    (in_shape_lem (goal.at.run_opened-requires-clause-path_value c).After-open)
 
-pub returns-in-Refused : goal.returns-in-Refused
-returns-in-Refused c =
-    let opens = sym c.open.ensures ∙ c.in-Refused.is in
-    ap (λ (r : Run). run_result r (lending c.args.buffer.now c.args.nodes.now c.args.blocks.now)) c.refused_run-in-Refused.ensures
-    ∙ sym (run_opens c.args.image.now c.args.path.now c.args.index c.args.wanted (lending c.args.buffer.now c.args.nodes.now c.args.blocks.now) _
-    (in_shape_lem (goal.at.returns-in-Refused c).After-open) opens)
+pub run_opened-requires-clause-blocks_value : goal.run_opened-requires-clause-blocks_value
+run_opened-requires-clause-blocks_value c =
+    let a = c.args in
+    run_lent_shape a.image.now a.path.now a.index a.wanted (lending a.buffer.now a.nodes.now a.blocks.now)
+    (in_shape_lem (goal.at.run_opened-requires-clause-blocks_value c).After-open)
 
-pub returns-in-Opened : goal.returns-in-Opened
-returns-in-Opened c =
-    let opens = sym c.open.ensures ∙ c.in-Opened.is in
+pub returns-in-Ok : goal.returns-in-Ok
+returns-in-Ok c =
+    let a = c.args in
+    let lent = lending a.buffer.now a.nodes.now a.blocks.now in
+    let v = c.in-Ok.card.volume in
     c.run_opened.ensures
-    ∙ sym (run_opens c.args.image.now c.args.path.now c.args.index c.args.wanted (lending c.args.buffer.now c.args.nodes.now c.args.blocks.now) _
-    (in_shape_lem (goal.at.returns-in-Opened c).After-open) opens)
+    ∙ ap (λ (image : List ℕ). run_written (run_pulls (card_of image) v a.path.now a.index a.wanted) lent) c.in-Ok.ensures.same_image
+    ∙ sym (run_opens a.image.now a.path.now a.index a.wanted lent (Opened v) (in_shape_lem (goal.at.returns-in-Ok c).After-open)
+    (sym c.in-Ok.ensures.opening))
+
+pub returns-in-Err : goal.returns-in-Err
+returns-in-Err c =
+    let a = c.args in
+    let lent = lending a.buffer.now a.nodes.now a.blocks.now in
+    ap (λ (r : Run). run_result r lent) (c.refused_run-in-Err.ensures ∙ rw c.number-in-Err.ensures)
+    ∙ sym (run_opens a.image.now a.path.now a.index a.wanted lent _ (in_shape_lem (goal.at.returns-in-Err c).After-open) (sym c.in-Err.ensures.opening))

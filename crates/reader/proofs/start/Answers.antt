@@ -39,15 +39,15 @@ returns-then-not-in_shape c =
     let started : Started c.args.card_blocks c.args.path.now c.args.index refusal =
     record { left = left; kept = kept; given = λ is. absurd (clash is shape) }
     in
-    rw c.refuse.ensures started
+    rw c.refuses_at-at.ensures started
 
 pub keep_path-requires : goal.keep_path-requires
 keep_path-requires c =
     path_room c.args.card_blocks c.args.path.now (sym (tested (goal.at.keep_path-requires c).After-name_count) ∙ c.if-not-in_shape.false)
 
-pub overflow_cast-at : goal.overflow_cast-at
-overflow_cast-at c =
-    let room = path_room c.args.card_blocks c.args.path.now (sym (tested (goal.at.overflow_cast-at c).After-name_count) ∙ c.if-not-in_shape.false) in
+pub overflow_cast-t : goal.overflow_cast-t
+overflow_cast-t c =
+    let room = path_room c.args.card_blocks c.args.path.now (sym (tested (goal.at.overflow_cast-t c).After-name_count) ∙ c.if-not-in_shape.false) in
     omega (arith, room)
 
 pub returns : goal.returns

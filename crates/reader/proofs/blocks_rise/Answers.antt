@@ -1,9 +1,0 @@
--- `blocks_rise` meets its contract.
-use mathlib.Core.Path.{sym, ap, ◌∙◌}
-use Rattle.list.proofs.Columns.{numbers_column}
-use Rattle.compare.specs.Lists.{is_rising}
-use Rattle.reader.proofs.blocks_rise.Goals as goal
-
-pub returns : goal.returns
-returns c =
-    c.is_rising.ensures ∙ ap is_rising (sym (numbers_column c.args.list.now 0 c.args.count))
