@@ -61,16 +61,23 @@ pub fn layout_of(inline: bool) -> Layout
     }
 }
 
+// The slots of a block, where a layout says that they lie.
+pub fn slots_at(block: &[u8], layout: Layout) -> Slots
+    requires { (length block.now ≡ 4096) × (layout.start ≤ 4096) × LayoutIn layout (4096 - layout.start) }
+    ensures { (result.layout ≡ layout) × (result.part.now ≡ drop layout.start block.now) }
+{
+    Slots {
+        part: &block[layout.start..],
+        layout,
+    }
+}
+
 // The slots of an inline directory, by the bytes of its inode, or of a directory block.
 pub fn slots_of(block: &[u8], inline: bool) -> Slots
     requires { length block.now ≡ 4096 }
     ensures { (result.layout ≡ layout_of inline) × (result.part.now ≡ drop (layout_of inline).start block.now) }
 {
-    let layout = layout_of(inline);
-    Slots {
-        part: &block[layout.start..],
-        layout,
-    }
+    slots_at(block, layout_of(inline))
 }
 
 impl Slots<'_> {
@@ -136,14 +143,15 @@ impl Slots<'_> {
         Ok(None)
     }
 
-    // The rest of a scan: the turns that the search in a directory takes as well. `None`: it went to the end, and the name isn't there.
+    // A whole scan, which begins at the first slot: the turns that the search in a directory takes as well. `None`: it went to the end, and
+    // the name isn't there.
     pub fn scan_slots(self, scan: &mut Scan, name: Name) -> Result<Option<u32>, Stop>
-        requires { Scanning self.layout self.part.now (wanted_in name) scan.old }
         ensures name_value { (in_part self.entry.layout self.entry.part.now (wanted_in name.entry) ≡ sought_of result)
             × (scan.new.turns ≡ turns_in self.entry.layout self.entry.part.now (wanted_in name.entry)) }
         ensures stop_value { IfErr result (λ stop. stop ≡ Stop.MalformedSlot) }
         ensures turns_bound { scan.new.turns ≤ turns_most self.entry.layout self.entry.part.now (wanted_in name.entry) }
     {
+        *scan = Scan::default();
         'slots: while scan.slot < self.layout.slots {
             let found = self.take_turn(scan, name)?;
             if found.is_some() {

@@ -190,7 +190,7 @@ module _ (map : List ℕ) (bytes : (k : ℕ) → get_or map k 0 < 256) where
             shown_64 (b / 8) (b % 8 + i) (omega arith) ∙ ap (low_bit map) e
 
     -- zeros that end in the word, and zeros to its end: the shift brings in more that aren't the map's
-    word_ends : count_trailing_zeros 64 (word / 2 ^ (b % 8)) < most → count_trailing_zeros 64 (word / 2 ^ (b % 8)) ≡ low_zeros map most b
+    pub word_ends : count_trailing_zeros 64 (word / 2 ^ (b % 8)) < most → count_trailing_zeros 64 (word / 2 ^ (b % 8)) ≡ low_zeros map most b
     word_ends h =
         let e = trailing_zeros word 64 (b % 8) in
         e ∙ sym (zeros_stop (digit word) 64 most (b % 8) (omega arith) (omega arith)) ∙ word_digits
@@ -200,7 +200,7 @@ module _ (map : List ℕ) (bytes : (k : ℕ) → get_or map k 0 < 256) where
         let e = single_zero (word / 2 ^ (b % 8)) h in
         sym e ∙ word_ends (omega arith)
 
-    word_passed : most ≤ count_trailing_zeros 64 (word / 2 ^ (b % 8)) → most ≡ low_zeros map most b
+    pub word_passed : most ≤ count_trailing_zeros 64 (word / 2 ^ (b % 8)) → most ≡ low_zeros map most b
     word_passed h =
         let e = trailing_zeros word 64 (b % 8) in
         sym (zeros_part (digit word) 64 most (b % 8) (omega arith)) ∙ word_digits

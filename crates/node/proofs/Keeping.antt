@@ -4,7 +4,7 @@ use Prim.Native.Nat.{ℕ, ◌+◌, ◌≤◌, ◌<◌}
 use native.Mathlib.Omega.{arith}
 use mathlib.Core.Path.{◌≡◌, refl, sym, ap, subst, ◌∙◌}
 use lib.ListN.{length}
-use Rattle.std.specs.Prelude.{None}
+use Rattle.std.specs.Prelude.{Option, None, Result, Ok}
 use Rattle.place.specs.declared.Place.{Place}
 use Rattle.place.specs.declared.Place.TheVariants.{Inode, Direct, Indirect, Double, Past}
 use Rattle.place.specs.Place.{place_of, SlotsIn}
@@ -22,8 +22,8 @@ use Rattle.node.specs.declared.Leaf.{Leaf}
 use Rattle.node.specs.declared.file.File.{File}
 use Rattle.node.specs.Node.{bounds_of}
 use Rattle.node.specs.Block.{Fetched}
-use Rattle.node.specs.Leaf.{leaf_walk, at_leaf, addresses_from, address_at, addresses_end, FileOn, leaf_walk_on, LeafOn, KeepsOn, file_leaf_walk, LeafOf}
-use Rattle.node.specs.Found.{fetched, BlockIn, inode_of, file_block_walk}
+use Rattle.node.specs.Leaf.{leaf_walk, at_leaf, addresses_from, address_at, addresses_end, FileOn, leaf_walk_on, led_to, LedIn, LeafOn, KeepsOn, file_leaf_walk, LeafOf}
+use Rattle.node.specs.Found.{fetched, inode_of, file_block_walk}
 use Rattle.node.proofs.LeafWalks.{leaf_same, block_through}
 
 -- ---- where a leaf's addresses stand
@@ -58,28 +58,28 @@ place_on f index = place_of f.addresses index
 abbrev place_in : File → ℕ → Place
 place_in file index = place_of file.addresses index
 
--- ---- a leaf that was just walked to
-pub leaf_new : {f : FileOn} {index : ℕ} {leaf : Leaf} {s t : Lists} → Fits (view_of f.card f.volume) (leaf_walk_on f index) s
-    → leaf.at ≡ address_at (place_on f index) → leaf.end ≡ addresses_end f.addresses (place_on f index) → BlockIn f.card leaf.node
-    → Walked (view_of f.card f.volume) (leaf_walk_on f index) s (ok (fetched f.card leaf.node)) t → LeafOn f index leaf t
+-- ---- a leaf that was just walked to, or the walk there that stopped
+pub leaf_new : {f : FileOn} {index : ℕ} {node : Result (Option ℕ) ℕ} {at end : ℕ} {s t : Lists}
+    → Fits (view_of f.card f.volume) (leaf_walk_on f index) s → at ≡ address_at (place_on f index) → end ≡ addresses_end f.addresses (place_on f index)
+    → LedIn f.card node → Walked (view_of f.card f.volume) (leaf_walk_on f index) s (led_to f.card node) t → LeafOn f index node at end t
 leaf_new fits at end inside walked =
     record { at_is = at; end_is = end; inside = inside; again = again_own walked (walked_rises walked fits.rising) }
 
--- ---- a leaf that is kept
-module _ {f : FileOn} {index : ℕ} {leaf : Leaf} {t : Lists} (kept : LeafOn f index leaf t) where
+-- ---- a leaf that is kept, or the walk there that stopped
+module _ {f : FileOn} {index : ℕ} {node : Result (Option ℕ) ℕ} {at end : ℕ} {t : Lists} (kept : LeafOn f index node at end t) where
   -- it need not be walked to again
-  pub leaf_walked : Walked (view_of f.card f.volume) (leaf_walk_on f index) t (ok (fetched f.card leaf.node)) t
+  pub leaf_walked : Walked (view_of f.card f.volume) (leaf_walk_on f index) t (led_to f.card node) t
   leaf_walked = walked_again kept.again
 
-  pub leaf_offset : f.addresses ≤ 923 → leaf.at + 4 ≤ 4096
+  pub leaf_offset : f.addresses ≤ 923 → at + 4 ≤ 4096
   leaf_offset most =
       let within = address_in f.addresses (place_on f index) (slots_in f.addresses index) most in
-      let at = kept.at_is in
+      let known = kept.at_is in
       omega arith
 
   -- it stays while the lists grow
   leaf_more : {B : Type 0} {w : Walk B} {x : B} {u : Lists} → Fits (view_of f.card f.volume) w t → Walked (view_of f.card f.volume) w t x u
-      → LeafOn f index leaf u
+      → LeafOn f index node at end u
   leaf_more fits walked = record {
     at_is = kept.at_is;
     end_is = kept.end_is;
@@ -88,23 +88,23 @@ module _ {f : FileOn} {index : ℕ} {leaf : Leaf} {t : Lists} (kept : LeafOn f i
   }
 
   -- and serves the next index, where an address is left
-  next_serves : leaf.at + 4 < leaf.end → LeafOn f (index + 1) (record { node = leaf.node; at = leaf.at + 4; end = leaf.end }) t
+  next_serves : at + 4 < end → LeafOn f (index + 1) node (at + 4) end t
   next_serves left =
-      let at = kept.at_is in
-      let end = kept.end_is in
+      let known = kept.at_is in
+      let known_end = kept.end_is in
       let more : slot_of place + 1 < slots_of A place = omega arith in
       let next = next_place A index more in
       let from = next_from place in
       let slot = next_slot_lem A place more in
       let slots = next_slots A place in
-      let at' : leaf.at + 4 ≡ address_at (next_slot place) = omega arith in
-      let end' : leaf.end ≡ addresses_end A (next_slot place) = omega arith in
+      let at' : at + 4 ≡ address_at (next_slot place) = omega arith in
+      let end' : end ≡ addresses_end A (next_slot place) = omega arith in
       record {
         at_is = at' ∙ ap address_at (sym next);
         end_is = end' ∙ ap (addresses_end A) (sym next);
         inside = kept.inside;
-        again = subst (λ (w : Walk (Outcome Fetched)). run (view_of f.card f.volume) (listed t) w ≡ ran (ok (fetched f.card leaf.node)) (listed t))
-            (same next) kept.again;
+        again = subst (λ (w : Walk (Outcome Fetched)). run (view_of f.card f.volume) (listed t) w ≡ ran (led_to f.card node) (listed t)) (same next)
+            kept.again;
       }
     where
       A : ℕ
@@ -122,16 +122,17 @@ module _ {f : FileOn} {index : ℕ} {leaf : Leaf} {t : Lists} (kept : LeafOn f i
       same : place_of A (index + 1) ≡ next_slot place → to place ≡ to (place_of A (index + 1))
       same next = to_leaf place ∙ ap to (sym (next_leaf place)) ∙ sym (to_leaf (next_slot place)) ∙ ap to (sym next)
 
-pub leaf_next : {f : FileOn} {index : ℕ} {leaf : Leaf} {B : Type 0} {w : Walk B} {x : B} {t u : Lists}
-    → LeafOn f index leaf t → Fits (view_of f.card f.volume) w t → Walked (view_of f.card f.volume) w t x u
-    → KeepsOn f (index + 1) (record { node = leaf.node; at = leaf.at + 4; end = leaf.end }) u
+pub leaf_next : {f : FileOn} {index : ℕ} {node : Result (Option ℕ) ℕ} {at end : ℕ} {B : Type 0} {w : Walk B} {x : B} {t u : Lists}
+    → LeafOn f index node at end t → Fits (view_of f.card f.volume) w t → Walked (view_of f.card f.volume) w t x u
+    → KeepsOn f (index + 1) node (at + 4) end u
 leaf_next kept fits walked = record { serves = next_serves (leaf_more kept fits walked) }
 
 -- where no address is left nothing is kept
-pub keeps_past : {f : FileOn} {index : ℕ} {leaf : Leaf} {t : Lists} → leaf.end ≤ leaf.at → KeepsOn f index leaf t
+pub keeps_past : {f : FileOn} {index : ℕ} {node : Result (Option ℕ) ℕ} {at end : ℕ} {t : Lists} → end ≤ at → KeepsOn f index node at end t
 keeps_past past = record { serves = λ left. absurd (omega arith) }
 
-pub keeps_none : {f : FileOn} {index : ℕ} {leaf : Leaf} {t : Lists} → leaf ≡ record { node = None; at = 0; end = 0 } → KeepsOn f index leaf t
+pub keeps_none : {f : FileOn} {index : ℕ} {leaf : Leaf} {t : Lists} → leaf ≡ record { node = None; at = 0; end = 0 }
+    → KeepsOn f index (Ok leaf.node) leaf.at leaf.end t
 keeps_none e =
     let at = ap (λ (l : Leaf). l.at) e in
     let end = ap (λ (l : Leaf). l.end) e in

@@ -9,8 +9,9 @@ use lib.Dec.{eqb, leb}
 use Rattle.field.specs.Choice.{choose}
 use Rattle.field.proofs.Choosing.{needed, needed_le}
 use Rattle.name_hash.specs.Name.{is_name}
-use Rattle.path.specs.Path.{slash, on_first, parts_of, part_count, are_names, is_path}
+use Rattle.path.specs.Path.{slash, names_most, on_first, parts_of, part_count, are_names, is_path, name_count}
 use Rattle.path.proofs.Parts.{some_part}
+use Rattle.path.proofs.Counting.{parts_few}
 
 -- the bytes of all parts, with one more for each
 total : List (List ℕ) → ℕ
@@ -48,3 +49,15 @@ path_most path h =
     let all = names_total (parts_of path) (needed (λ e. rw (e, and-false) refl) h) in
     let size = parts_total path in
     omega arith
+
+-- so what is longer than eight such names is no path
+pub too_long : (path : List ℕ) → 256 * names_most ≤ length path → name_count path ≡ 0
+unfolding name_count
+too_long path h = go (is_path path) refl
+  where
+    go : (b : Bool) → is_path path ≡ b → choose (is_path path) (part_count path) 0 ≡ 0
+    go false e = rw e refl
+    go true e =
+        let most = path_most path e in
+        let few = parts_few path e in
+        absurd (omega arith)

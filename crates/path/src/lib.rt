@@ -16,10 +16,14 @@ pub fn part_end(path: &[u8], start: usize) -> usize
     start + part.count()
 }
 
-// How many names a path has, and 0 of what is no path.
+// How many names a path has, and 0 of what is no path. What is longer than the longest path isn't read: any bytes may come for one, and
+// a part of them may have any length.
 pub fn name_count(path: &[u8]) -> usize
     ensures { result ≡ name_count path.now }
 {
+    if path.len() >= 256 * NAMES_MOST {
+        return 0;
+    }
     let mut count = 0;
     for part in path.split(|b| *b == b'/') {
         if count == NAMES_MOST || !name_hash::is_name(part) {

@@ -1,10 +1,6 @@
 -- `scan` meets its contract: what the scan of a part comes to is what the slots of its block do.
-use Rattle.dentry.proofs.Scans.{scanning_start}
 use Rattle.ask_path.proofs.Directories.{part_scanned}
 use Rattle.ask_path.proofs.scan.Goals as goal
-
-pub scan_slots-requires : goal.scan_slots-requires
-scan_slots-requires c = scanning_start _ _ _ c.default-scan.ensures
 
 pub returns : goal.returns
 returns c =

@@ -2,10 +2,14 @@ use Rattle.std.proofs.Common.{◌≡◌, refl, sym, ◌∙◌, ◌+◌, arith, r
 use Rattle.std.proofs.lemmas.Iterator.Consumers.{YieldsList-at, YieldsList-turn, YieldsList-end}
 use Rattle.std.proofs.lemmas.Iterator.Splits.{YieldsList-from_slice_split}
 use Rattle.path.specs.Path.{slash, parts_of, name_count}
+use Rattle.path.proofs.Lengths.{too_long}
 use Rattle.path.proofs.Counting.{count_on, count_start, count_part, count_end, count_none, count_next, count_ninth}
 use Rattle.path.proofs.name_count.Goals as goal
 use Rattle.path.proofs.name_count.Goals.{In-Some, then-count-eq-NAMES_MOST-via-then-count-eq-NAMES_MOST}
 use Rattle.path.proofs.name_count.Goals.{then-count-eq-NAMES_MOST-via-else-count-eq-NAMES_MOST+then-not-is_name}
+
+pub returns-then-path : goal.returns-then-path
+returns-then-path c = sym (too_long c.args.path.now c.if-path.true)
 
 pub loop-part-init : goal.loop-part-init
 loop-part-init c = record { few = omega arith; counted = refl; left = count_start c.args.path.now }

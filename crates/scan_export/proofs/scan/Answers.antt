@@ -11,7 +11,6 @@ use Rattle.answer.specs.declared.Stop.{Stop}
 use Rattle.dentry.specs.declared.Layout.{Layout}
 use Rattle.dentry.specs.Slot.{wanted, in_part}
 use Rattle.dentry.specs.Scan.{turns_in, sought_of}
-use Rattle.dentry.proofs.Scans.{scanning_start}
 use Rattle.dentry.proofs.Runs.{entries_most}
 use Rattle.name_hash.specs.Hash.{hash_of}
 use Rattle.scan_export.specs.Scanned.{crossing, is_scan, scanned}
@@ -32,9 +31,6 @@ pub returns-then-not-block-is_name-clause-value : goal.returns-then-not-block-is
 returns-then-not-block-is_name-clause-value c =
     let shape = ap (λ (b : Bool). eqb (length c.args.block.now) 4096 && b) (sym c.is_name.ensures) ∙ c.if-not-block-is_name.true in
     rw c.number.ensures (sym (out_of_shape _ _ _ shape))
-
-pub scan_slots-found-requires : goal.scan_slots-found-requires
-scan_slots-found-requires c = scanning_start _ _ _ c.default-scan.ensures
 
 pub overflow_cast-turns : goal.overflow_cast-turns
 overflow_cast-turns c =

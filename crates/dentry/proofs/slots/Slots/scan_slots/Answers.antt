@@ -1,6 +1,9 @@
--- A scan that came to the end found nothing.
-use Rattle.dentry.proofs.Scans.{scanning_end, scanning_most}
+-- A scan begins at the first slot; one that came to the end found nothing.
+use Rattle.dentry.proofs.Scans.{scanning_start, scanning_end, scanning_most}
 use Rattle.dentry.proofs.slots.Slots.scan_slots.Goals as goal
+
+pub slots-init : goal.slots-init
+slots-init c = scanning_start _ _ _ c.default.ensures
 
 pub returns-clause-name_value : goal.returns-clause-name_value
 returns-clause-name_value c = scanning_end c.slots.invariant c.slots-test.false

@@ -1,5 +1,5 @@
 -- `find_leaf` meets its contract: the place of the index, its way, and the leaf at the end of it.
-use Rattle.std.proofs.Common.{◌≡◌, arith, sym, ap, subst, ◌∙◌}
+use Rattle.std.proofs.Common.{◌≡◌, refl, arith, sym, ap, subst, ◌∙◌}
 use Rattle.std.proofs.lemmas.Result.{err_from_is_err_and}
 use Rattle.place.specs.declared.Place.{Place}
 use Rattle.place.specs.declared.Way.{Way}
@@ -77,6 +77,13 @@ pub returns-in_err-node-clause-walked : goal.returns-in_err-node-clause-walked
 returns-in_err-node-clause-walked c =
     let p = err_from_is_err_and c.from_residual.result c.from_residual.ensures.1 in
     rw (p.1, p.2) (reached_all (to_nodes (goal.at.returns-in_err-node-clause-walked c).Else-way-eq0) c.in_err-node.ensures.walked)
+
+-- a walk that stopped is known by its answer alone
+pub returns-in_err-node-clause-leaf_of : goal.returns-in_err-node-clause-leaf_of
+returns-in_err-node-clause-leaf_of c =
+    let p = err_from_is_err_and c.from_residual.result c.from_residual.ensures.1 in
+    let walked = reached_all (to_nodes (goal.at.returns-in_err-node-clause-leaf_of c).Else-way-eq0) c.in_err-node.ensures.walked in
+    rw (p.1, p.2) (leaf_new c.requires.fits refl refl tt walked)
 
 pub returns-clause-walked : goal.returns-clause-walked
 returns-clause-walked c = reached_all (to_nodes (goal.at.returns-clause-walked c).Else-way-eq0) c.in_ok-node.ensures.walked
