@@ -125,7 +125,9 @@ impl Slots<'_> {
         field::low_zeros(self.part, slot, self.layout.slots)
     }
 
-    // One turn of a scan: a run of free slots is skipped, or an entry looked at. `None`: the scan goes on.
+    // One turn of a scan: a run of free slots is skipped, or an entry looked at. `None`: the scan goes on. It is inlined: a call for each entry
+    // of a full block costs more than the turn itself.
+    #[inline(always)]
     pub fn take_turn(self, scan: &mut Scan, name: Name) -> Result<Option<u32>, Stop>
         requires { (scan.old.slot < self.layout.slots)
             × Scanning self.layout self.part.now (wanted_in name) scan.old }

@@ -4,7 +4,9 @@ use native.Mathlib.Omega.{arith}
 use mathlib.Core.Path.{◌≡◌, refl, sym, ap, subst, ◌∙◌}
 use mathlib.Core.Bool.{true, false}
 use mathlib.Core.List.{List, [], ◌∷◌}
-use Rattle.std.specs.Prelude.{Option, Some, None}
+use Rattle.std.specs.Prelude.{Option, Some, None, Result, Ok, Err}
+use Rattle.answer.specs.declared.Stop.{Stop}
+use Rattle.answer.specs.Number.{stop_number}
 use lib.ListN.{length, take, drop}
 use Rattle.std.proofs.lemmas.List.{drop-take}
 use borrow.Author.Tests.{eq-eqb, ne_eqb}
@@ -16,11 +18,11 @@ use Rattle.place.specs.Place.{place_of}
 use Rattle.place.specs.Way.{way_of, in_array}
 use Rattle.place.proofs.Ways.{steps_of, slot_at, way_steps}
 use Rattle.nat.specs.Table.{OutOfRange, Entry}
-use Rattle.walk.specs.Walk.{done, look, read, ok, stop, and_then}
+use Rattle.walk.specs.Walk.{done, look, read, ok, stop, onward, and_then}
 use Rattle.node.specs.Node.{Bounds, in_main, belongs, at_block, at_entry, node_walk}
 use Rattle.node.specs.Block.{hole, held, is_hole, holding, data_walk}
 use Rattle.node.specs.Leaf.{leaf_from, leaf_along, leaf_walk, at_leaf}
-use Rattle.node.specs.Found.{fetched, after_inode}
+use Rattle.node.specs.Found.{fetched, data_of, after_inode}
 
 -- ---- a node
 module _ (m : Bounds) (number ino place : ℕ) where
@@ -124,3 +126,13 @@ module _ (card : Card) (m : Bounds) (at : ℕ) {leaf : Option ℕ} where
 
   pub from_some : {block address : ℕ} → leaf ≡ Some block → address ≡ le32 (card.block block) at → at_leaf m at (fetched card leaf) ≡ data_walk m address
   from_some e f = ap (λ (x : Option ℕ). at_leaf m at (fetched card x)) e ∙ ap (data_walk m) (sym f)
+
+-- and by what the walk to it came to
+module _ (card : Card) (m : Bounds) (at : ℕ) {came : Result (Option ℕ) Stop} where
+  pub from_came : {leaf : Option ℕ} → came ≡ Ok leaf → onward (at_leaf m at) (data_of card came) ≡ at_leaf m at (fetched card leaf)
+  unfolding onward
+  from_came e = ap (λ (x : Result (Option ℕ) Stop). onward (at_leaf m at) (data_of card x)) e
+
+  pub from_stop : {stopped : Stop} → came ≡ Err stopped → onward (at_leaf m at) (data_of card came) ≡ done (stop (stop_number stopped))
+  unfolding onward
+  from_stop e = ap (λ (x : Result (Option ℕ) Stop). onward (at_leaf m at) (data_of card x)) e

@@ -2,14 +2,14 @@
 // What each means is in specs/: Node, Block, Found, Leaf.
 #![tactic(auto)]
 
-ghost use Rattle.std.specs.Prelude.{◌≡◌, ◌+◌, ◌≤◌, length, None, OnErr};
+ghost use Rattle.std.specs.Prelude.{◌≡◌, ◌+◌, ◌≤◌, length, None, Ok, OnErr};
 ghost use Rattle.place.specs.Place.{SlotsIn};
 ghost use Rattle.checkpoint.specs.OpenImage.{card_in};
-ghost use Rattle.walk.specs.Walk.{Walked, Fits};
+ghost use Rattle.walk.specs.Walk.{onward, Walked, Fits};
 ghost use Rattle.walk.specs.Lent.{view_in, lent, SameLent};
 ghost use Rattle.node.specs.Node.{bounds_of, in_main, belongs, node_walk};
 ghost use Rattle.node.specs.Block.{is_hole, data_walk};
-ghost use Rattle.node.specs.Found.{found_of, FoundIn, fetched, data_of, BlockIn, DataIn, WayIn, file_block_walk};
+ghost use Rattle.node.specs.Found.{found_of, FoundIn, data_of, DataIn, WayIn, file_block_walk};
 ghost use Rattle.node.specs.Leaf.{at_leaf, address_at, addresses_end, file_way_walk, leaf_found, file_leaf_walk, FoundLeaf, Keeps};
 
 use answer::Stop;
@@ -20,11 +20,11 @@ mod file;
 
 pub use file::File;
 
-// A leaf, the node that holds addresses of a file's blocks, or that there is none.
+// A leaf, the node that holds addresses of a file's blocks, or that there is none, or what the walk to it stopped with.
 // Where in its bytes the address of an index stands, and where its addresses end.
 #[derive(Clone, Copy)]
 pub struct Leaf {
-    pub node: Option<u32>,
+    pub node: Result<Option<u32>, Stop>,
     pub at: u32,
     pub end: u32,
 }
@@ -108,10 +108,10 @@ fn data_at(card: OpenImage, seen: &mut SeenLists, address: u32) -> Result<Option
 
 // No leaf: none of its addresses is left.
 pub fn no_leaf() -> Leaf
-    ensures { result ≡ record { node = None; at = 0; end = 0 } }
+    ensures { result ≡ record { node = Ok None; at = 0; end = 0 } }
 {
     Leaf {
-        node: None,
+        node: Ok(None),
         at: 0,
         end: 0,
     }
@@ -144,20 +144,25 @@ fn address_span(addresses: u32, p: place::Place) -> Span
 }
 
 impl Leaf {
-    // The data block whose address stands in a leaf.
+    // The data block whose address stands in a leaf, where the walk came to one.
     fn data(self, card: OpenImage, seen: &mut SeenLists) -> Result<Option<u32>, Stop>
-        requires fits { Fits (view_in card) (at_leaf (bounds_of card.volume) self.at (fetched (card_in card) self.node)) (lent seen.old) }
-        requires node_in { BlockIn (card_in card) self.node × (self.at + 4 ≤ 4096) }
-        ensures walked { Walked (view_in card.entry) (at_leaf (bounds_of card.entry.volume) self.at (fetched (card_in card.entry) self.node))
+        requires fits { Fits (view_in card) (onward (at_leaf (bounds_of card.volume) self.at) (data_of (card_in card) self.node)) (lent seen.old) }
+        requires node_in { DataIn (card_in card) self.node × (self.at + 4 ≤ 4096) }
+        ensures walked { Walked (view_in card.entry) (onward (at_leaf (bounds_of card.entry.volume) self.at) (data_of (card_in card.entry) self.node))
             (lent seen.old) (data_of (card_in card.entry) result) (lent seen.new) }
         ensures same { SameLent seen.old seen.new }
         ensures data_in { DataIn (card_in card.entry) result }
     {
-        let Some(block) = self.node else {
-            return Ok(None);
-        };
-        let address = field::get32(field::block_at(card.image, block), self.at as usize);
-        data_at(card, seen, address)
+        match self.node {
+            Ok(node) => {
+                let Some(block) = node else {
+                    return Ok(None);
+                };
+                let address = field::get32(field::block_at(card.image, block), self.at as usize);
+                data_at(card, seen, address)
+            }
+            Err(stop) => Err(stop),
+        }
     }
 }
 
@@ -199,7 +204,11 @@ impl File<'_> {
             return Ok(no_leaf());
         }
         let node = self.follow(seen, way)?;
-        Ok(Leaf { node, at, end })
+        Ok(Leaf {
+            node: Ok(node),
+            at,
+            end,
+        })
     }
 
     // The leaf of an index: the kept one as long as it has an address left, else walked to.

@@ -132,8 +132,8 @@ pub fn start(card_blocks: u32, path: &[u8], index: u32) -> Reader
     let mut t = blank(card_blocks, index);
     let in_shape = (2 <= card_blocks) & (card_blocks <= 4194304) & (path::name_count(path) != 0);
     if !in_shape {
-        let at = reader_state::refuses_at(t.at, Refusal::OutOfShape);
-        return Reader { at, ..t };
+        t.at = reader_state::refuses_at(t.at, Refusal::OutOfShape);
+        return t;
     }
     keep_path(&mut t.path, path);
     t.at.path_length = path.len() as u32;
