@@ -14,7 +14,7 @@ use Rattle.pull.specs.Walk.{Block, inode_file_walk}
 use Rattle.pull.specs.Pull.{content_bytes}
 use Rattle.file_run.specs.declared.BlockBuffer.{BlockBuffer}
 use Rattle.file_run.specs.Standing.{last_count, bytes_standing, FilledAs}
-use Rattle.file_run.specs.Walks.{file_blocks_walk, put_at, RoomFor}
+use Rattle.file_run.specs.Walks.{file_blocks_walk, put_at, RoomFor, NoneStand}
 use Rattle.file_run.proofs.Filling.{Filling, filling_start, filling_fits, filling_stop, filling_next, filling_end}
 
 -- ---- one more block
@@ -73,18 +73,18 @@ pub record Turn (file : File) (n index : ℕ) (old : List ℕ) (s : Lists) (leaf
   pub sized : length (bytes_standing stood) ≡ 4096 * k
 
 module _ {file : File} {n index : ℕ} where
-  pub turn_start : {leaf : Leaf} {buffer : BlockBuffer} {s : Lists} → Keeps file index leaf s → index < 4294967296 → RoomFor n buffer
+  pub turn_start : {leaf : Leaf} {buffer : BlockBuffer} {s : Lists} → Keeps file index leaf s → index < 4294967296 → NoneStand buffer
       → Turn file n index buffer.bytes.now s leaf 0 buffer s
   unfolding bytes_standing
-  turn_start {leaf = leaf} {s = s} keeps near room =
+  turn_start {leaf = leaf} {s = s} keeps near empty =
       let start : index ≡ index + 0 = omega arith in
       record {
         stood = [];
         filling = filling_start _ n index;
         keeps = subst (λ (j : ℕ). Keeps file j leaf s) start keeps;
         near = omega arith;
-        count_is = room.none;
-        last_is = room.no_last;
+        count_is = empty.none;
+        last_is = empty.no_last;
         same = refl;
         wrote = refl;
         sized = refl;

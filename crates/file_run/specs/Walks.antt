@@ -24,10 +24,13 @@ file_run_walk m n index ino = bind (inode_walk m ino) (unless_stopped (λ inode.
 abbrev pub put_at : ℕ → List ℕ → List ℕ → List ℕ
 put_at at bytes buffer = take at buffer ++ (bytes ++ drop (at + 4096) buffer)
 
--- a buffer in which no block stands yet, with room for n of them, 1 to 512
-pub record RoomFor (n : ℕ) (buffer : BlockBuffer) : Type 0 where
+-- room for n blocks, 1 to 512
+pub record RoomFor (n : ℕ) (buffer : List ℕ) : Type 0 where
   pub some : 1 ≤ n
   pub few : n ≤ 512
-  pub room : 4096 * n ≤ length buffer.bytes.now
+  pub room : 4096 * n ≤ length buffer
+
+-- a buffer in which no block stands yet
+pub record NoneStand (buffer : BlockBuffer) : Type 0 where
   pub none : buffer.count ≡ 0
   pub no_last : buffer.last ≡ 0

@@ -10,7 +10,7 @@ ghost use Rattle.node.specs.Node.{bounds_of};
 ghost use Rattle.pull.specs.Walk.{block_of, InBlock};
 ghost use Rattle.pull.specs.Pull.{content_bytes};
 ghost use Rattle.file_run.specs.Standing.{ended, FilledAs};
-ghost use Rattle.file_run.specs.Walks.{file_blocks_walk, file_run_walk, put_at, RoomFor};
+ghost use Rattle.file_run.specs.Walks.{file_blocks_walk, file_run_walk, put_at, RoomFor, NoneStand};
 
 use answer::Stop;
 use checkpoint::OpenImage;
@@ -56,7 +56,8 @@ fn fill(
     buffer: &mut BlockBuffer,
 ) -> Result<(), Stop>
     requires fits { Fits (view_in file.file.card) (file_blocks_walk file.file wanted index) (lent seen.old) }
-    requires room_for { RoomFor wanted buffer.old }
+    requires room_for { RoomFor wanted buffer.old.bytes.now }
+    requires none_stand { NoneStand buffer.old }
     ensures filled { FilledAs (view_in file.entry.file.card) (file_blocks_walk file.entry.file wanted index)
         (lent seen.old) (ended result) buffer.new.count buffer.new.last
         (lent seen.new) buffer.old.bytes.now buffer.new.bytes.now }
@@ -71,7 +72,7 @@ fn fill(
     Ok(())
 }
 
-// The blocks of the file of an inode number.
+// The blocks of the file of an inode number. What the buffer says to hold already is forgotten.
 pub fn fill_of_file(
     card: OpenImage,
     seen: &mut SeenLists,
@@ -81,13 +82,15 @@ pub fn fill_of_file(
     buffer: &mut BlockBuffer,
 ) -> Result<(), Stop>
     requires fits { Fits (view_in card) (file_run_walk (bounds_of card.volume) wanted index ino) (lent seen.old) }
-    requires room_for { RoomFor wanted buffer.old }
+    requires room_for { RoomFor wanted buffer.old.bytes.now }
     ensures filled { FilledAs (view_in card.entry) (file_run_walk (bounds_of card.entry.volume) wanted index ino)
         (lent seen.old) (ended result) buffer.new.count buffer.new.last
         (lent seen.new) buffer.old.bytes.now buffer.new.bytes.now }
     ensures same { SameLent seen.old seen.new }
     ensures same_bytes { buffer.new.bytes.ghost_name ≡ buffer.old.bytes.ghost_name }
 {
+    buffer.count = 0;
+    buffer.last = 0;
     let at = node::node_step(card, seen, ino, ino, 0)?;
     let file = pull::open_file(card, ino, at)?;
     fill(file, seen, index, wanted, buffer)

@@ -66,6 +66,11 @@ abbrev pub block_found : Card → Result FileBlock Stop → Outcome Block
 block_found card (Ok b) = ok (block_of card b)
 block_found card (Err e) = stop (stop_number e)
 
+-- the same, where it is the number that came
+abbrev pub block_ended : Card → Result FileBlock ℕ → Outcome Block
+block_ended card (Ok b) = ok (block_of card b)
+block_ended card (Err answer) = stop answer
+
 -- it lies on the card, and the file's bytes lie in it
 abbrev pub InBlock : Card → FileBlock → Type 0
 InBlock card b = BlockIn card b.data × (b.start + b.bytes ≤ 4096)

@@ -10,7 +10,7 @@ ghost use Rattle.walk.specs.Lent.{view_in, lent, SameLent};
 ghost use Rattle.node.specs.Node.{bounds_of};
 ghost use Rattle.node.specs.Leaf.{Keeps};
 ghost use Rattle.path.specs.Path.{names_most, part_count, is_path};
-ghost use Rattle.pull.specs.Walk.{file_walk, pull_walk, block_of, block_found, InBlock, inode_file_walk, FileOpened};
+ghost use Rattle.pull.specs.Walk.{file_walk, pull_walk, block_of, block_found, block_ended, InBlock, inode_file_walk, FileOpened};
 ghost use Rattle.pull.specs.Pull.{nodes_most, blocks_most, lending, result_in, lent_in_shape};
 ghost use Rattle.pull.specs.Pull.{content_bytes, answer_of, count_of, buffer_after, written, pull_run, pulled};
 
@@ -159,13 +159,13 @@ pub struct Delivered {
     pub count: u32,
 }
 
-// The block buffer filled, unless the walk was stopped.
-pub fn deliver(image: &[u8], found: Result<FileBlock, Stop>, buffer: &mut [u8]) -> Delivered
+// The block buffer filled, unless the walk was stopped, with whatever number.
+pub fn deliver(image: &[u8], found: Result<FileBlock, u32>, buffer: &mut [u8]) -> Delivered
     requires block_in { IfOk found (InBlock (card_of image.now)) }
     requires buffer_len { length buffer.old ≡ 4096 }
-    ensures { (result.answer ≡ answer_of (block_found (card_of image.now) found))
-        × (result.count ≡ count_of (block_found (card_of image.now) found))
-        × (buffer.new ≡ buffer_after (block_found (card_of image.now) found) buffer.old) }
+    ensures { (result.answer ≡ answer_of (block_ended (card_of image.now) found))
+        × (result.count ≡ count_of (block_ended (card_of image.now) found))
+        × (buffer.new ≡ buffer_after (block_ended (card_of image.now) found) buffer.old) }
 {
     match found {
         Ok(block) => {
@@ -178,10 +178,7 @@ pub fn deliver(image: &[u8], found: Result<FileBlock, Stop>, buffer: &mut [u8]) 
                 count: block.bytes as u32,
             }
         }
-        Err(stop) => Delivered {
-            answer: stop.number(),
-            count: 0,
-        },
+        Err(answer) => Delivered { answer, count: 0 },
     }
 }
 
@@ -229,7 +226,7 @@ pub fn pull_opened(
         nodes: &mut nodes,
         blocks: &mut blocks,
     };
-    let found = walk_to(card, &mut seen, path, index);
+    let found = walk_to(card, &mut seen, path, index).map_err(|stop| stop.number());
     let done = deliver(card.image, found, block);
     Pulled {
         answer: done.answer,

@@ -18,7 +18,6 @@ use Rattle.walk.proofs.Fits.{fits_few}
 use Rattle.walk.proofs.Written.{left_value, left_counts, left_nodes, left_blocks}
 use Rattle.node.specs.Node.{bounds_of}
 use Rattle.pull.specs.Pull.{Lent, lending}
-use Rattle.file_run.specs.declared.BlockBuffer.{BlockBuffer}
 use Rattle.file_run.specs.Standing.{Standing, last_count, standing_over, FilledAs}
 use Rattle.file_run.specs.Walks.{RoomFor}
 use Rattle.pull_run.specs.Run.{wanted_most, run_nodes_most, run_blocks_most, run_in_shape, run_call_in_shape, run_pulls, run_result, refused_run}
@@ -49,12 +48,12 @@ module _ (k wanted : ℕ) (lent : Lent) (h : run_in_shape k wanted lent ≡ true
   unfolding run_in_shape
   blocks_fit_lem = needed_le (λ e. rw (e, and-false) refl) h
 
-  -- a buffer of those bytes in which no block stands yet
-  pub room_for : (buffer : BlockBuffer) → buffer.bytes.now ≡ lent.block → buffer.count ≡ 0 → buffer.last ≡ 0 → RoomFor wanted buffer
-  room_for buffer is none no_last =
+  -- a buffer of those bytes
+  pub room_for : (buffer : List ℕ) → buffer ≡ lent.block → RoomFor wanted buffer
+  room_for buffer is =
       let whole = buffer_whole in
       let same = ap length is in
-      record { some = some_wanted; few = few_wanted; room = omega arith; none = none; no_last = no_last }
+      record { some = some_wanted; few = few_wanted; room = omega arith }
 
 -- ---- what a run lists
 -- "With k names the lists need room for 175k + 6 and 233k + 518"

@@ -10,7 +10,7 @@ ghost use Rattle.node.specs.Node.{bounds_of};
 ghost use Rattle.path.specs.Path.{names_most, part_count, is_path};
 ghost use Rattle.pull.specs.Pull.{lending};
 ghost use Rattle.file_run.specs.Standing.{ended, FilledAs};
-ghost use Rattle.file_run.specs.Walks.{RoomFor};
+ghost use Rattle.file_run.specs.Walks.{RoomFor, NoneStand};
 ghost use Rattle.pull_run.specs.Walk.{run_walk};
 ghost use Rattle.pull_run.specs.Run.{wanted_most, run_nodes_most, run_blocks_most, run_in_shape, run_pulls, run_result};
 ghost use Rattle.pull_run.specs.Run.{run_written, run_pulled};
@@ -42,7 +42,8 @@ fn fill_from_path(
     buffer: &mut BlockBuffer,
 ) -> Result<(), Stop>
     requires fits { Fits (view_in card) (run_walk (bounds_of card.volume) path.now wanted index) (lent seen.old) }
-    requires room_for { RoomFor wanted buffer.old }
+    requires room_for { RoomFor wanted buffer.old.bytes.now }
+    requires none_stand { NoneStand buffer.old }
     ensures filled { FilledAs (view_in card.entry) (run_walk (bounds_of card.entry.volume) path.now wanted index)
         (lent seen.old) (ended result) buffer.new.count buffer.new.last
         (lent seen.new) buffer.old.bytes.now buffer.new.bytes.now }

@@ -9,7 +9,7 @@ use Rattle.file_run.proofs.fill.Goals as goal
 pub loop-k-init : goal.loop-k-init
 loop-k-init c =
     record {
-      turn = turn_start (keeps_none c.no_leaf-kept.ensures) c.ranges.index.fits c.requires.room_for;
+      turn = turn_start (keeps_none c.no_leaf-kept.ensures) c.ranges.index.fits c.requires.none_stand;
       same = search rules;
       same_bytes = refl;
     }

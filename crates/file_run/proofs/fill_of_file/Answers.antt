@@ -41,8 +41,7 @@ pub returns-in_err-at-clause-filled : goal.returns-in_err-at-clause-filled
 unfolding file_run_walk blocks
 returns-in_err-at-clause-filled c =
     let p = err_from_is_err_and c.from_residual.result c.from_residual.ensures.1 in
-    let room = c.requires.room_for in
-    rw (p.1, p.2) (unless_stop (blocks (goal.at.returns-in_err-at-clause-filled c).Start) c.in_err-at.ensures.walked room.none room.no_last refl)
+    rw (p.1, p.2) (unless_stop (blocks (goal.at.returns-in_err-at-clause-filled c).Start) c.in_err-at.ensures.walked refl refl refl)
 
 pub returns-in_err-file-clause-filled : goal.returns-in_err-file-clause-filled
 unfolding file_run_walk blocks
@@ -51,7 +50,7 @@ returns-in_err-file-clause-filled c =
     let room = c.requires.room_for in
     let other = c.in_err-file.ensures in
     rw (p.1, p.2, other.0) (unless_filled (blocks (goal.at.returns-in_err-file-clause-filled c).Start) c.in_ok-at.ensures.walked refl
-    (none_stands room.none room.no_last (reached_done (reached_to (reached_start _ _ _) (other_kind _ _ _ refl other.1 _ _ room.some)))))
+    (none_stands refl refl (reached_done (reached_to (reached_start _ _ _) (other_kind _ _ _ refl other.1 _ _ room.some)))))
 
 pub returns-clause-filled : goal.returns-clause-filled
 unfolding file_run_walk blocks

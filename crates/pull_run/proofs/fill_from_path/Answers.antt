@@ -26,8 +26,8 @@ unfolding run_walk
 returns-in_err-ino-clause-filled c =
     let a = c.args in
     let p = err_from_is_err_and c.from_residual.result c.from_residual.ensures.1 in
-    let room = c.requires.room_for in
-    rw (p.1, p.2) (unless_stop (file_run_walk (bounds_of a.card.volume) a.wanted a.index) c.in_err-ino.ensures.walked room.none room.no_last refl)
+    let empty = c.requires.none_stand in
+    rw (p.1, p.2) (unless_stop (file_run_walk (bounds_of a.card.volume) a.wanted a.index) c.in_err-ino.ensures.walked empty.none empty.no_last refl)
 
 pub returns-clause-filled : goal.returns-clause-filled
 unfolding run_walk

@@ -19,7 +19,11 @@ told k =
 -- ---- the needs
 pub fill_from_path-requires : goal.fill_from_path-requires
 fill_from_path-requires c =
-    record { fits = run_fits _ _ _ _ _ _ c.requires.blocks_value; room_for = room_for _ _ _ c.requires.blocks_value _ refl refl refl }
+    record {
+      fits = run_fits _ _ _ _ _ _ c.requires.blocks_value;
+      room_for = room_for _ _ _ c.requires.blocks_value _ refl;
+      none_stand = record { none = refl; no_last = refl };
+    }
 
 pub overflow_cast-result : goal.overflow_cast-result
 overflow_cast-result c =
