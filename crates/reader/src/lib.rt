@@ -2,12 +2,13 @@
 // What each means is in specs/: Reading.
 #![tactic(auto)]
 
-ghost use Rattle.std.specs.Prelude.{◌≡◌, true, ◌+◌, ◌*◌, ◌≤◌, ◌<◌, length, take};
+ghost use Rattle.std.specs.Prelude.{◌≡◌, true, List, ℕ, ◌+◌, ◌*◌, ◌≤◌, ◌<◌, length, take};
 ghost use Rattle.field.specs.Choice.{choose};
 ghost use Rattle.list.specs.Lists.{Rising, numbers};
 ghost use Rattle.compare.specs.Lists.{is_rising};
 ghost use Rattle.asking.specs.Table.{journal_in};
 ghost use Rattle.ask_open.specs.Came.{first_after, second_after};
+ghost use Rattle.reader_state.specs.Resume.{memory};
 ghost use Rattle.reader_state.specs.Decision.{StartsAt};
 ghost use Rattle.reader.specs.Reading.{memory_in, with_number, sound_by, refusal_on, GoesBy, Started, Stepped};
 
@@ -144,7 +145,8 @@ impl Reader {
     // Whether the state fits, so that a step goes on from it.
     #[tactic(auto, unfolding(crate::specs::Reading::sound_by))]
     fn is_sound(&self) -> bool
-        ensures { result ≡ sound_by self.now.at (memory_in self.now) self.now.nodes self.now.blocks }
+        ensures { (path : List ℕ) → result
+            ≡ sound_by self.now.at (memory path self.now.first self.now.held self.now.journal) self.now.nodes self.now.blocks }
     {
         if NODES_MOST < self.at.node_count {
             return false;

@@ -10,15 +10,15 @@ returns-then-bytes-ne4096 c = inr (c.refusal.ensures, inl c.if-bytes-ne4096.true
 
 pub returns-then-not-is_sound : goal.returns-then-not-is_sound
 returns-then-not-is_sound c =
-    inr (c.refusal-then-not-is_sound.ensures, inr (sym c.is_sound.ensures ∙ c.if-not-is_sound.true))
+    inr (c.refusal-then-not-is_sound.ensures, inr (sym (c.is_sound.ensures c.args.self.now.path) ∙ c.if-not-is_sound.true))
 
 pub decide-requires : goal.decide-requires
 decide-requires c =
     let r = c.args.self.now in
-    let sound = sym c.is_sound.ensures ∙ c.if-not-is_sound.false in
+    let sound = sym (c.is_sound.ensures r.path) ∙ c.if-not-is_sound.false in
     (sound_fits r.at (memory_in r) r.nodes r.blocks sound, c.if-bytes-ne4096.false)
 
 pub returns : goal.returns
 returns c =
-    let sound = sym c.is_sound.ensures ∙ c.if-not-is_sound.false in
+    let sound = sym (c.is_sound.ensures c.args.self.now.path) ∙ c.if-not-is_sound.false in
     inl (sound, c.if-bytes-ne4096.false, c.decide.ensures.decided)
