@@ -135,7 +135,7 @@ fn listed(bytes: &[u8], count: u32) -> Option<Column<'_>>
     }
 }
 
-// Both lists, if they are in shape. The counts first: no number is read past its slice.
+// Both lists, if they are in shape. The counts first: no number is read past its slice, and none at all where no node is listed.
 fn lists_in_shape<'a>(
     v: checkpoint::Volume,
     nodes: &'a [u8],
@@ -147,7 +147,10 @@ fn lists_in_shape<'a>(
 {
     let nodes = listed(nodes, node_count)?;
     let blocks = listed(blocks, block_count)?;
-    if (1 <= nodes.count) & nodes.is_rising() & blocks.is_rising() & blocks.all_in(main_area(v)) {
+    if nodes.count == 0 {
+        return None;
+    }
+    if nodes.is_rising() & blocks.is_rising() & blocks.all_in(main_area(v)) {
         Some(Lists { nodes, blocks })
     } else {
         None

@@ -39,7 +39,7 @@ returns-then-not-in_shape c =
     let started : Started c.args.card_blocks c.args.path.now c.args.index refusal =
     record { left = left; kept = kept; given = λ is. absurd (clash is shape) }
     in
-    rw c.refuses_at-at.ensures started
+    rw c.refuses_at-t.ensures started
 
 pub keep_path-requires : goal.keep_path-requires
 keep_path-requires c =
