@@ -18,7 +18,7 @@ use pull::{FileBlock, OpenFile};
 use walk::SeenLists;
 
 // Blocks of a file one behind the other in lent bytes: how many stand, and the byte count of the last of them.
-// The room for a run is required, and no ghost field: that no block stands yet would still be, so it is no plainer.
+// The room for a run is required, and no ghost field: how many blocks are wanted is the call's, not the buffer's.
 #[derive(Drop)]
 pub struct BlockBuffer<'a> {
     pub bytes: &'a mut [u8],
