@@ -89,7 +89,8 @@ impl Slots<'_> {
         field::low_bit(self.part, slot)
     }
 
-    // One slot. The name's bytes are compared only where hash and length are the name's.
+    // One slot. The name's bytes are compared only where hash and length are the name's. It is inlined, as a turn is.
+    #[inline(always)]
     fn slot_at(self, slot: usize, name: Name) -> Slot
         requires { slot < self.layout.slots }
         ensures { result ≡ slot_at self.entry.layout self.entry.part.now (wanted_in name.entry) slot }
