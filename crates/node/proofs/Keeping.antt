@@ -4,7 +4,7 @@ use Prim.Native.Nat.{ℕ, ◌+◌, ◌≤◌, ◌<◌}
 use native.Mathlib.Omega.{arith}
 use mathlib.Core.Path.{◌≡◌, refl, sym, ap, subst, ◌∙◌}
 use lib.ListN.{length}
-use Rattle.std.specs.Prelude.{None, Ok}
+use Rattle.std.specs.Prelude.{Option, None, Result, Ok}
 use Rattle.place.specs.declared.Place.{Place}
 use Rattle.place.specs.declared.Place.TheVariants.{Inode, Direct, Indirect, Double, Past}
 use Rattle.place.specs.Place.{place_of, SlotsIn}
@@ -22,8 +22,8 @@ use Rattle.node.specs.declared.Leaf.{Leaf}
 use Rattle.node.specs.declared.file.File.{File}
 use Rattle.node.specs.Node.{Bounds, bounds_of}
 use Rattle.node.specs.Block.{Fetched}
-use Rattle.node.specs.Leaf.{leaf_walk, at_leaf, addresses_from, address_at, addresses_end, FileOn, leaf_walk_on, LeafOn, KeepsOn, file_leaf_walk, LeafOf, Keeps}
-use Rattle.node.specs.Found.{data_of, inode_of, file_block_walk}
+use Rattle.node.specs.Leaf.{leaf_walk, at_leaf, addresses_from, address_at, addresses_end, FileOn, leaf_walk_on, on_card, LeafOn, KeepsOn, file_leaf_walk}
+use Rattle.node.specs.Found.{came_of, CameIn, numbered, inode_of, file_block_walk}
 use Rattle.node.proofs.LeafWalks.{leaf_same, block_through}
 
 -- ---- where a leaf's addresses stand
@@ -59,16 +59,16 @@ abbrev place_in : File → ℕ → Place
 place_in file index = place_of file.addresses index
 
 -- ---- a leaf that was just walked to, or the walk there that stopped
-pub leaf_new : {f : FileOn} {index : ℕ} {came : Outcome Fetched} {at end : ℕ} {s t : Lists} → Fits (view_of f.card f.volume) (leaf_walk_on f index) s
-    → at ≡ address_at (place_on f index) → end ≡ addresses_end f.addresses (place_on f index)
-    → Walked (view_of f.card f.volume) (leaf_walk_on f index) s came t → LeafOn f index came at end t
-leaf_new fits at end walked =
-    record { at_is = at; end_is = end; again = again_own walked (walked_rises walked fits.rising) }
+pub leaf_new : {f : FileOn} {index : ℕ} {node : Result (Option ℕ) ℕ} {at end : ℕ} {s t : Lists}
+    → Fits (view_of f.card f.volume) (leaf_walk_on f index) s → at ≡ address_at (place_on f index) → end ≡ addresses_end f.addresses (place_on f index)
+    → CameIn f.card node → Walked (view_of f.card f.volume) (leaf_walk_on f index) s (came_of f.card node) t → LeafOn f index node at end t
+leaf_new fits at end inside walked =
+    record { at_is = at; end_is = end; inside = inside; again = again_own walked (walked_rises walked fits.rising) }
 
 -- ---- a leaf that is kept, or the walk there that stopped
-module _ {f : FileOn} {index : ℕ} {came : Outcome Fetched} {at end : ℕ} {t : Lists} (kept : LeafOn f index came at end t) where
+module _ {f : FileOn} {index : ℕ} {node : Result (Option ℕ) ℕ} {at end : ℕ} {t : Lists} (kept : LeafOn f index node at end t) where
   -- it need not be walked to again
-  pub leaf_walked : Walked (view_of f.card f.volume) (leaf_walk_on f index) t came t
+  pub leaf_walked : Walked (view_of f.card f.volume) (leaf_walk_on f index) t (came_of f.card node) t
   leaf_walked = walked_again kept.again
 
   pub leaf_offset : f.addresses ≤ 923 → at + 4 ≤ 4096
@@ -79,15 +79,16 @@ module _ {f : FileOn} {index : ℕ} {came : Outcome Fetched} {at end : ℕ} {t :
 
   -- it stays while the lists grow
   leaf_more : {B : Type 0} {w : Walk B} {x : B} {u : Lists} → Fits (view_of f.card f.volume) w t → Walked (view_of f.card f.volume) w t x u
-      → LeafOn f index came at end u
+      → LeafOn f index node at end u
   leaf_more fits walked = record {
     at_is = kept.at_is;
     end_is = kept.end_is;
+    inside = kept.inside;
     again = again_more (leaf_walk_on f index) walked (walked_rises walked fits.rising) kept.again;
   }
 
   -- and serves the next index, where an address is left
-  next_serves : at + 4 < end → LeafOn f (index + 1) came (at + 4) end t
+  next_serves : at + 4 < end → LeafOn f (index + 1) node (at + 4) end t
   next_serves left =
       let known = kept.at_is in
       let known_end = kept.end_is in
@@ -101,7 +102,9 @@ module _ {f : FileOn} {index : ℕ} {came : Outcome Fetched} {at end : ℕ} {t :
       record {
         at_is = at' ∙ ap address_at (sym next);
         end_is = end' ∙ ap (addresses_end A) (sym next);
-        again = subst (λ (w : Walk (Outcome Fetched)). run (view_of f.card f.volume) (listed t) w ≡ ran came (listed t)) (same next) kept.again;
+        inside = kept.inside;
+        again = subst (λ (w : Walk (Outcome Fetched)). run (view_of f.card f.volume) (listed t) w ≡ ran (came_of f.card node) (listed t)) (same next)
+            kept.again;
       }
     where
       A : ℕ
@@ -119,23 +122,17 @@ module _ {f : FileOn} {index : ℕ} {came : Outcome Fetched} {at end : ℕ} {t :
       same : place_of A (index + 1) ≡ next_slot place → to place ≡ to (place_of A (index + 1))
       same next = to_leaf place ∙ ap to (sym (next_leaf place)) ∙ sym (to_leaf (next_slot place)) ∙ ap to (sym next)
 
-pub leaf_next : {f : FileOn} {index : ℕ} {came : Outcome Fetched} {at end : ℕ} {B : Type 0} {w : Walk B} {x : B} {t u : Lists}
-    → LeafOn f index came at end t → Fits (view_of f.card f.volume) w t → Walked (view_of f.card f.volume) w t x u
-    → KeepsOn f (index + 1) came (at + 4) end u
+pub leaf_next : {f : FileOn} {index : ℕ} {node : Result (Option ℕ) ℕ} {at end : ℕ} {B : Type 0} {w : Walk B} {x : B} {t u : Lists}
+    → LeafOn f index node at end t → Fits (view_of f.card f.volume) w t → Walked (view_of f.card f.volume) w t x u
+    → KeepsOn f (index + 1) node (at + 4) end u
 leaf_next kept fits walked = record { serves = next_serves (leaf_more kept fits walked) }
 
--- the same of the code's leaf
-pub keeps_next : {file : File} {index : ℕ} {leaf : Leaf} {B : Type 0} {w : Walk B} {x : B} {t u : Lists}
-    → LeafOf file index leaf t → Fits (view_in file.card) w t → Walked (view_in file.card) w t x u
-    → Keeps file (index + 1) (record { node = leaf.node; at = leaf.at + 4; end = leaf.end }) u
-keeps_next kept fits walked =
-    record { serves = λ left. record { inside = kept.inside; led = (leaf_next kept.led fits walked).serves left } }
-
 -- where no address is left nothing is kept
-pub keeps_past : {file : File} {index : ℕ} {leaf : Leaf} {t : Lists} → leaf.end ≤ leaf.at → Keeps file index leaf t
+pub keeps_past : {f : FileOn} {index : ℕ} {node : Result (Option ℕ) ℕ} {at end : ℕ} {t : Lists} → end ≤ at → KeepsOn f index node at end t
 keeps_past past = record { serves = λ left. absurd (omega arith) }
 
-pub keeps_none : {file : File} {index : ℕ} {leaf : Leaf} {t : Lists} → leaf ≡ record { node = Ok None; at = 0; end = 0 } → Keeps file index leaf t
+pub keeps_none : {f : FileOn} {index : ℕ} {leaf : Leaf} {t : Lists} → leaf ≡ record { node = Ok None; at = 0; end = 0 }
+    → KeepsOn f index (numbered leaf.node) leaf.at leaf.end t
 keeps_none e =
     let at = ap (λ (l : Leaf). l.at) e in
     let end = ap (λ (l : Leaf). l.end) e in
@@ -161,17 +158,17 @@ module _ (file : File) (index : ℕ) {s : Lists} (fits : Fits (view_in file.card
   block_stopped walked e = reached_stop (at_leaf m (address_at (place_in file index))) begins walked e
 
   -- it came to the leaf, or what is kept says that it stops
-  module _ {leaf : Leaf} {t : Lists} (kept : LeafOf file index leaf t)
-      (walked : Walked (view_in file.card) (file_leaf_walk file index) s (data_of (card_in file.card) leaf.node) t) where
-    at_leaf_lem : Reached (view_in file.card) (file_block_walk file index) s (from leaf.at (data_of (card_in file.card) leaf.node)) t
+  module _ {node : Result (Option ℕ) ℕ} {at end : ℕ} {t : Lists} (kept : LeafOn (on_card file) index node at end t)
+      (walked : Walked (view_in file.card) (file_leaf_walk file index) s (came_of (card_in file.card) node) t) where
+    at_leaf_lem : Reached (view_in file.card) (file_block_walk file index) s (from at (came_of (card_in file.card) node)) t
     unfolding and_then
     at_leaf_lem =
         reached_to (reached_bind (from (address_at (place_in file index))) begins walked)
-        (ap (λ (at : ℕ). from at (data_of (card_in file.card) leaf.node)) (sym kept.led.at_is))
+        (ap (λ (i : ℕ). from i (came_of (card_in file.card) node)) (sym kept.at_is))
 
-    pub rest_fits : Fits (view_in file.card) (from leaf.at (data_of (card_in file.card) leaf.node)) t
+    pub rest_fits : Fits (view_in file.card) (from at (came_of (card_in file.card) node)) t
     rest_fits = fits_at fits at_leaf_lem
 
-    pub block_walked : {x : Outcome Fetched} {u : Lists} → Walked (view_in file.card) (from leaf.at (data_of (card_in file.card) leaf.node)) t x u
+    pub block_walked : {x : Outcome Fetched} {u : Lists} → Walked (view_in file.card) (from at (came_of (card_in file.card) node)) t x u
         → Walked (view_in file.card) (file_block_walk file index) s x u
     block_walked last = reached_all at_leaf_lem last

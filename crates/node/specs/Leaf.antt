@@ -1,6 +1,6 @@
 -- The way to a block in two parts: to its leaf, the node that holds its address, and from there. And a leaf that is kept from one block of
 -- a file to the next.
-use Rattle.std.specs.Prelude.{ℕ, ◌+◌, ◌*◌, ◌<◌, ◌≡◌, List, [], ◌∷◌, eqb, get_or, Result, Ok, Err}
+use Rattle.std.specs.Prelude.{ℕ, ◌+◌, ◌*◌, ◌<◌, ◌≡◌, List, [], ◌∷◌, eqb, get_or, Option, Result, Ok, Err}
 use Rattle.answer.specs.declared.Stop.{Stop}
 use Rattle.answer.specs.Number.{stop_number}
 use Rattle.field.specs.Number.{le32}
@@ -20,7 +20,7 @@ use Rattle.node.specs.declared.Leaf.{Leaf}
 use Rattle.node.specs.declared.file.File.{File}
 use Rattle.node.specs.Node.{Bounds, bounds_of, node_walk}
 use Rattle.node.specs.Block.{Fetched, hole, held, data_walk}
-use Rattle.node.specs.Found.{data_of, DataIn, after_inode, inode_of}
+use Rattle.node.specs.Found.{came_of, CameIn, numbered, data_of, after_inode, inode_of}
 
 -- from a block's bytes, and where in them a node's number stands, through the nodes of a way to the last one's bytes. "Inside a node,
 -- number 0 .. [is a hole]"
@@ -87,22 +87,22 @@ leaf_walk_on f index = leaf_walk (bounds_of f.volume) f.ino (f.card.block f.inod
 
 -- this is what the walk to the leaf of the index comes to, its block, none in a hole, or a stop; where in the leaf the address is and where
 -- they end; and the lists hold all that leads to it: walked to again, it comes to the same and lists nothing new
-pub record LeafOn (f : FileOn) (index : ℕ) (came : Outcome Fetched) (at end : ℕ) (t : Lists) : Type 0 where
+pub record LeafOn (f : FileOn) (index : ℕ) (node : Result (Option ℕ) ℕ) (at end : ℕ) (t : Lists) : Type 0 where
   pub at_is : at ≡ address_at (place_of f.addresses index)
   pub end_is : end ≡ addresses_end f.addresses (place_of f.addresses index)
-  pub again : run (view_of f.card f.volume) (listed t) (leaf_walk_on f index) ≡ ran came (listed t)
+  pub inside : CameIn f.card node
+  pub again : run (view_of f.card f.volume) (listed t) (leaf_walk_on f index) ≡ ran (came_of f.card node) (listed t)
 
 -- what is kept is so of the index, as long as an address is left in the leaf
-pub record KeepsOn (f : FileOn) (index : ℕ) (came : Outcome Fetched) (at end : ℕ) (t : Lists) : Type 0 where
-  pub serves : at < end → LeafOn f index came at end t
+pub record KeepsOn (f : FileOn) (index : ℕ) (node : Result (Option ℕ) ℕ) (at end : ℕ) (t : Lists) : Type 0 where
+  pub serves : at < end → LeafOn f index node at end t
 
 -- the same of the code's file and leaf
-pub record LeafOf (file : File) (index : ℕ) (leaf : Leaf) (t : Lists) : Type 0 where
-  pub inside : DataIn (card_in file.card) leaf.node
-  pub led : LeafOn (on_card file) index (data_of (card_in file.card) leaf.node) leaf.at leaf.end t
+abbrev pub LeafOf : File → ℕ → Leaf → Lists → Type 0
+LeafOf file index leaf t = LeafOn (on_card file) index (numbered leaf.node) leaf.at leaf.end t
 
-pub record Keeps (file : File) (index : ℕ) (leaf : Leaf) (t : Lists) : Type 0 where
-  pub serves : leaf.at < leaf.end → LeafOf file index leaf t
+abbrev pub Keeps : File → ℕ → Leaf → Lists → Type 0
+Keeps file index leaf t = KeepsOn (on_card file) index (numbered leaf.node) leaf.at leaf.end t
 
 -- what the code has of a leaf that it walked to
 abbrev pub leaf_found : Card → Result Leaf Stop → Outcome Fetched
@@ -113,4 +113,4 @@ leaf_found card (Err e) = stop (stop_number e)
 abbrev pub FoundLeaf : File → ℕ → Result Leaf Stop → Lists → Type 0
 FoundLeaf file index (Ok leaf) t = LeafOf file index leaf t
 FoundLeaf file index (Err e) t =
-    LeafOn (on_card file) index (stop (stop_number e)) (address_at (place_of file.addresses index)) (addresses_end file.addresses (place_of file.addresses index)) t
+    LeafOn (on_card file) index (Err (stop_number e)) (address_at (place_of file.addresses index)) (addresses_end file.addresses (place_of file.addresses index)) t

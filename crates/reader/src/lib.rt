@@ -7,6 +7,7 @@ ghost use Rattle.field.specs.Choice.{choose};
 ghost use Rattle.list.specs.Lists.{Rising, numbers};
 ghost use Rattle.compare.specs.Lists.{is_rising};
 ghost use Rattle.asking.specs.Table.{journal_in};
+ghost use Rattle.asking.specs.Pull.{start_in_shape};
 ghost use Rattle.ask_open.specs.Came.{first_after, second_after};
 ghost use Rattle.reader_state.specs.Resume.{memory};
 ghost use Rattle.reader_state.specs.Decision.{StartsAt};
@@ -126,13 +127,21 @@ fn blank(card_blocks: u32, index: u32) -> Reader
     }
 }
 
+// Whether a card has as many blocks as a pull takes, and the path is one. Inlined, its loop would stand between the making of a state and
+// its use, and the state be made and copied twice more.
+#[inline(never)]
+fn in_shape(card_blocks: u32, path: &[u8]) -> bool
+    ensures { result ≡ start_in_shape card_blocks path.now }
+{
+    (2 <= card_blocks) & (card_blocks <= 4194304) & (path::name_count(path) != 0)
+}
+
 // A reader of a card of so many blocks, for a path and an index.
 pub fn start(card_blocks: u32, path: &[u8], index: u32) -> Reader
     ensures { Started card_blocks path.now index result }
 {
     let mut t = blank(card_blocks, index);
-    let in_shape = (2 <= card_blocks) & (card_blocks <= 4194304) & (path::name_count(path) != 0);
-    if !in_shape {
+    if !in_shape(card_blocks, path) {
         t.at = reader_state::refuses_at(t.at, Refusal::OutOfShape);
         return t;
     }

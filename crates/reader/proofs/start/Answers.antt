@@ -1,28 +1,20 @@
 -- `start` meets its contract: out of shape it refuses, else it has kept the path and asks for block 0.
 use native.Mathlib.Omega.{arith}
 use mathlib.Core.Path.{◌≡◌, refl, sym, ◌∙◌}
-use mathlib.Core.Bool.{not, ◌&&◌}
 use mathlib.Core.Logic.{inl, inr}
 use lib.ListN.{length}
-use lib.Dec.{eqb, leb}
 use Rattle.reader_state.specs.Resume.{Memory, memory}
 use Rattle.reader_state.specs.Fits.{Sized, EndIn}
 use Rattle.field.proofs.Choosing.{clash}
-use Rattle.asking.specs.Pull.{start_in_shape, read_ask}
+use Rattle.asking.specs.Pull.{read_ask}
 use Rattle.reader_state.specs.Decision.{refuses_at}
 use Rattle.reader.specs.Reading.{memory_in, resume, with_numbers, Kept, Started}
-use Rattle.reader.proofs.Starting.{start_resumes, start_fits, starts_with, none_rise, refusal_left, refused_start, shape_tested, path_room}
+use Rattle.reader.proofs.Starting.{start_resumes, start_fits, starts_with, none_rise, refusal_left, refused_start, path_room}
 use Rattle.reader.proofs.start.Goals as goal
-use Rattle.reader.proofs.start.Goals.{After-name_count}
-
-tested : (k : After-name_count) → (leb 2 k.args.card_blocks && leb k.args.card_blocks 4194304 && not (eqb k.name_count.result 0))
-    ≡ start_in_shape k.args.card_blocks k.args.path.now
-tested k =
-    shape_tested k.args.card_blocks k.args.path.now k.name_count.ensures
 
 pub returns-then-not-in_shape : goal.returns-then-not-in_shape
 returns-then-not-in_shape c =
-    let shape = sym (tested (goal.at.returns-then-not-in_shape c).After-name_count) ∙ c.if-not-in_shape.true in
+    let shape = sym c.in_shape.ensures ∙ c.if-not-in_shape.true in
     let b = c.blank-t.result in
     let refusal = with_numbers b (refuses_at b.at 4) in
     let left : resume refusal ≡ read_ask c.args.card_blocks c.args.path.now c.args.index =
@@ -43,11 +35,11 @@ returns-then-not-in_shape c =
 
 pub keep_path-requires : goal.keep_path-requires
 keep_path-requires c =
-    path_room c.args.card_blocks c.args.path.now (sym (tested (goal.at.keep_path-requires c).After-name_count) ∙ c.if-not-in_shape.false)
+    path_room c.args.card_blocks c.args.path.now (sym c.in_shape.ensures ∙ c.if-not-in_shape.false)
 
 pub overflow_cast-t : goal.overflow_cast-t
 overflow_cast-t c =
-    let room = path_room c.args.card_blocks c.args.path.now (sym (tested (goal.at.overflow_cast-t c).After-name_count) ∙ c.if-not-in_shape.false) in
+    let room = path_room c.args.card_blocks c.args.path.now (sym c.in_shape.ensures ∙ c.if-not-in_shape.false) in
     omega (arith, room)
 
 pub returns : goal.returns
@@ -55,7 +47,7 @@ returns c =
     let path = c.args.path.now in
     let b = c.blank-t.result in
     let given = c.blank-t.ensures in
-    let shape = sym (tested (goal.at.returns c).After-name_count) ∙ c.if-not-in_shape.false in
+    let shape = sym c.in_shape.ensures ∙ c.if-not-in_shape.false in
     let starts = starts_with (length path) given.0 in
     let m : Memory = memory c.keep_path.new.into b.first b.held b.journal in
     let sized : Sized m =

@@ -18,7 +18,7 @@ data-requires-clause-fits c = rest_fits c.args.self _ c.requires.fits c.in_ok-fi
 pub data-requires-clause-node_in : goal.data-requires-clause-node_in
 data-requires-clause-node_in c =
     let found = c.in_ok-find_leaf.ensures.leaf_of in
-    (found.inside, leaf_offset found.led c.args.self.file_in.1)
+    (found.inside, leaf_offset found c.args.self.file_in.1)
 
 pub returns-clause-walked : goal.returns-clause-walked
 returns-clause-walked c =

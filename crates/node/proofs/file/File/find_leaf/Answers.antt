@@ -52,10 +52,7 @@ returns-then-way-eq0-clause-leaf_of c =
     let A = c.args.self.addresses in
     let way = found (goal.at.returns-then-way-eq0-clause-leaf_of c).After-way_to-way in
     let past = none_past A (place_of A c.args.index) (sym (ap (λ (w : Way). w.count) way) ∙ c.if-way-eq0.true) in
-    rw c.no_leaf.ensures (record {
-      inside = tt;
-      led = leaf_new c.requires.fits past.0 past.1 (none_walked (goal.at.returns-then-way-eq0-clause-leaf_of c).Then-way-eq0);
-    })
+    rw c.no_leaf.ensures (leaf_new c.requires.fits past.0 past.1 tt (none_walked (goal.at.returns-then-way-eq0-clause-leaf_of c).Then-way-eq0))
 
 pub follow-requires-clause-fits : goal.follow-requires-clause-fits
 follow-requires-clause-fits c = fits_at c.requires.fits (to_nodes (goal.at.follow-requires-clause-fits c).Else-way-eq0)
@@ -86,7 +83,7 @@ pub returns-in_err-node-clause-leaf_of : goal.returns-in_err-node-clause-leaf_of
 returns-in_err-node-clause-leaf_of c =
     let p = err_from_is_err_and c.from_residual.result c.from_residual.ensures.1 in
     let walked = reached_all (to_nodes (goal.at.returns-in_err-node-clause-leaf_of c).Else-way-eq0) c.in_err-node.ensures.walked in
-    rw (p.1, p.2) (leaf_new c.requires.fits refl refl walked)
+    rw (p.1, p.2) (leaf_new c.requires.fits refl refl tt walked)
 
 pub returns-clause-walked : goal.returns-clause-walked
 returns-clause-walked c = reached_all (to_nodes (goal.at.returns-clause-walked c).Else-way-eq0) c.in_ok-node.ensures.walked
@@ -97,4 +94,4 @@ returns-clause-leaf_of c =
     let at_is = c.address_span-at.ensures.0 ∙ ap address_at place in
     let end_is = c.address_span-at.ensures.1 ∙ ap (addresses_end c.args.self.addresses) place in
     let walked = reached_all (to_nodes (goal.at.returns-clause-leaf_of c).Else-way-eq0) c.in_ok-node.ensures.walked in
-    record { inside = c.in_ok-node.ensures.data_in; led = leaf_new c.requires.fits at_is end_is walked }
+    leaf_new c.requires.fits at_is end_is c.in_ok-node.ensures.data_in walked

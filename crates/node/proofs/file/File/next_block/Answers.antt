@@ -1,7 +1,7 @@
 -- `next_block` meets its contract: the leaf of the index, the block whose address stands in it, and the leaf with the next address.
 use Rattle.std.proofs.Common.{arith, refl}
 use Rattle.std.proofs.lemmas.Result.{err_from_is_err_and}
-use Rattle.node.proofs.Keeping.{leaf_offset, keeps_next, leaf_fits, rest_fits, block_stopped, block_walked}
+use Rattle.node.proofs.Keeping.{leaf_offset, leaf_next, leaf_fits, rest_fits, block_stopped, block_walked}
 use Rattle.node.proofs.file.File.next_block.Goals as goal
 
 pub leaf_of-requires-clause-fits : goal.leaf_of-requires-clause-fits
@@ -14,7 +14,7 @@ returns-in_err-leaf-clause-walked c =
 
 pub overflow_add-kept : goal.overflow_add-kept
 overflow_add-kept c =
-    let within = leaf_offset c.in_ok-leaf.ensures.leaf_of.led c.args.self.file_in.1 in
+    let within = leaf_offset c.in_ok-leaf.ensures.leaf_of c.args.self.file_in.1 in
     omega arith
 
 pub data-requires : goal.data-requires
@@ -22,7 +22,7 @@ data-requires c =
     let leaf = c.in_ok-leaf.ensures.leaf_of in
     record {
       fits = rest_fits c.args.self _ c.requires.fits leaf c.in_ok-leaf.ensures.walked;
-      node_in = (leaf.inside, leaf_offset leaf.led c.args.self.file_in.1);
+      node_in = (leaf.inside, leaf_offset leaf c.args.self.file_in.1);
     }
 
 pub returns-clause-walked : goal.returns-clause-walked
@@ -32,4 +32,4 @@ returns-clause-walked c =
 pub returns-clause-keeps : goal.returns-clause-keeps
 returns-clause-keeps c =
     let leaf = c.in_ok-leaf.ensures.leaf_of in
-    keeps_next leaf (rest_fits c.args.self _ c.requires.fits leaf c.in_ok-leaf.ensures.walked) c.data.ensures.walked
+    leaf_next leaf (rest_fits c.args.self _ c.requires.fits leaf c.in_ok-leaf.ensures.walked) c.data.ensures.walked
