@@ -14,7 +14,7 @@ use Rattle.pull.specs.Walk.{Block, inode_file_walk}
 use Rattle.pull.specs.Pull.{content_bytes}
 use Rattle.file_run.specs.declared.BlockBuffer.{BlockBuffer}
 use Rattle.file_run.specs.Standing.{last_count, bytes_standing, FilledAs}
-use Rattle.file_run.specs.Walks.{file_blocks_walk, put_at, RoomFor, NoneStand}
+use Rattle.file_run.specs.Walks.{file_blocks_walk, put_at, NoneStand}
 use Rattle.file_run.proofs.Filling.{Filling, filling_start, filling_fits, filling_stop, filling_next, filling_end}
 
 -- ---- one more block

@@ -2,8 +2,6 @@
 use Prim.Native.Nat.{ℕ}
 use mathlib.Core.Path.{sym, subst}
 use Rattle.checkpoint.specs.declared.open_image.OpenImage.{OpenImage}
-use Rattle.walk.specs.Walk.{Outcome, Lists, Walked, Fits}
-use Rattle.walk.specs.Lent.{view_in}
 use Rattle.pull.specs.declared.file.OpenFile.{OpenFile}
 use Rattle.pull.specs.Walk.{FileOpened}
 use Rattle.std.specs.Prelude.{Ok}

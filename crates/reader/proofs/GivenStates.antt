@@ -12,7 +12,7 @@ use Rattle.compare.proofs.Shapes.{rising_test}
 use Rattle.walk.specs.Walk.{Seen, Walk, Outcome}
 use Rattle.pull.specs.Walk.{Block}
 use Rattle.pull.specs.Pull.{nodes_most, blocks_most}
-use Rattle.asking.specs.Asking.{answer, ask, Few, asks}
+use Rattle.asking.specs.Asking.{answer, ask, Few}
 use Rattle.asking.specs.Table.{asking}
 use Rattle.asking.specs.Pull.{came, fed_with, EndingIn}
 use Rattle.asking.proofs.Sizes.{few_le}

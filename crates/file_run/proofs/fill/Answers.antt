@@ -2,7 +2,6 @@ use mathlib.Core.Path.{refl}
 use Rattle.std.proofs.lemmas.Result.{err_from_is_err_and}
 use Rattle.node.proofs.Keeping.{keeps_none}
 use Rattle.file_run.proofs.Turns.{turn_start, turn_fits, turn_stop, turn_next, turn_end}
-use Rattle.walk.specs.Lent.{lent, SameLent}
 use borrow.Author.Rules.{rules}
 use Rattle.file_run.proofs.fill.Goals as goal
 

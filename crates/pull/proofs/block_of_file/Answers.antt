@@ -10,7 +10,6 @@ use Rattle.walk.proofs.Reached.{reached_start, reached_to, reached_done}
 use Rattle.walk.proofs.Fits.{fits_first}
 use Rattle.walk.proofs.Both.{both_stop, second_fits, both_walked}
 use Rattle.node.specs.Node.{bounds_of}
-use Rattle.node.proofs.Keeping.{keeps_none}
 use Rattle.pull.specs.Walk.{at_file, file_walk, block_found}
 use Rattle.pull.proofs.Cases.{file_other}
 use Rattle.pull.proofs.Opened.{as_opened, of_opened}

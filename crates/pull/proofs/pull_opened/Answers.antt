@@ -3,7 +3,6 @@ use Prim.Native.Nat.{ℕ}
 use native.Mathlib.Omega.{arith}
 use borrow.Author.Rules.{rules}
 use mathlib.Core.Path.{◌≡◌, refl, sym, ap, subst, ◌∙◌}
-use mathlib.Core.List.{List}
 use Rattle.std.specs.Prelude.{Result, Ok, Err, IfOk}
 use Rattle.answer.specs.declared.Stop.{Stop}
 use Rattle.answer.specs.Number.{stop_number}
